@@ -1,0 +1,13 @@
+pub mod Package
+pub mod Place
+pub mod Market
+pub mod Greatest
+pub mod Lawful
+pub mod Menu
+pub mod Book
+pub mod Lowered
+pub mod Table
+pub mod Steps
+pub mod Prices
+pub mod Blocks
+pub mod PricingRun
