@@ -1,0 +1,66 @@
+-- The lines of a book, and beside a line the limit that it exceeds.
+use Rattle.std.specs.Prelude.{◌≡◌, ℕ, ◌+◌, Option, Some, None, List, [], ◌∷◌, ◌++◌, codes, length, sum, nat_le, nat_lt, if◌then◌else◌}
+use Rattle.std.specs.Fmt.{decimal}
+use Rattle.line_text.specs.LineText.{first_excess}
+use Rattle.auction_model.specs.Place.{states_of}
+use Rattle.auction_model.specs.Book.{BookBid, Bidder, Book}
+use Rattle.auction_text.specs.BookForm.{IsBook}
+use Rattle.auction_text.specs.declared.LimitKind.{LimitKind}
+use Rattle.auction_text.specs.declared.LimitKind.TheVariants.{Categories, Lots, States, Bidders, Bids}
+
+-- a quantity above its limit, with its count
+abbrev pub Excess : Type 0
+Excess = LimitKind × ℕ
+
+abbrev pub Line : Type 0
+Line = List ℕ × Option Excess
+
+-- numbers, each behind one space
+abbrev pub numbers_text : List ℕ → List ℕ
+numbers_text [] = []
+numbers_text (n ∷ ns) = 32 ∷ decimal n ++ numbers_text ns
+
+abbrev pub supply_excess : List ℕ → Option Excess
+supply_excess supply =
+    if nat_lt 6 (length supply) then Some (Categories, length supply) else
+    if nat_lt 40 (sum supply) then Some (Lots, sum supply) else
+    if nat_lt 4096 (states_of supply) then Some (States, states_of supply) else None
+
+abbrev pub bidder_excess : ℕ → Option Excess
+bidder_excess count = if nat_le count 12 then None else Some (Bidders, 13)
+
+abbrev pub bid_excess : ℕ → Option Excess
+bid_excess count = if nat_le count 600 then None else Some (Bids, 601)
+
+abbrev pub supply_line : List ℕ → Line
+supply_line supply = (codes "supply" ++ numbers_text supply, supply_excess supply)
+
+abbrev pub reserve_line : List ℕ → Line
+reserve_line reserves = (codes "reserve" ++ numbers_text reserves, None)
+
+-- the bid behind so many others of its bidder
+abbrev pub bid_line : ℕ → BookBid → Line
+bid_line before b = (codes "bid" ++ numbers_text (b.lots ++ b.amount ∷ []), bid_excess (before + 1))
+
+abbrev pub bid_lines : ℕ → List BookBid → List Line
+bid_lines before [] = []
+bid_lines before (b ∷ bs) = bid_line before b ∷ bid_lines (before + 1) bs
+
+-- the bidder behind so many others
+abbrev pub bidder_line : ℕ → List ℕ → Line
+bidder_line before name = (codes "bidder " ++ name, bidder_excess (before + 1))
+
+abbrev pub bidder_lines : ℕ → List Bidder → List Line
+bidder_lines before [] = []
+bidder_lines before (b ∷ bs) = (bidder_line before b.name ∷ bid_lines 0 b.bids) ++ bidder_lines (before + 1) bs
+
+abbrev pub head_lines : Book → List Line
+head_lines book = (codes "book 1", None) ∷ supply_line book.supply ∷ reserve_line book.reserves ∷ []
+
+abbrev pub lines : Book → List Line
+lines book = head_lines book ++ bidder_lines 0 book.bidders ++ (codes "end", None) ∷ []
+
+-- a book that has a text, in which nothing exceeds a limit
+pub record IsBookWithinLimits (book : Book) : Type 0 where
+  pub form : IsBook book
+  pub limits : first_excess (lines book) ≡ None

@@ -1,0 +1,3 @@
+pub mod BookForm
+pub mod BookLines
+pub mod WinText

@@ -1,0 +1,113 @@
+// Books, and the calls that read them.
+ghost use Rattle.std.specs.Prelude.{◌≡◌, ℕ, ◌≤◌, ◌<◌, length};
+ghost use Rattle.auction_model.specs.Book.{bidder_of, bids_of, bid_of, lots_of, net_of};
+ghost use Rattle.bid_book.specs.Kept.{IsBidBook};
+
+use crate::Name;
+use lots::{Bid, Supply};
+use std::marker::Model;
+
+/// A bid with its net amount.
+#[derive(Drop)]
+pub struct Entry {
+    bid: Bid,
+    net: i128,
+}
+
+/// A bidder with its bids, in the order of their packages.
+#[derive(Drop)]
+pub struct BookBidder {
+    name: Name,
+    bids: Vec<Entry>,
+}
+
+/// A book: what is sold, the reserves, and the bids of each bidder in the order of their packages. It keeps the rules of
+/// its text and all limits. Bidders and bids are numbered from 1.
+#[derive(Drop)]
+pub struct BidBook {
+    supply: Supply,
+    reserves: Vec<u64>,
+    bidders: Vec<BookBidder>,
+}
+
+impl Model for BidBook {
+    ghost use Rattle.auction_model.specs.Book.{Book};
+
+    ghost Value = { Book };
+
+    ghost use Rattle.bid_book.specs.Kept.{IsBidBook};
+    ghost use Rattle.bid_book.specs.Fields.{book_value, NetsAreKept};
+
+    ghost view = { book_value };
+
+    ghost invariant = { λ b. IsBidBook (book_value b) × NetsAreKept b };
+}
+
+impl BidBook {
+    /// What is sold.
+    pub fn supply(&self) -> &Supply
+        ensures supply { result.now ≡ self.now.supply }
+        ensures kept { IsBidBook self.now }
+    {
+        &self.supply
+    }
+
+    /// The reserve of each category, for one lot.
+    pub fn reserves(&self) -> &[u64]
+        ensures { result.now ≡ self.now.reserves }
+    {
+        &self.reserves
+    }
+
+    /// How many bidders there are.
+    pub fn bidders(&self) -> usize
+        ensures bidders { result ≡ length self.now.bidders }
+        ensures most { result ≤ 12 }
+        ensures kept { IsBidBook self.now }
+    {
+        self.bidders.len()
+    }
+
+    /// The name of bidder `j`.
+    pub fn name(&self, j: u16) -> &str
+        requires { (0 < j) × (j ≤ length self.now.bidders) }
+        ensures { result.now ≡ (bidder_of self.now j).name }
+    {
+        let bidder = &self.bidders[j as usize - 1];
+        bidder.name.text()
+    }
+
+    /// How many bids bidder `j` has.
+    pub fn bids(&self, j: u16) -> u16
+        requires { (0 < j) × (j ≤ length self.now.bidders) }
+        ensures bids { result ≡ length (bids_of self.now j) }
+        ensures most { result ≤ 600 }
+    {
+        let bidder = &self.bidders[j as usize - 1];
+        bidder.bids.len() as u16
+    }
+
+    /// Bid `i` of bidder `j`.
+    pub fn bid(&self, j: u16, i: u16) -> &Bid
+        requires bidder { (0 < j) × (j ≤ length self.now.bidders) }
+        requires bid { (0 < i) × (i ≤ length (bids_of self.now j)) }
+        ensures lots { result.now.package ≡ lots_of self.now j i }
+        ensures amount { result.now.amount ≡ (bid_of self.now j i).amount }
+        ensures categories { length result.now.package ≡ length self.now.supply }
+    {
+        let bidder = &self.bidders[j as usize - 1];
+        let entry = &bidder.bids[i as usize - 1];
+        &entry.bid
+    }
+
+    /// The net amount of bid `i` of bidder `j`: its amount less the reserve of its package. It is at least 0.
+    pub fn net(&self, j: u16, i: u16) -> i128
+        requires bidder { (0 < j) × (j ≤ length self.now.bidders) }
+        requires bid { (0 < i) × (i ≤ length (bids_of self.now j)) }
+        ensures { result ≡ net_of self.now j i }
+    {
+        let bidder = &self.bidders[j as usize - 1];
+        let entry = &bidder.bids[i as usize - 1];
+        entry.net
+    }
+}

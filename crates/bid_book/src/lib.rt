@@ -1,0 +1,20 @@
+//! Books of bids and their text.
+#![tactic(auto)]
+
+mod book;
+mod name;
+
+pub use auction_text::LimitKind;
+pub use book::BidBook;
+pub use name::Name;
+
+/// Why bytes are no book.
+#[derive(Clone, Copy, Debug, PartialEq, Eq)]
+pub enum BookStop {
+    /// The byte where the first faulty line begins, counted from 0.
+    Form(u64),
+    /// A quantity that exceeds its limit, at the first line where one does, with its count.
+    Limit(LimitKind, u64),
+    /// There was no memory.
+    Memory,
+}

@@ -1,0 +1,225 @@
+-- A reader that goes from stage to stage, line by line, against the form that it reads.
+use Rattle.std.proofs.Common.{⊎_elim, ◌≡◌, ℕ, ◌+◌, ◌≤◌, ◌<◌, Option, Some, None, List, [], ◌∷◌, ◌++◌, length, take, drop, refl, sym, ap, subst, ◌∙◌, arith, append_assoc, length-append, length-take, take-append-drop, drop-drop}
+use Rattle.std.proofs.lemmas.List.{append-nil, take_all}
+use Rattle.std.specs.Option.{option_or}
+use Rattle.line_text.specs.LineText.{IsLine, text_of, first_excess, IsTextOf, FaultAt, Exceeds}
+use Rattle.line_text.proofs.Lines.{AreLines, SameLines, text_of-append, first_excess-append, compare_lines, GoesOn, StopsWithin, text_of_same, one_line, no_feed}
+
+module _ {S O : Type 0} (Step : S → List ℕ → S → Type 0) (excess : S → Option O) where
+  -- the reader goes from one stage to the other over these lines, and each exceeds what stands beside it
+  abbrev pub Runs : S → List (List ℕ × Option O) → S → Type 0
+  Runs s [] t = s ≡ t
+  Runs s (m ∷ ms) t = (u : S) × IsLine m.0 × Step s m.0 u × (m.1 ≡ excess u) × Runs u ms t
+
+  pub runs_append : (s t u : S) (xs ys : List (List ℕ × Option O)) → Runs s xs t → Runs t ys u → Runs s (xs ++ ys) u
+  runs_append s t u [] ys first next = subst (λ (r : S). Runs r ys u) (sym first) next
+  runs_append s t u (x ∷ xs) ys first next = (first.0, first.1, first.2, first.3, runs_append first.0 t u xs ys first.4 next)
+
+  pub runs_split : (s t : S) (xs ys : List (List ℕ × Option O)) → Runs s (xs ++ ys) t → (u : S) × Runs s xs u × Runs u ys t
+  runs_split s t [] ys run = (s, refl, run)
+  runs_split s t (x ∷ xs) ys run = let rest = runs_split run.0 t xs ys run.4 in (rest.0, (run.0, run.1, run.2, run.3, rest.1), rest.2)
+
+  pub runs_lines : (s t : S) (ms : List (List ℕ × Option O)) → Runs s ms t → AreLines ms
+  runs_lines s t [] run = tt
+  runs_lines s t (m ∷ ms) run = (run.1, runs_lines run.0 t ms run.4)
+
+  -- the lines determine what stands beside them, and the stage
+  pub one_run : (Sound : S → Type 0) (keeps : (s t : S) (l : List ℕ) → Sound s → Step s l t → Sound t) (one_step : (s t u : S) (l : List ℕ) → Sound s → Step s l t → Step s l u → t ≡ u) (s t u : S) → Sound s → (ls ms : List (List ℕ × Option O)) → SameLines ls ms → Runs s ls t → Runs s ms u → (ls ≡ ms) × (t ≡ u)
+  one_run Sound keeps one_step s t u sound [] [] same a b = (refl, sym a ∙ b)
+  one_run Sound keeps one_step s t u sound [] (m ∷ ms) same a b = absurd same
+  one_run Sound keeps one_step s t u sound (l ∷ ls) [] same a b = absurd same
+  one_run Sound keeps one_step s t u sound (l ∷ ls) (m ∷ ms) same a b =
+      let stages : a.0 ≡ b.0 = one_step s a.0 b.0 m.0 sound (subst (λ (x : List ℕ). Step s x a.0) same.0 a.2) b.2 in
+      let rest = one_run Sound keeps one_step a.0 t u (keeps s a.0 l.0 sound a.2) ls ms same.1 a.4 (subst (λ (r : S). Runs r ms u) (sym stages) b.4) in
+      let beside : l.1 ≡ m.1 = a.3 ∙ ap excess stages ∙ sym b.3 in
+      ((λ i. (same.0 i, beside i) ∷ rest.0 i), rest.1)
+
+-- The reader reads this form: over the lines of a value it comes to the value's end, and where it has come from the
+-- beginning, the lines are the front of some text. From an end it goes no further.
+pub record Reads {S V O : Type 0} (Sound : S → Type 0) (Step : S → List ℕ → S → Type 0) (excess : S → Option O) (begin : S) (finish : V → S) (IsValid : V → Type 0) (lines : V → List (List ℕ × Option O)) : Type 0 where
+  pub complete : (v : V) → IsValid v → Runs Step excess begin (lines v) (finish v)
+  pub sound : (ms : List (List ℕ × Option O)) (s : S) → Runs Step excess begin ms s → (v : V) × (k : ℕ) × IsValid v × (take k (lines v) ≡ ms)
+  pub begins : Sound begin
+  pub keeps : (s t : S) (l : List ℕ) → Sound s → Step s l t → Sound t
+  pub one_step : (s t u : S) (l : List ℕ) → Sound s → Step s l t → Step s l u → t ≡ u
+  pub closed : (v : V) (l : List ℕ) (t : S) → Step (finish v) l t → ⊥
+  pub one_value : (v w : V) → finish v ≡ finish w → v ≡ w
+
+module _ {S V O : Type 0} (Sound : S → Type 0) (Step : S → List ℕ → S → Type 0) (excess : S → Option O) (begin : S) (finish : V → S) (IsValid : V → Type 0) (lines : V → List (List ℕ × Option O)) (reads : Reads Sound Step excess begin finish IsValid lines) where
+  -- over the front of a text the reader comes to some stage
+  pub front_runs : (v : V) (k : ℕ) → IsValid v → (u : S) × Runs Step excess begin (take k (lines v)) u × Runs Step excess u (drop k (lines v)) (finish v)
+  front_runs v k valid =
+      runs_split Step excess begin (finish v) (take k (lines v)) (drop k (lines v))
+      (subst (λ (ms : List (List ℕ × Option O)). Runs Step excess begin ms (finish v)) (sym (take-append-drop k (lines v))) (reads.complete v valid))
+
+  -- from an end there are no more lines
+  pub no_more : (v : V) (s : S) (ms : List (List ℕ × Option O)) → Runs Step excess (finish v) ms s → (ms ≡ []) × (s ≡ finish v)
+  no_more v s [] run = (refl, sym run)
+  no_more v s (m ∷ ms) run = absurd (reads.closed v m.0 run.0 run.2)
+
+  -- at an end, the lines are those of its value
+  pub ended : (v : V) (ms : List (List ℕ × Option O)) → Runs Step excess begin ms (finish v) → IsValid v × (lines v ≡ ms)
+  ended v ms run =
+      let found = reads.sound ms (finish v) run in
+      let w = found.0 in
+      let parts = front_runs w found.1 found.2 in
+      let same : parts.0 ≡ finish v = (one_run Step excess Sound reads.keeps reads.one_step begin parts.0 (finish v) reads.begins (take found.1 (lines w)) ms (same_lines _ _ found.3) parts.1 run).1 in
+      let rest = no_more v (finish w) (drop found.1 (lines w)) (subst (λ (u : S). Runs Step excess u (drop found.1 (lines w)) (finish w)) same parts.2) in
+      let value : w ≡ v = reads.one_value w v rest.1 in
+      let whole : lines w ≡ ms = sym (take-append-drop found.1 (lines w)) ∙ ap (λ (r : List (List ℕ × Option O)). take found.1 (lines w) ++ r) rest.0 ∙ append-nil (take found.1 (lines w)) ∙ found.3 in
+      (subst IsValid value found.2, ap lines (sym value) ∙ whole)
+    where
+      same_lines : (xs ys : List (List ℕ × Option O)) → xs ≡ ys → SameLines xs ys
+      same_lines xs ys is = subst (λ (r : List (List ℕ × Option O)). SameLines xs r) is (self xs)
+        where
+          self : (r : List (List ℕ × Option O)) → SameLines r r
+          self [] = tt
+          self (x ∷ r) = (refl, self r)
+
+  -- the reader stands at a stage, behind these lines, and before these bytes
+  module _ (bytes bad : List ℕ) (ms : List (List ℕ × Option O)) (s : S) (run : Runs Step excess begin ms s) (split : bytes ≡ text_of ms ++ bad) where
+    -- a line with which it can't go on: no front of a text has it
+    not_on : (blocked : (l more : List ℕ) → IsLine l → bad ≡ l ++ 10 ∷ more → (t : S) → Step s l t → ⊥) (w : V) (k : ℕ) → IsValid w → GoesOn ms (take k (lines w)) bad → ⊥
+    not_on blocked w k valid on =
+        let parts = front_runs w k valid in
+        let cut = runs_split Step excess begin parts.0 on.start (on.next ∷ on.after) (subst (λ (r : List (List ℕ × Option O)). Runs Step excess begin r parts.0) on.whole parts.1) in
+        let stages : s ≡ cut.0 = (one_run Step excess Sound reads.keeps reads.one_step begin s cut.0 reads.begins ms on.start on.same run cut.1).1 in
+        let goes = cut.2 in
+        blocked on.next.0 on.more goes.1 on.rest_is goes.0 (subst (λ (r : S). Step r on.next.0 goes.0) (sym stages) goes.2)
+
+    pub fault_at : (place : ℕ) → first_excess ms ≡ None → length (text_of ms) ≡ place
+        → (blocked : (l more : List ℕ) → IsLine l → bad ≡ l ++ 10 ∷ more → (t : S) → Step s l t → ⊥) → (open_end : (v : V) → s ≡ finish v → 0 < length bad)
+        → FaultAt IsValid lines bytes place
+    fault_at place none here blocked open_end =
+        let found = reads.sound ms s run in
+        record {
+          front = record { value = found.0; count = found.1; valid = found.2; begins = (bad, split ∙ ap (λ (r : List (List ℕ × Option O)). text_of r ++ bad) (sym found.3)) };
+          within = ap first_excess found.3 ∙ none;
+          here = ap (λ (r : List (List ℕ × Option O)). length (text_of r)) found.3 ∙ here;
+          longest = λ other. longest other.value other.count other.valid other.begins.0 other.begins.1;
+          no_text = λ v valid is. no_text v valid is;
+        }
+      where
+        goal_of : List (List ℕ × Option O) → Type 0
+        goal_of r = length (text_of r) ≤ place
+
+        lines_here : AreLines ms
+        lines_here = runs_lines Step excess begin s ms run
+
+        longest : (w : V) (k : ℕ) → IsValid w → (more : List ℕ) → bytes ≡ text_of (take k (lines w)) ++ more → length (text_of (take k (lines w))) ≤ place
+        longest w k valid more begins =
+            let parts = front_runs w k valid in
+            ⊎_elim
+            (λ (st : StopsWithin ms (take k (lines w))).
+            let long : length (text_of ms) ≡ length (text_of st.start) + length (text_of st.after) = ap (λ (r : List (List ℕ × Option O)). length (text_of r)) st.whole ∙ ap length (text_of-append st.start st.after) ∙ length-append (text_of st.start) (text_of st.after) in
+            let same : length (text_of (take k (lines w))) ≡ length (text_of st.start) = ap length (text_of_same _ _ st.same) in
+            omega (arith, long, same, here))
+            (λ (on : GoesOn ms (take k (lines w)) bad). absurd (not_on blocked w k valid on))
+            (compare_lines ms (take k (lines w)) bad more lines_here (runs_lines Step excess begin parts.0 _ parts.1) (sym split ∙ begins))
+
+        no_text : (v : V) → IsValid v → bytes ≡ text_of (lines v) → ⊥
+        no_text v valid is =
+            let run_v = reads.complete v valid in
+            ⊎_elim
+            (λ (st : StopsWithin ms (lines v)).
+            let cut = runs_split Step excess begin s st.start st.after (subst (λ (r : List (List ℕ × Option O)). Runs Step excess begin r s) st.whole run) in
+            let one = one_run Step excess Sound reads.keeps reads.one_step begin (finish v) cut.0 reads.begins (lines v) st.start st.same run_v cut.1 in
+            let rest = no_more v s st.after (subst (λ (u : S). Runs Step excess u st.after s) (sym one.1) cut.2) in
+            let whole : ms ≡ lines v = st.whole ∙ ap (λ (r : List (List ℕ × Option O)). st.start ++ r) rest.0 ∙ append-nil st.start ∙ sym one.0 in
+            let long : length (text_of ms) + length bad ≡ length (text_of (lines v)) = sym (length-append (text_of ms) bad) ∙ ap length (sym split ∙ is) in
+            let same : length (text_of ms) ≡ length (text_of (lines v)) = ap (λ (r : List (List ℕ × Option O)). length (text_of r)) whole in
+            absurd (omega (arith, long, same, open_end v rest.1)))
+            (λ (on : GoesOn ms (lines v) bad). absurd (not_on blocked v (length (lines v)) valid (subst (λ (r : List (List ℕ × Option O)). GoesOn ms r bad) (sym (take_all (length (lines v)) (lines v) (omega arith))) on)))
+            (compare_lines ms (lines v) bad [] lines_here (runs_lines Step excess begin (finish v) (lines v) run_v) (sym split ∙ is ∙ sym (append-nil (text_of (lines v)))))
+
+    pub exceeds : (o : O) → first_excess ms ≡ Some o → Exceeds IsValid lines bytes o
+    exceeds o first =
+        let found = reads.sound ms s run in
+        record {
+          front = record { value = found.0; count = found.1; valid = found.2; begins = (bad, split ∙ ap (λ (r : List (List ℕ × Option O)). text_of r ++ bad) (sym found.3)) };
+          first = ap first_excess found.3 ∙ first;
+        }
+
+    pub is_text : (v : V) → s ≡ finish v → bad ≡ [] → first_excess ms ≡ None → IsTextOf IsValid lines bytes v
+    is_text v end none within =
+        let found = ended v ms (subst (λ (u : S). Runs Step excess begin ms u) end run) in
+        record {
+          valid = found.0;
+          spelled = split ∙ ap (λ (l : List ℕ). text_of ms ++ l) none ∙ append-nil (text_of ms) ∙ ap text_of (sym found.1);
+          within = ap first_excess found.1 ∙ within;
+        }
+
+-- The reader stands at a stage, before this place of the bytes: what it has behind it.
+pub record SoFar {S O : Type 0} (Step : S → List ℕ → S → Type 0) (excess : S → Option O) (begin : S) (bytes : List ℕ) (place : ℕ) (s : S) : Type 0 where
+  pub behind : List (List ℕ × Option O)
+  pub run : Runs Step excess begin behind s
+  pub within : first_excess behind ≡ None
+  pub split : bytes ≡ text_of behind ++ drop place bytes
+  pub here : length (text_of behind) ≡ place
+
+module _ {S V O : Type 0} (Sound : S → Type 0) (Step : S → List ℕ → S → Type 0) (excess : S → Option O) (begin : S) (finish : V → S) (IsValid : V → Type 0) (lines : V → List (List ℕ × Option O)) (reads : Reads Sound Step excess begin finish IsValid lines) where
+  pub nothing_yet : (bytes : List ℕ) → SoFar Step excess begin bytes 0 begin
+  nothing_yet bytes = record { behind = []; run = refl; within = refl; split = refl; here = refl }
+
+  module _ (bytes : List ℕ) (place : ℕ) (s : S) (so_far : SoFar Step excess begin bytes place s) where
+    -- the next line, and where it leads
+    module _ (n : ℕ) (is_line : IsLine (take n (drop place bytes))) (feed : drop n (drop place bytes) ≡ 10 ∷ drop (n + 1) (drop place bytes)) where
+      rest_is : drop place bytes ≡ take n (drop place bytes) ++ 10 ∷ drop (n + 1) (drop place bytes)
+      rest_is = sym (take-append-drop n (drop place bytes)) ∙ ap (λ (r : List ℕ). take n (drop place bytes) ++ r) feed
+
+      split_more : (mark : Option O) → bytes ≡ text_of (so_far.behind ++ (take n (drop place bytes), mark) ∷ []) ++ drop (n + 1) (drop place bytes)
+      split_more mark =
+          so_far.split ∙ ap (λ (r : List ℕ). text_of so_far.behind ++ r) (rest_is ∙ sym (append_assoc (take n (drop place bytes)) (10 ∷ []) (drop (n + 1) (drop place bytes))))
+          ∙ sym (append_assoc (text_of so_far.behind) (take n (drop place bytes) ++ 10 ∷ []) (drop (n + 1) (drop place bytes)))
+          ∙ ap (λ (r : List ℕ). r ++ drop (n + 1) (drop place bytes)) (sym (text_of-append so_far.behind ((take n (drop place bytes), mark) ∷ [])))
+
+      run_more : (t : S) → Step s (take n (drop place bytes)) t → Runs Step excess begin (so_far.behind ++ (take n (drop place bytes), excess t) ∷ []) t
+      run_more t step = runs_append Step excess begin s t so_far.behind ((take n (drop place bytes), excess t) ∷ []) so_far.run (t, is_line, step, refl, refl)
+
+      marks_more : (mark : Option O) → first_excess (so_far.behind ++ (take n (drop place bytes), mark) ∷ []) ≡ mark
+      marks_more mark = first_excess-append so_far.behind ((take n (drop place bytes), mark) ∷ []) ∙ ap (λ (o : Option O). option_or o (first_excess ((take n (drop place bytes), mark) ∷ []))) so_far.within ∙ alone mark
+        where
+          alone : (o : Option O) → first_excess ((take n (drop place bytes), o) ∷ []) ≡ o
+          alone None = refl
+          alone (Some x) = refl
+
+      pub line_taken : (t : S) → Step s (take n (drop place bytes)) t → excess t ≡ None → n < length (drop place bytes) → SoFar Step excess begin bytes (place + (n + 1)) t
+      line_taken t step none lt =
+          let behind = so_far.behind ++ (take n (drop place bytes), excess t) ∷ [] in
+          let long : length (text_of (so_far.behind ++ (take n (drop place bytes), excess t) ∷ [])) ≡ place + (n + 1) =
+          ap length (text_of-append so_far.behind ((take n (drop place bytes), excess t) ∷ []))
+          ∙ length-append (text_of so_far.behind) (take n (drop place bytes) ++ 10 ∷ [])
+          ∙ omega (arith, so_far.here, length-append (take n (drop place bytes)) (10 ∷ []), length-take n (drop place bytes)) in
+          record {
+            behind = behind;
+            run = run_more t step;
+            within = marks_more (excess t) ∙ none;
+            split = split_more (excess t) ∙ ap (λ (r : List ℕ). text_of behind ++ r) (drop-drop (n + 1) place bytes);
+            here = long;
+          }
+
+      pub line_exceeds : (t : S) (o : O) → Step s (take n (drop place bytes)) t → excess t ≡ Some o → Exceeds IsValid lines bytes o
+      line_exceeds t o step over =
+          exceeds Sound Step excess begin finish IsValid lines reads bytes (drop (n + 1) (drop place bytes)) (so_far.behind ++ (take n (drop place bytes), excess t) ∷ []) t
+          (run_more t step) (split_more (excess t)) o (marks_more (excess t) ∙ over)
+
+      pub line_refused : ((t : S) → Step s (take n (drop place bytes)) t → ⊥) → FaultAt IsValid lines bytes place
+      line_refused refused =
+          fault_at Sound Step excess begin finish IsValid lines reads bytes (drop place bytes) so_far.behind s so_far.run so_far.split place so_far.within so_far.here
+          (λ l more line is t step. let one = one_line l (take n (drop place bytes)) more (drop (n + 1) (drop place bytes)) line is_line (sym is ∙ rest_is) in
+          refused t (subst (λ (x : List ℕ). Step s x t) one.0 step))
+          (λ v end. omega (arith, ap length rest_is, length-append (take n (drop place bytes)) (10 ∷ drop (n + 1) (drop place bytes))))
+
+    -- no further line
+    pub line_missing : IsLine (drop place bytes) → ((v : V) → s ≡ finish v → 0 < length (drop place bytes)) → FaultAt IsValid lines bytes place
+    line_missing no_line open_end =
+        fault_at Sound Step excess begin finish IsValid lines reads bytes (drop place bytes) so_far.behind s so_far.run so_far.split place so_far.within so_far.here
+        (λ l more line is t step. no_feed l more (subst IsLine is no_line))
+        open_end
+
+    pub all_read : (v : V) → s ≡ finish v → length (drop place bytes) ≡ 0 → IsTextOf IsValid lines bytes v
+    all_read v end none = is_text Sound Step excess begin finish IsValid lines reads bytes (drop place bytes) so_far.behind s so_far.run so_far.split v end (empty (drop place bytes) none) so_far.within
+      where
+        empty : (l : List ℕ) → length l ≡ 0 → l ≡ []
+        empty [] is = refl
+        empty (c ∷ l) is = absurd (omega arith)

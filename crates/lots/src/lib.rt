@@ -1,0 +1,24 @@
+//! Packages of lots, supplies, and the places of a supply.
+#![tactic(auto)]
+
+mod package;
+mod places;
+mod supply;
+
+pub use package::{Bid, Package};
+pub use supply::Supply;
+
+/// Why counts make no package or no supply.
+#[derive(Clone, Copy, Debug, PartialEq, Eq)]
+pub enum LotStop {
+    /// There aren't 1 to 6 categories, but so many.
+    Categories(u64),
+    /// This category, counted from 1, has no lot. It is the first that has none.
+    Zero(u64),
+    /// There are so many lots, which is more than 40.
+    Lots(u64),
+    /// There are so many states, which is more than 4,096.
+    States(u64),
+    /// There was no memory.
+    Memory,
+}

@@ -1,0 +1,68 @@
+// Packages and bids.
+ghost use Rattle.std.specs.Prelude.{◌≡◌, ◌⊎◌, ℕ, ◌≤◌, ◌<◌, ◌^◌, [], length, All, IfOk, None, Some, slice_index};
+ghost use Rattle.auction_model.specs.Package.{is_within, cost_of};
+ghost use Rattle.lots.specs.Limits.{categories_stop, IsPackage};
+
+use crate::{LotStop, Supply};
+use std::alloc::Global;
+use std::marker::Model;
+
+/// A count of lots for each of 1 to 6 categories.
+#[derive(Drop)]
+pub struct Package {
+    counts: Vec<u16>,
+}
+
+impl Model for Package {
+    ghost use Rattle.std.specs.Prelude.{List, ℕ};
+    ghost use Rattle.lots.specs.Limits.{IsPackage};
+
+    ghost Value = { List ℕ };
+
+    ghost view = { λ p. p.counts.items };
+
+    ghost invariant = { λ p. IsPackage p.counts.items };
+}
+
+/// A package with an amount, reserve included.
+#[derive(Drop)]
+pub struct Bid {
+    pub package: Package,
+    pub amount: u64,
+}
+
+impl Package {
+    /// The package of these counts. It stops at a number of categories that isn't 1 to 6.
+    pub fn new(alloc: Global, counts: &[u16]) -> Result<Package, LotStop>
+        ensures made { IfOk result (λ p. (p ≡ counts.now) × (categories_stop counts.now ≡ None)) }
+        ensures stopped { (stop : LotStop) → result ≡ Err stop → (stop ≡ LotStop.Memory) ⊎ (categories_stop counts.now ≡ Some stop) };
+
+    /// How many categories there are.
+    pub fn categories(&self) -> usize
+        ensures count { result ≡ length self.now }
+        ensures kept { IsPackage self.now }
+
+    /// The count of a category, which is counted from 0.
+    pub fn units(&self, category: usize) -> u16
+        requires { category < length self.now }
+        ensures { result ≡ slice_index self.now category }
+
+    /// The counts, category by category.
+    pub fn counts(&self) -> &[u16]
+        ensures { result.now ≡ self.now }
+
+    /// Whether all counts are 0.
+    pub fn is_empty(&self) -> bool
+        ensures { result ≡ is_within self.now [] }
+
+    /// The price of the package: the sum of price times count.
+    pub fn cost(&self, prices: &[u64]) -> u64
+        requires categories { length prices.now ≡ length self.now }
+        requires most { All (λ p. p ≤ 2 ^ 36) prices.now }
+        ensures { result ≡ cost_of prices.now self.now }
+
+    /// Whether no count is above that of the supply.
+    pub fn fits(&self, supply: &Supply) -> bool
+        requires { length self.now ≡ length supply.now }
+        ensures { result ≡ is_within self.now supply.now }
+}

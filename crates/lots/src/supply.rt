@@ -1,0 +1,78 @@
+// Supplies.
+ghost use Rattle.std.specs.Prelude.{◌≡◌, ◌⊎◌, ℕ, ◌≤◌, ◌<◌, length, IfOk, IfSome, IfNone, IsTrue, IsFalse, None, Some, slice_index};
+ghost use Rattle.auction_model.specs.Package.{is_within, less};
+ghost use Rattle.auction_model.specs.Place.{states_of, place_of, left_at, widths_of};
+ghost use Rattle.lots.specs.Limits.{supply_stop, IsSupply};
+
+use crate::places::{place_among, place_less, widths_among};
+use crate::{LotStop, Package};
+use std::alloc::Global;
+use std::marker::Model;
+
+/// What is sold: a count of lots for each of 1 to 6 categories, at most 40 lots and 4,096 states in all. Each state is one
+/// remaining supply; its place is its number in mixed radix, the first category weighing most.
+#[derive(Drop)]
+pub struct Supply {
+    counts: Vec<u16>,
+    states: usize,
+    widths: Vec<usize>,
+}
+
+impl Model for Supply {
+    ghost use Rattle.std.specs.Prelude.{◌≡◌, List, ℕ};
+    ghost use Rattle.auction_model.specs.Place.{states_of, widths_of};
+    ghost use Rattle.lots.specs.Limits.{IsSupply};
+
+    ghost Value = { List ℕ };
+
+    ghost view = { λ s. s.counts.items };
+
+    ghost invariant = { λ s. IsSupply s.counts.items × (s.states ≡ states_of s.counts.items) × (s.widths.items ≡ widths_of s.counts.items) };
+}
+
+impl Supply {
+    /// The supply of these counts. It stops at the first rule that they break, in the order of `LotStop`.
+    pub fn new(alloc: Global, counts: &[u16]) -> Result<Supply, LotStop>
+        ensures made { IfOk result (λ s. (s ≡ counts.now) × (supply_stop counts.now ≡ None)) }
+        ensures stopped { (stop : LotStop) → result ≡ Err stop → (stop ≡ LotStop.Memory) ⊎ (supply_stop counts.now ≡ Some stop) };
+
+    /// How many categories there are.
+    pub fn categories(&self) -> usize
+        ensures count { result ≡ length self.now }
+        ensures kept { IsSupply self.now }
+
+    /// The count of a category, which is counted from 0.
+    pub fn units(&self, category: usize) -> u16
+        requires { category < length self.now }
+        ensures { result ≡ slice_index self.now category }
+
+    /// The counts, category by category.
+    pub fn counts(&self) -> &[u16]
+        ensures counts { result.now ≡ self.now }
+        ensures kept { IsSupply self.now }
+
+    /// How many places one count of each category spans.
+    pub fn widths(&self) -> &[usize]
+        ensures { result.now ≡ widths_of self.now }
+
+    /// How many states there are: the product of the counts, each one more.
+    pub fn states(&self) -> usize
+        ensures states { result ≡ states_of self.now }
+        ensures most { result ≤ 4096 }
+
+    /// The place of a package that fits. The whole supply has the last place, `states - 1`.
+    pub fn place(&self, package: &Package) -> usize
+        requires categories { length «package».now ≡ length self.now }
+        requires fits { IsTrue (is_within «package».now self.now) }
+        ensures place { result ≡ place_of self.now «package».now }
+        ensures below { result < states_of self.now }
+
+    /// The place of what the package leaves of the supply of a place, or None where the package exceeds that.
+    pub fn minus(&self, place: usize, package: &Package) -> Option<usize>
+        requires place { place < states_of self.now }
+        requires categories { length «package».now ≡ length self.now }
+        ensures fits { IfSome result (λ _. IsTrue (is_within «package».now (left_at self.now place))) }
+        ensures left { IfSome result (λ p. p ≡ place_of self.now (less (left_at self.now place) «package».now)) }
+        ensures below { IfSome result (λ p. p < states_of self.now) }
+        ensures exceeds { IfNone result (IsFalse (is_within «package».now (left_at self.now place))) }
+}
