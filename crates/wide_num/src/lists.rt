@@ -1,0 +1,87 @@
+ghost use Rattle.std.specs.Prelude.{List, [], if◌then◌else◌, is_ok, ℕ, ℤ, ◌++◌, ◌∷◌, ◌≡◌};
+
+use std::alloc::{AllocError, Global};
+use std::marker::Model;
+
+/// A text as a list of bytes.
+#[derive(Debug, Drop)]
+pub struct Text {
+    bytes: Vec<u8>,
+}
+
+impl Model for Text {
+    ghost Value = { List ℕ };
+
+    ghost view = { λ text. text.bytes.items };
+}
+
+impl Text {
+    /// The empty text. It takes no memory.
+    pub fn new(alloc: Global) -> Self
+        ensures { result ≡ [] }
+    {
+        Text {
+            bytes: Vec::new(alloc),
+        }
+    }
+
+    /// Appends one byte. For want of memory the text stays as it is.
+    pub fn push(&mut self, byte: u8) -> Result<(), AllocError>
+        ensures { self.new ≡ (if is_ok result then self.old ++ byte ∷ [] else self.old) }
+    {
+        self.bytes.push(byte)?;
+        Ok(())
+    }
+
+    /// Appends all bytes of the piece. For want of memory the text stays as it is.
+    pub fn add(&mut self, piece: &[u8]) -> Result<(), AllocError>
+        ensures { self.new ≡ (if is_ok result then self.old ++ piece.now else self.old) }
+    {
+        self.bytes.extend_from_slice(piece)
+    }
+
+    /// The bytes in order.
+    pub fn items(&self) -> &[u8]
+        ensures { result.now ≡ self.now }
+    {
+        self.bytes.as_slice()
+    }
+}
+
+/// A list of whole numbers.
+#[derive(Debug, Drop)]
+pub struct NumList {
+    numbers: Vec<i128>,
+}
+
+impl Model for NumList {
+    ghost Value = { List ℤ };
+
+    ghost view = { λ list. list.numbers.items };
+}
+
+impl NumList {
+    /// The empty list. It takes no memory.
+    pub fn new(alloc: Global) -> Self
+        ensures { result ≡ [] }
+    {
+        NumList {
+            numbers: Vec::new(alloc),
+        }
+    }
+
+    /// Appends one number. For want of memory the list stays as it is.
+    pub fn push(&mut self, number: i128) -> Result<(), AllocError>
+        ensures { self.new ≡ (if is_ok result then self.old ++ number ∷ [] else self.old) }
+    {
+        self.numbers.push(number)?;
+        Ok(())
+    }
+
+    /// The numbers in order.
+    pub fn items(&self) -> &[i128]
+        ensures { result.now ≡ self.now }
+    {
+        self.numbers.as_slice()
+    }
+}
