@@ -1,0 +1,4 @@
+pub mod Command
+pub mod Code
+pub mod StatusLine
+pub mod Outcome

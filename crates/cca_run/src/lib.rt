@@ -1,0 +1,11 @@
+//! The top call: from words and files to what is printed.
+#![tactic(auto)]
+
+mod line;
+mod status;
+//mod top;
+mod win;
+mod words;
+
+pub use status::{FileKind, Status};
+//pub use top::run;
