@@ -2,10 +2,13 @@
 #![tactic(auto)]
 
 mod book;
+mod laws;
 mod name;
+mod read;
 
 pub use auction_text::LimitKind;
 pub use book::BidBook;
+pub use laws::one_book;
 pub use name::Name;
 
 /// Why bytes are no book.
