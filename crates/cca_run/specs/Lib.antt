@@ -2,3 +2,4 @@ pub mod Command
 pub mod Code
 pub mod StatusLine
 pub mod Outcome
+pub mod Stops

@@ -1,5 +1,5 @@
 -- What a run answers and prints: a function of its words and of the bytes of its files.
-use Rattle.std.specs.Prelude.{◌≡◌, ◌⊎◌, ◌<◌, ◌≤◌, ◌+◌, ℕ, Option, Some, None, List, length}
+use Rattle.std.specs.Prelude.{◌≡◌, ◌⊎◌, ◌<◌, ◌≤◌, ◌+◌, ℕ, Bool, IsTrue, Option, Some, None, List, length}
 use Rattle.line_text.specs.LineText.{Said, stated, faulty, beyond, Says}
 use Rattle.auction_model.specs.Market.{Market}
 use Rattle.auction_model.specs.Greatest.{IsWinning}
@@ -68,6 +68,18 @@ Prints old new text status result =
     ((result ≡ status) × Puts old new text (length text))
     ⊎ ((result ≡ WriteFault Out) × Rose old.faults new.faults × ((n : ℕ) × (n < length text) × Puts old new text n))
 
+-- a stop that the bytes of a file give
+abbrev pub IsStop : Status → Type 0
+IsStop (Refused file place entry) = Unit {0}
+IsStop (Limit which count) = Unit {0}
+IsStop status = ⊥
+
+-- How the way from a file's name to the text of its winners stops: for want of memory, by a fault of reading that was
+-- counted, or by what the file gives.
+abbrev pub StopsBy : Bool → Option (List ℕ) → ℕ → ℕ → Status → Type 0
+StopsBy told file before now status =
+    (status ≡ Memory) ⊎ (((status ≡ ReadFault Book) × Rose before now) ⊎ (IsStop status × (IsTrue told → FileGives file (stopped status))))
+
 -- a text that a run may print: that of its result, or the line of a fault of reading or of want of memory
 abbrev pub MayPrint : List (List ℕ) → (List ℕ → Option (List ℕ)) → List ℕ → Type 0
-MayPrint words file text = ((o : Outcome) × Gives words file o × (text ≡ o.printed)) ⊎ (text ≡ status_line (ReadFault Book)) ⊎ (text ≡ status_line Memory)
+MayPrint words file text = ((o : Outcome) × Gives words file o × (text ≡ o.printed)) ⊎ ((text ≡ status_line (ReadFault Book)) ⊎ (text ≡ status_line Memory))

@@ -1,11 +1,12 @@
 //! The top call: from words and files to what is printed.
 #![tactic(auto)]
 
+mod book_file;
 mod line;
 mod status;
-//mod top;
+mod top;
 mod win;
 mod words;
 
 pub use status::{FileKind, Status};
-//pub use top::run;
+pub use top::run;

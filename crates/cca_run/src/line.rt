@@ -5,7 +5,7 @@ ghost use Rattle.cca_run.specs.StatusLine.{status_line, file_text, limit_text, e
 
 use crate::{FileKind, Status};
 use arrayvec::ArrayVec;
-use auction_text::LimitKind;
+use bid_book::LimitKind;
 use itoa::Buffer;
 
 // No line is longer.

@@ -1,5 +1,5 @@
 // How a run ends.
-use auction_text::LimitKind;
+use bid_book::LimitKind;
 
 ghost use Rattle.std.specs.Prelude.{◌≡◌};
 ghost use Rattle.cca_run.specs.Code.{code_of};

