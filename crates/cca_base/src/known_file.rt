@@ -6,64 +6,35 @@ ghost use Rattle.cca_base.specs.Faults.{Rose};
 ghost use Rattle.cca_base.specs.Files.{KeepsFiles, CountsOnly};
 ghost use Rattle.cca_base.specs.RealFiles.{IsUnused, known, real_folder};
 
-use std::alloc::{AllocError, Global};
+use crate::named::{Named, place_of};
 
-/// A known name, and how often a load of it and an append to it has failed.
+// A known name, and how often a load of it and an append to it has failed.
 #[derive(Drop)]
-pub struct KnownFile {
-    pub name: String,
-    pub load_faults: u64,
-    pub append_faults: u64,
+pub(crate) struct KnownFile {
+    name: String,
+    load_faults: u64,
+    append_faults: u64,
 }
 
-// Whether this name stands among them.
-fn knows(files: &[KnownFile], name: &str) -> bool
-    ensures { result ≡ list_any (λ f. bytes_eq (string_bytes f.name) name.now) files.now }
-{
-    files.iter().any(|f| f.name.as_str() == name)
-}
+impl Named for KnownFile {
+    ghost use Rattle.std.specs.Prelude.{string_bytes};
+    ghost use Rattle.cca_base.specs.RealFiles.{IsUnused};
 
-// This name, with no failed call.
-fn unused_file(alloc: Global, name: &str) -> Result<KnownFile, AllocError>
-    ensures name { IfOk result (λ f. string_bytes f.name ≡ name.now) }
-    ensures unused { IfOk result IsUnused }
-{
-    Ok(KnownFile {
-        name: String::from_str(alloc, name)?,
-        load_faults: 0,
-        append_faults: 0,
-    })
-}
+    ghost name_of = { λ f. string_bytes f.name };
 
-// Each name, once where it is given twice.
-pub(crate) fn unused_files(alloc: Global, names: &[String]) -> Result<Vec<KnownFile>, AllocError>
-    ensures names { IfOk result (λ files. (name : List ℕ) → list_any (λ f. bytes_eq (string_bytes f.name) name) files.items ≡ list_any (λ s. bytes_eq (string_bytes s) name) names.now) }
-    ensures once { IfOk result (λ files. AllPairs (λ f g. string_bytes f.name ≢ string_bytes g.name) files.items) }
-    ensures unused { IfOk result (λ files. All IsUnused files.items) }
-{
-    let mut files: Vec<KnownFile> = Vec::new(alloc);
-    for name in names {
-        if !knows(&files, name.as_str()) {
-            files.push(unused_file(alloc, name.as_str())?)?;
+    ghost is_new = { IsUnused };
+
+    fn name(&self) -> &str {
+        self.name.as_str()
+    }
+
+    fn with_name(name: String) -> KnownFile {
+        KnownFile {
+            name,
+            load_faults: 0,
+            append_faults: 0,
         }
     }
-    Ok(files)
-}
-
-// The place of this name, where it is known.
-fn position_of(files: &[KnownFile], name: &str) -> Option<usize>
-    ensures { result ≡ position (λ f. bytes_eq (string_bytes f.name) name.now) files.now }
-{
-    files.iter().position(|f| f.name.as_str() == name)
-}
-
-// The place of this known name.
-fn place_of(files: &[KnownFile], name: &str) -> usize
-    requires { IsTrue (is_some (known files.now name.now)) }
-    ensures within { result < length files.now }
-    ensures first { result ≡ position_or_len (λ f. bytes_eq (string_bytes f.name) name.now) files.now }
-{
-    position_of(files, name).unwrap_or(files.len())
 }
 
 // Counts a failed load of the name.

@@ -8,6 +8,7 @@ ghost use Rattle.cca_base.specs.Files.{KeepsFiles, CountsOnly, Becomes};
 ghost use Rattle.cca_base.specs.MemFiles.{IsFresh, entry, bytes_in, mem_folder};
 
 use crate::Failed;
+use crate::named::{Named, place_of};
 use std::alloc::{AllocError, Global};
 
 /// A file of a known name. Its `bytes` are `None` exactly where it is missing.
@@ -19,55 +20,26 @@ pub struct MemFile {
     pub append_faults: u64,
 }
 
-// Whether a file of this name stands among them.
-fn knows(files: &[MemFile], name: &str) -> bool
-    ensures { result ≡ list_any (λ f. bytes_eq (string_bytes f.name) name.now) files.now }
-{
-    files.iter().any(|f| f.name.as_str() == name)
-}
+impl Named for MemFile {
+    ghost use Rattle.std.specs.Prelude.{string_bytes};
+    ghost use Rattle.cca_base.specs.MemFiles.{IsFresh};
 
-// A missing file of this name.
-fn missing_file(alloc: Global, name: &str) -> Result<MemFile, AllocError>
-    ensures name { IfOk result (λ f. string_bytes f.name ≡ name.now) }
-    ensures fresh { IfOk result IsFresh }
-{
-    Ok(MemFile {
-        name: String::from_str(alloc, name)?,
-        bytes: None,
-        load_faults: 0,
-        append_faults: 0,
-    })
-}
+    ghost name_of = { λ f. string_bytes f.name };
 
-// A missing file of each name, one where a name is given twice.
-pub(crate) fn missing_files(alloc: Global, names: &[String]) -> Result<Vec<MemFile>, AllocError>
-    ensures names { IfOk result (λ files. (name : List ℕ) → list_any (λ f. bytes_eq (string_bytes f.name) name) files.items ≡ list_any (λ s. bytes_eq (string_bytes s) name) names.now) }
-    ensures once { IfOk result (λ files. AllPairs (λ f g. string_bytes f.name ≢ string_bytes g.name) files.items) }
-    ensures fresh { IfOk result (λ files. All IsFresh files.items) }
-{
-    let mut files: Vec<MemFile> = Vec::new(alloc);
-    for name in names {
-        if !knows(&files, name.as_str()) {
-            files.push(missing_file(alloc, name.as_str())?)?;
+    ghost is_new = { IsFresh };
+
+    fn name(&self) -> &str {
+        self.name.as_str()
+    }
+
+    fn with_name(name: String) -> MemFile {
+        MemFile {
+            name,
+            bytes: None,
+            load_faults: 0,
+            append_faults: 0,
         }
     }
-    Ok(files)
-}
-
-// The place of the first file of this name, where there is one.
-fn position_of(files: &[MemFile], name: &str) -> Option<usize>
-    ensures { result ≡ position (λ f. bytes_eq (string_bytes f.name) name.now) files.now }
-{
-    files.iter().position(|f| f.name.as_str() == name)
-}
-
-// The place of the first file of this known name.
-fn place_of(files: &[MemFile], name: &str) -> usize
-    requires { IsTrue (is_some (entry files.now name.now)) }
-    ensures within { result < length files.now }
-    ensures first { result ≡ position_or_len (λ f. bytes_eq (string_bytes f.name) name.now) files.now }
-{
-    position_of(files, name).unwrap_or(files.len())
 }
 
 // The bytes of the file of this name.

@@ -1,13 +1,14 @@
 // Files of the system. They tell no bytes.
-ghost use Rattle.std.specs.Prelude.{◌≡◌, ◌≢◌, ℕ, List, AllPairs, string_bytes, IfOk};
+ghost use Rattle.std.specs.Prelude.{◌≡◌, ℕ, List, string_bytes, IfOk};
 ghost use Rattle.std.specs.List.{list_any};
 ghost use Rattle.std.specs.Str.{bytes_eq};
 ghost use Rattle.std.specs.Io.{ReadsAtMost, WritesAtMost};
 ghost use Rattle.cca_base.specs.RealFiles.{real_folder};
 
 use crate::known_file::{
-    KnownFile, append_faults_of, count_append_fault, count_load_fault, load_faults_of, unused_files,
+    KnownFile, append_faults_of, count_append_fault, count_load_fault, load_faults_of,
 };
+use crate::named::new_files;
 use crate::{Failed, Files};
 use std::alloc::{AllocError, Global};
 use std::fs::{File, OpenOptions};
@@ -25,20 +26,19 @@ pub struct RealFiles<R: Drop> {
     files: Vec<KnownFile>,
 }
 
-impl<R: Drop> RealFiles<R> {
+impl<R: rt::Files<File = File> + Drop> RealFiles<R> {
     /// Files of exactly these names, all counts 0. A name that is given twice is known once.
     ///
     /// # Errors
     ///
     /// `AllocError` for want of memory.
     pub fn new(alloc: Global, rt: R, names: &[String]) -> Result<RealFiles<R>, AllocError>
-        ensures names { IfOk result (λ files. (name : List ℕ) → (real_folder files.files.items).knows name ≡ list_any (λ s. bytes_eq (string_bytes s) name) names.now) }
-        ensures once { IfOk result (λ files. AllPairs (λ f g. string_bytes f.name ≢ string_bytes g.name) files.files.items) }
-        ensures faults { IfOk result (λ files. (name : List ℕ) → ((real_folder files.files.items).load_faults name ≡ 0) × ((real_folder files.files.items).append_faults name ≡ 0)) }
+        ensures names { IfOk result (λ files. (name : List ℕ) → (⟦<RealFiles<R> as Files>⟧.folder files).knows name ≡ list_any (λ s. bytes_eq (string_bytes s) name) names.now) }
+        ensures faults { IfOk result (λ files. (name : List ℕ) → ((⟦<RealFiles<R> as Files>⟧.folder files).load_faults name ≡ 0) × ((⟦<RealFiles<R> as Files>⟧.folder files).append_faults name ≡ 0)) }
     {
         Ok(RealFiles {
             rt,
-            files: unused_files(alloc, names)?,
+            files: new_files(alloc, names)?,
         })
     }
 }

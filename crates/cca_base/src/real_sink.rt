@@ -16,7 +16,7 @@ pub struct RealSink<R: Print + Drop> {
 impl<R: Print + Drop> RealSink<R> {
     /// The standard output of this runtime, with no fault yet.
     pub fn new(rt: R) -> Self
-        ensures { result.faults ≡ 0 }
+        ensures { (⟦<RealSink<R> as Sink>⟧.output result).faults ≡ 0 }
     {
         RealSink { rt, faults: 0 }
     }
