@@ -1,0 +1,26 @@
+use Rattle.std.proofs.Common.{rules, ◌≡◌, ◌≤◌, ◌<◌, ◌++◌, ◌-◌, ◌+◌, ◌^◌, ℕ, List, length, min, take, drop, unwrap_or, is_some, find, string_bytes, [], Some, None, IsTrue, OnOk, OnErr, Bool, true, false, get_or, refl, sym, ap, ◌∙◌, arith, Bor, MutBor, Option, Vec, Global}
+use Rattle.std.specs.List.{position_or_len, position}
+use Rattle.std.specs.Option.{option_map, option_map_or, option_and_then}
+use Rattle.std.specs.Str.{bytes_eq}
+use Rattle.std.proofs.Math.ListN.{set}
+use Rattle.cca_base.specs.Faults.{Rose}
+use Rattle.cca_base.specs.Files.{KeepsFiles, CountsOnly, Becomes}
+use Rattle.cca_base.specs.MemFiles.{entry, mem_folder, content}
+use Rattle.cca_base.specs.declared.mem_file.MemFile.{MemFile}
+use Rattle.cca_base.proofs.Entries.{entry_here, set_changes, views_same, counts_only, counts_rose}
+use Rattle.cca_base.proofs.MemEntries.{name_of, mem_keeps}
+use Rattle.cca_base.proofs.mem_file.count_load_fault.Goals as goal
+
+pub returns-clause-kept : goal.returns-clause-kept
+returns-clause-kept c = mem_keeps _ _ _ _ _ (set_changes name_of c.args.files.now c.args.name.now c.place_of-place.result c.index-files-place.result _ c.requires c.place_of-place.ensures.first refl) refl
+
+pub returns-clause-count : goal.returns-clause-count
+returns-clause-count c = counts_only (λ (f : MemFile). f.load_faults) _ _ _ _ _ (set_changes name_of c.args.files.now c.args.name.now c.place_of-place.result c.index-files-place.result _ c.requires c.place_of-place.ensures.first refl) (omega arith)
+
+pub returns-clause-rose : goal.returns-clause-rose
+returns-clause-rose c = counts_rose (λ (f : MemFile). f.load_faults) _ _ _ _ _ (set_changes name_of c.args.files.now c.args.name.now c.place_of-place.result c.index-files-place.result _ c.requires c.place_of-place.ensures.first refl) (λ below. omega arith)
+
+pub returns-clause-appends : goal.returns-clause-appends
+returns-clause-appends c =
+    let count : Option MemFile → ℕ = λ o. option_map_or (λ (f : MemFile). f.append_faults) o 0 in
+    views_same count _ _ _ _ _ (set_changes name_of c.args.files.now c.args.name.now c.place_of-place.result c.index-files-place.result _ c.requires c.place_of-place.ensures.first refl) refl
