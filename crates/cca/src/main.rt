@@ -6,6 +6,7 @@ ghost use Rattle.std.specs.Prelude.{◌≡◌, map, string_bytes, All, IsTrue};
 use cca_base::{RealFiles, RealSink};
 use cca_run::run;
 use std::env;
+use std::env::Env;
 use std::io::ErrorKind;
 use std::process::ExitCode;
 
