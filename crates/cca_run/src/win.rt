@@ -9,10 +9,11 @@ ghost use Rattle.auction_text.specs.BookLines.{numbers_text};
 ghost use Rattle.auction_text.specs.WinText.{winner_line, winner_lines, net_line, win_text};
 
 use bid_book::BidBook;
-use choices::Choice;
+use choices::{Choice, value};
 use itoa::Buffer;
 use lots::Bid;
 use std::alloc::{AllocError, Global};
+use value_table::win;
 use wide_num::{Text, digits};
 
 // A number behind one space.
@@ -72,7 +73,9 @@ fn add_net(alloc: Global, text: &mut Text, net: i128) -> Result<(), AllocError>
 pub fn win_of(alloc: Global, book: &BidBook) -> Result<Text, AllocError>
     ensures { IfOk result (λ text. (c : List ℕ) × IsWinning (market_of book.now) c × (text ≡ win_text book.now c)) }
 {
-    let _ = alloc;
-    let _ = book;
-    Err(AllocError)
+    let choice = win(alloc, book)?;
+    let mut text = Text::new(alloc);
+    add_winners(&mut text, book, &choice)?;
+    add_net(alloc, &mut text, value(book, &choice))?;
+    Ok(text)
 }

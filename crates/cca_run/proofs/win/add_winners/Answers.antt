@@ -2,7 +2,7 @@ use Rattle.std.proofs.Common.{◌≡◌, ◌<◌, ◌≤◌, ◌+◌, ◌-◌, �
 use Rattle.auction_model.specs.Book.{BookBid, menu_of, bids_of, bid_of, lots_of}
 use Rattle.auction_text.specs.WinText.{winner_line}
 use Rattle.auction_model.specs.Market.{number_of}
-use Rattle.auction_model.proofs.BookMarket.{known-length, known-at}
+use Rattle.auction_model.proofs.ChoiceLaws.{known-length, known-at}
 use Rattle.cca_run.proofs.Winners.{loses, wins, all-written}
 use Rattle.cca_run.proofs.win.add_winners.Goals as goal
 use Rattle.cca_run.proofs.win.add_winners.Goals.{then-number-ne0+in_ok-add_winner, else-number-ne0}
