@@ -1,7 +1,5 @@
 // One file of the system, known by its name, and changes of one in a list of them.
-ghost use Rattle.std.specs.Prelude.{◌≡◌, ◌≢◌, ◌<◌, ℕ, List, All, AllPairs, length, is_some, position, string_bytes, IsTrue, IfOk};
-ghost use Rattle.std.specs.List.{list_any, position_or_len};
-ghost use Rattle.std.specs.Str.{bytes_eq};
+ghost use Rattle.std.specs.Prelude.{◌≡◌, is_some, string_bytes, IsTrue};
 ghost use Rattle.cca_base.specs.Faults.{Rose};
 ghost use Rattle.cca_base.specs.Files.{KeepsFiles, CountsOnly};
 ghost use Rattle.cca_base.specs.RealFiles.{IsUnused, known, real_folder};

@@ -1,8 +1,6 @@
 // One file in memory, and changes of one file in a list of them.
-ghost use Rattle.std.specs.Prelude.{◌≡◌, ◌≢◌, ◌≤◌, ◌<◌, ◌++◌, ◌-◌, ◌+◌, ◌^◌, ℕ, List, All, AllPairs, length, min, take, drop, unwrap_or, is_some, position, string_bytes, [], Some, None, IsTrue, IfOk, OnOk, OnErr};
-ghost use Rattle.std.specs.List.{list_any, position_or_len};
+ghost use Rattle.std.specs.Prelude.{◌≡◌, ◌++◌, ◌-◌, length, min, take, drop, unwrap_or, is_some, string_bytes, [], Some, None, IsTrue, OnOk, OnErr};
 ghost use Rattle.std.specs.Option.{option_map};
-ghost use Rattle.std.specs.Str.{bytes_eq};
 ghost use Rattle.cca_base.specs.Faults.{Rose};
 ghost use Rattle.cca_base.specs.Files.{KeepsFiles, CountsOnly, Becomes};
 ghost use Rattle.cca_base.specs.MemFiles.{IsFresh, entry, bytes_in, mem_folder};

@@ -1,6 +1,5 @@
 // Standard output. It tells no bytes.
 ghost use Rattle.std.specs.Prelude.{◌≡◌, None};
-ghost use Rattle.cca_base.specs.Sink.{Output};
 
 use crate::{Failed, Sink};
 use std::io;
