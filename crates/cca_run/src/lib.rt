@@ -10,3 +10,6 @@ mod words;
 
 pub use status::{FileKind, Status};
 pub use top::run;
+
+#[cfg(test)]
+mod tests;
