@@ -98,14 +98,13 @@ fn grid_of(
     alloc: Global,
     lowering: &Lowering,
     last: usize,
-    mut lines: Vec<Vec<i128>>,
+    lines: Vec<Vec<i128>>,
 ) -> Result<Grid, AllocError>
     requires { AreCountedLines lowering.now last 0 (map (λ l. l.items) lines.items) }
     ensures { IfOk result (λ g. AreCountedLines lowering.now last 0 g) }
 {
     let mut grid = Grid::new(alloc);
-    while !lines.is_empty() {
-        let line = lines.remove(0);
+    for line in lines {
         grid.push_line(NumList::from_vec(line))?;
     }
     Ok(grid)
