@@ -12,4 +12,6 @@ pub use status::{FileKind, Status};
 pub use top::run;
 
 #[cfg(test)]
+mod listing_tests;
+#[cfg(test)]
 mod tests;

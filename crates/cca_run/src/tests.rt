@@ -1,9 +1,10 @@
-// The top call on books with known winners, on faulty ones, and on faults of files and output; and the winners beside a
-// listing of all choices.
+// The top call on books with known winners, on faulty ones, and on faults of files and of the output; and the winners
+// beside a listing of all choices.
 ghost use Rattle.std.specs.Prelude.{◌<◌, length, IfOk, All, IsTrue, map, string_bytes};
 ghost use Rattle.cca_base.specs.MemFiles.{mem_folder};
 
-use crate::{Status, run};
+use crate::{FileKind, Status, run};
+use bid_book::LimitKind;
 use cca_base::{MemFiles, MemSink};
 use std::alloc::{AllocError, Global};
 use std::test::Fail;
@@ -18,6 +19,8 @@ const ELEVEN: &str = "book 1\nsupply 11\nreserve 0\nbidder c1\nbid 1 5\nbidder c
 const EQUALS: &str = "book 1\nsupply 1\nreserve 0\nbidder n1\nbid 1 9\nbidder n2\nbid 1 9\nbidder n3\nbid 1 9\nbidder n4\nbid 1 9\nend\n";
 const GREATEST: &str = "book 1\nsupply 7 7 7 7\nreserve 0 0 0 0\nend\n";
 const TOO_MANY_STATES: &str = "book 1\nsupply 7 7 7 8\nreserve 0 0 0 0\nend\n";
+const LEADING_ZERO: &str =
+    "book 1\nsupply 1 1\nreserve 0 0\nbidder east\nbid 1 0 028\nend\n";
 
 fn words_of(alloc: Global, words: &[&str]) -> Result<Vec<String>, AllocError> {
     let mut list = Vec::new(alloc);
@@ -86,7 +89,7 @@ fn run_on(
 
 #[test]
 fn prints_the_winners(rt: HostRuntime) -> Result<(), Fail> {
-    let table: [(&str, &str); 10] = [
+    let table: [(&str, &str); 9] = [
         (DAY_CRAMTON, "winner b1 1 0 28\nwinner b2 0 1 20\nnet 48\n"),
         (NOBODY, "net 0\n"),
         (AT_RESERVE, "winner solo 1 50\nnet 0\n"),
@@ -105,12 +108,129 @@ fn prints_the_winners(rt: HostRuntime) -> Result<(), Fail> {
         ),
         (EQUALS, "winner n1 1 9\nnet 9\n"),
         (GREATEST, "net 0\n"),
-        (TOO_MANY_STATES, "cca: limit states 4608\n"),
     ];
     for (book, printed) in table {
         let (status, bytes) = run_on(rt.alloc(), &["win", "BOOK"], Some(book.as_bytes()), 0, 0)?;
+        assert_eq!(rt; status, Status::Done);
         assert_eq!(rt; bytes.as_slice(), printed.as_bytes());
-        assert_eq!(rt; status == Status::Done, book != TOO_MANY_STATES, "{book}");
     }
     Ok(())
+}
+
+fn refused(place: u64) -> Status {
+    Status::Refused {
+        file: FileKind::Book,
+        place,
+        entry: 0,
+    }
+}
+
+#[test]
+fn refuses_faulty_books(rt: HostRuntime) -> Result<(), Fail> {
+    let table: [(&str, Status, &str); 4] = [
+        (LEADING_ZERO, refused(42), "cca: refused book 42\n"),
+        ("", refused(0), "cca: refused book 0\n"),
+        (
+            "book 1\nsupply 1\nreserve 0\nend",
+            refused(26),
+            "cca: refused book 26\n",
+        ),
+        (
+            TOO_MANY_STATES,
+            Status::Limit {
+                which: LimitKind::States,
+                count: 4608,
+            },
+            "cca: limit states 4608\n",
+        ),
+    ];
+    for (book, expected, printed) in table {
+        let (status, bytes) = run_on(rt.alloc(), &["win", "BOOK"], Some(book.as_bytes()), 0, 0)?;
+        assert_eq!(rt; status, expected);
+        assert_eq!(rt; bytes.as_slice(), printed.as_bytes());
+    }
+    Ok(())
+}
+
+#[test]
+fn refuses_other_words(rt: HostRuntime) -> Result<(), Fail> {
+    let table: [&[&str]; 7] = [
+        &[],
+        &["check", "BOOK", "BOOK"],
+        &["win"],
+        &["win", ""],
+        &["win", "-BOOK"],
+        &["win", "BOOK", "BOOK"],
+        &["wins", "BOOK"],
+    ];
+    for words in table {
+        let (status, bytes) = run_on(rt.alloc(), words, Some(NOBODY.as_bytes()), 0, 0)?;
+        assert_eq!(rt; status, Status::Words);
+        assert_eq!(rt; bytes.as_slice(), b"cca: words\n".as_slice());
+    }
+    Ok(())
+}
+
+#[test]
+fn tells_faults(rt: HostRuntime) -> Result<(), Fail> {
+    let alloc = rt.alloc();
+    let long = vec![in alloc; b'x'; 1_048_577]?;
+    let book = Some(TIE.as_bytes());
+    let read_fault = Status::ReadFault {
+        file: FileKind::Book,
+    };
+    let write_fault = Status::WriteFault {
+        file: FileKind::Out,
+    };
+    let too_long = Status::Limit {
+        which: LimitKind::Bytes,
+        count: 1_048_577,
+    };
+    let table: [(Option<&[u8]>, u64, u64, Status, &str); 6] = [
+        (None, 0, 0, read_fault, "cca: read fault book\n"),
+        (book, 1, 0, read_fault, "cca: read fault book\n"),
+        (book, 2, 0, read_fault, "cca: read fault book\n"),
+        (book, 0, 1, write_fault, ""),
+        (book, 0, 3, write_fault, "winner eas"),
+        (Some(&long), 0, 0, too_long, "cca: limit bytes 1048577\n"),
+    ];
+    for (bytes, fail_load, fail_put, expected, printed) in table {
+        let (status, bytes) = run_on(alloc, &["win", "BOOK"], bytes, fail_load, fail_put)?;
+        assert_eq!(rt; status, expected);
+        assert_eq!(rt; bytes.as_slice(), printed.as_bytes());
+    }
+    Ok(())
+}
+
+#[test]
+fn ends_with_codes(rt: HostRuntime) {
+    let table: [(Status, u8); 8] = [
+        (Status::Done, 0),
+        (Status::No { test: 8, place: 2 }, 1),
+        (Status::Words, 2),
+        (refused(42), 3),
+        (
+            Status::ReadFault {
+                file: FileKind::Book,
+            },
+            4,
+        ),
+        (
+            Status::WriteFault {
+                file: FileKind::Cert,
+            },
+            5,
+        ),
+        (Status::Memory, 6),
+        (
+            Status::Limit {
+                which: LimitKind::Winners,
+                count: 11,
+            },
+            7,
+        ),
+    ];
+    for (status, code) in table {
+        assert_eq!(rt; status.code(), code);
+    }
 }
