@@ -26,3 +26,6 @@ pub enum BookStop {
     /// There was no memory.
     Memory,
 }
+
+#[cfg(test)]
+mod tests;
