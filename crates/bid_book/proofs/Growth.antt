@@ -1,11 +1,11 @@
 -- What a line of a book adds: one bidder more, or one bid more of the last bidder.
-use Rattle.std.proofs.Common.{⊎_elim, ◌≡◌, ℕ, suc, ◌+◌, Option, List, [], ◌∷◌, ◌++◌, length, refl, sym, ap, subst, ◌∙◌, arith, append_assoc, length-append}
+use Rattle.std.proofs.Common.{⊎_elim, ◌≡◌, ℕ, suc, ◌+◌, ◌-◌, ◌<◌, Option, List, [], ◌∷◌, ◌++◌, length, get_or, set, take, refl, sym, ap, subst, ◌∙◌, arith, append_assoc, length-append}
 use Rattle.std.specs.Prelude.{codes}
-use Rattle.std.proofs.lemmas.List.{append-nil}
-use Rattle.auction_model.specs.Book.{BookBid, Bidder, Book}
+use Rattle.std.proofs.lemmas.List.{append-nil, take_all, take_more, get_or_at, set_at}
+use Rattle.auction_model.specs.Book.{BookBid, Bidder, Book, no_bidder, bidder_of}
 use Rattle.auction_text.specs.BookForm.{IsBid, AreBids, empty_package, IsBidder, AreBidders, IsBook}
 use Rattle.auction_text.specs.BookLines.{Excess, Line, bid_excess, bid_line, bid_lines, bidder_line, bidder_lines, head_lines}
-use Rattle.bid_book.specs.Stages.{bidder_with, with_bidders, last_lots, AddsBidder, AddsBid, Adds, bids_excess, last_excess}
+use Rattle.bid_book.specs.Stages.{bidder_with, with_bidders, with_bid, last_lots, AddsBidder, AddsBid, Adds, bids_excess, last_excess}
 
 -- all lines of a book but the last
 abbrev pub listed : Book → List Line
@@ -100,16 +100,45 @@ bid_behind head front bidder bid =
     ∙ ap (λ (l : List Line). (head ++ l) ++ line ∷ []) (sym (bidder_lines-push 0 front bidder))
     ∙ ap (λ (m : Option Excess). (head ++ bidder_lines 0 (front ++ bidder ∷ [])) ++ ((bid_line 0 bid).0, m) ∷ []) mark
 
+-- the last bidder, and those before it
+pub record Parts (bidders : List Bidder) : Type 0 where
+  pub front : List Bidder
+  pub bidder : Bidder
+  pub whole : bidders ≡ front ++ bidder ∷ []
+
+pub parts_of : (bidders : List Bidder) → 0 < length bidders → Parts bidders
+parts_of bidders some =
+    let all : take (length bidders - 1 + 1) bidders ≡ bidders = take_all (length bidders - 1 + 1) bidders (omega arith) in
+    record { front = take (length bidders - 1) bidders; bidder = get_or bidders (length bidders - 1) no_bidder; whole = sym all ∙ take_more bidders (length bidders - 1) no_bidder (omega arith) }
+
+last_place : (front : List Bidder) (bidder : Bidder) → length front ≡ length (front ++ bidder ∷ []) - 1
+last_place front bidder = omega (arith, length-append front (bidder ∷ []))
+
+pub last_of : (book : Book) (front : List Bidder) (bidder : Bidder) → book.bidders ≡ front ++ bidder ∷ [] → bidder_of book (length book.bidders) ≡ bidder
+last_of book front bidder whole =
+    ap (λ (bs : List Bidder). get_or bs (length bs - 1) no_bidder) whole ∙ get_or_at front bidder [] no_bidder (length (front ++ bidder ∷ []) - 1) (last_place front bidder)
+
+pub with_last : (book : Book) (front : List Bidder) (bidder : Bidder) (bid : BookBid) → book.bidders ≡ front ++ bidder ∷ []
+    → with_bid book bid ≡ with_bidders book (front ++ bidder_with bidder.name (bidder.bids ++ bid ∷ []) ∷ [])
+with_last book front bidder bid whole =
+    let own = last_of book front bidder whole in
+    ap (λ (b : Bidder). with_bidders book (set book.bidders (length book.bidders - 1) (bidder_with b.name (b.bids ++ bid ∷ [])))) own
+    ∙ ap (λ (bs : List Bidder). with_bidders book (set bs (length bs - 1) (bidder_with bidder.name (bidder.bids ++ bid ∷ [])))) whole
+    ∙ ap (with_bidders book) (set_at front bidder [] (bidder_with bidder.name (bidder.bids ++ bid ∷ [])) (length (front ++ bidder ∷ []) - 1) (last_place front bidder))
+
 pub adds_bid : (old new : Book) (line : List ℕ) → IsBook old → AddsBid old new line
     → IsBook new × (listed new ≡ listed old ++ (line, last_excess 0 new.bidders) ∷ [])
 adds_bid old new line valid adds =
-    let book = with_bidders old (adds.front ++ bidder_with adds.bidder.name (adds.bidder.bids ++ adds.bid ∷ []) ∷ []) in
+    let parts = parts_of old.bidders adds.some in
+    let own : IsBid old.supply old.reserves (last_lots (empty_package old.supply) parts.bidder.bids) adds.bid =
+    subst (λ (b : Bidder). IsBid old.supply old.reserves (last_lots (empty_package old.supply) b.bids) adds.bid) (last_of old parts.front parts.bidder parts.whole) adds.valid in
+    let book = with_bidders old (parts.front ++ bidder_with parts.bidder.name (parts.bidder.bids ++ adds.bid ∷ []) ∷ []) in
     let here : IsBook book × (listed book ≡ listed old ++ ((bid_line 0 adds.bid).0, last_excess 0 book.bidders) ∷ []) = (
-      bid_added old adds.front adds.bidder adds.bid adds.last valid adds.valid,
-      bid_behind (head_lines old) adds.front adds.bidder adds.bid
-          ∙ ap (λ (bs : List Bidder). (head_lines old ++ bidder_lines 0 bs) ++ ((bid_line 0 adds.bid).0, last_excess 0 book.bidders) ∷ []) (sym adds.last),
+      bid_added old parts.front parts.bidder adds.bid parts.whole valid own,
+      bid_behind (head_lines old) parts.front parts.bidder adds.bid
+          ∙ ap (λ (bs : List Bidder). (head_lines old ++ bidder_lines 0 bs) ++ ((bid_line 0 adds.bid).0, last_excess 0 book.bidders) ∷ []) (sym parts.whole),
     ) in
-    subst (λ (b : Book). IsBook b × (listed b ≡ listed old ++ (line, last_excess 0 b.bidders) ∷ [])) (sym adds.new_is)
+    subst (λ (b : Book). IsBook b × (listed b ≡ listed old ++ (line, last_excess 0 b.bidders) ∷ [])) (sym (adds.new_is ∙ with_last old parts.front parts.bidder adds.bid parts.whole))
     (subst (λ (l : List ℕ). IsBook book × (listed book ≡ listed old ++ (l, last_excess 0 book.bidders) ∷ [])) (sym adds.spelled) here)
 
 pub adds_one : (old new : Book) (line : List ℕ) → IsBook old → Adds old new line

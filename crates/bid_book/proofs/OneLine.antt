@@ -5,7 +5,7 @@ use Rattle.std.specs.Fmt.{decimal}
 use Rattle.auction_model.specs.Book.{BookBid, Book}
 use Rattle.auction_text.specs.BookForm.{IsOffer, AreReserves}
 use Rattle.auction_text.specs.BookLines.{numbers_text, bid_line}
-use Rattle.bid_book.specs.Stages.{bidder_with, with_bidders, AddsBidder, AddsBid, Adds}
+use Rattle.bid_book.specs.Stages.{with_bid, bidder_with, with_bidders, AddsBidder, AddsBid, Adds}
 use Rattle.bid_book.proofs.Numbers.{AreSmall, numbers_one, snoc_one}
 use Rattle.bid_book.proofs.Spelled.{small_supply, small_reserves, small_counts}
 
@@ -59,11 +59,9 @@ bid_one l a b sa sb la lb =
 
 pub two_bids : (old a b : Book) (l : List ℕ) → IsOffer old.supply → AddsBid old a l → AddsBid old b l → a ≡ b
 two_bids old a b l supply x y =
-    let last = snoc_one x.front y.front x.bidder y.bidder (sym x.last ∙ y.last) in
     let small_x : AreSmall (x.bid.lots ++ x.bid.amount ∷ []) = small_counts x.bid.lots old.supply x.bid.amount x.valid.categories x.valid.within supply.each x.valid.top in
     let small_y : AreSmall (y.bid.lots ++ y.bid.amount ∷ []) = small_counts y.bid.lots old.supply y.bid.amount y.valid.categories y.valid.within supply.each y.valid.top in
-    let bid = bid_one l x.bid y.bid small_x small_y x.spelled y.spelled in
-    x.new_is ∙ (λ i. with_bidders old (last.0 i ++ bidder_with (last.1 i).name ((last.1 i).bids ++ bid i ∷ []) ∷ [])) ∙ sym y.new_is
+    x.new_is ∙ ap (with_bid old) (bid_one l x.bid y.bid small_x small_y x.spelled y.spelled) ∙ sym y.new_is
 
 pub new_one : (old a b : Book) (l : List ℕ) → IsOffer old.supply → Adds old a l → Adds old b l → a ≡ b
 new_one old a b l supply (inl x) (inl y) = two_bidders old a b l x y

@@ -5,14 +5,14 @@ use Rattle.std.specs.List.{AllByRecursion}
 use Rattle.std.proofs.lemmas.List.{append-nil, take_at, take_all, length-replicate}
 use Rattle.line_text.proofs.Runs.{Runs, Reads, runs_append}
 use Rattle.auction_model.specs.Book.{BookBid, Bidder, Book}
-use Rattle.auction_text.specs.BookForm.{IsOffer, AreBids, empty_package, IsBidder, AreBidders, IsBook}
-use Rattle.auction_text.specs.BookLines.{Line, numbers_text, bidder_excess, bid_excess, bid_lines, bidder_line, bidder_lines, supply_line, reserve_line, head_lines, lines}
+use Rattle.auction_text.specs.BookForm.{IsOffer, IsBid, AreBids, empty_package, IsBidder, AreBidders, IsBook}
+use Rattle.auction_text.specs.BookLines.{Line, numbers_text, bidder_excess, bid_excess, bid_line, bid_lines, bidder_line, bidder_lines, supply_line, reserve_line, head_lines, lines}
 use Rattle.bid_book.specs.declared.read.Stage.{Stage}
 use Rattle.bid_book.specs.declared.read.Stage.TheVariants.{Start, Headed, Supplied, Listing, Ended}
-use Rattle.bid_book.specs.Stages.{last_lots, bidder_with, with_bidders, opened, Step, last_excess, excess}
+use Rattle.bid_book.specs.Stages.{last_lots, bidder_with, with_bidders, opened, AddsBid, Step, last_excess, excess}
 use Rattle.bid_book.proofs.Numbers.{AreSmall}
 use Rattle.bid_book.proofs.Spelled.{line_append, numbers_line, name_line, small_supply, small_reserves, small_counts, book_word, supply_word, reserve_word, bidder_word, bid_word, end_word}
-use Rattle.bid_book.proofs.Growth.{listed, last_excess-push, bids_excess-push, last_lots-push, adds_one}
+use Rattle.bid_book.proofs.Growth.{listed, last_excess-push, bids_excess-push, last_lots-push, last_of, with_last, adds_one}
 use Rattle.bid_book.proofs.OneLine.{end_adds_none, supplies_one, reserves_one, new_one}
 
 abbrev pub begin : Stage
@@ -91,6 +91,18 @@ front_of (Ended book) sound = record { book = book; count = length (lines book);
 
 -- the stages go over the lines of a book
 
+bid_added_line : (book : Book) (front : List Bidder) (name : List ℕ) (had : List BookBid) (b : BookBid) → IsBid book.supply book.reserves (last_lots (empty_package book.supply) had) b
+    → AddsBid (with_bidders book (front ++ bidder_with name had ∷ [])) (with_bidders book (front ++ bidder_with name (had ++ b ∷ []) ∷ [])) (bid_line 0 b).0
+bid_added_line book front name had b is =
+    let old = with_bidders book (front ++ bidder_with name had ∷ []) in
+    record {
+      bid = b;
+      some = omega (arith, length-append front (bidder_with name had ∷ []));
+      spelled = refl;
+      valid = subst (λ (x : Bidder). IsBid book.supply book.reserves (last_lots (empty_package book.supply) x.bids) b) (sym (last_of old front (bidder_with name had) refl)) is;
+      new_is = sym (with_last old front (bidder_with name had) b refl);
+    }
+
 bids_run : (book : Book) (front : List Bidder) (name : List ℕ) (had bs : List BookBid) → IsOffer book.supply
     → AreBids book.supply book.reserves (last_lots (empty_package book.supply) had) bs
     → Runs Step excess (Listing (with_bidders book (front ++ bidder_with name had ∷ []))) (bid_lines (length had) bs) (Listing (with_bidders book (front ++ bidder_with name (had ++ bs) ∷ [])))
@@ -105,7 +117,7 @@ bids_run book front name had (b ∷ bs) supply all =
       line_append (codes "bid") (numbers_text (b.lots ++ b.amount ∷ [])) bid_word (numbers_line _ small),
       inr (
         with_bidders book (front ++ bidder_with name (had ++ b ∷ []) ∷ []),
-        inr (record { front = front; bidder = bidder_with name had; bid = b; last = refl; spelled = refl; valid = all.0; new_is = refl }),
+        inr (bid_added_line book front name had b all.0),
         refl,
       ),
       mark,

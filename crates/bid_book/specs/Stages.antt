@@ -1,8 +1,8 @@
 -- The stages of reading a book, and which lines bring the reader from one to the next. They serve the reader's own
 -- contracts; what bytes say of a book is said without them.
-use Rattle.std.specs.Prelude.{◌≡◌, ◌≢◌, ◌⊎◌, ℕ, ◌+◌, Option, None, List, [], ◌∷◌, ◌++◌, codes, length}
+use Rattle.std.specs.Prelude.{◌≡◌, ◌≢◌, ◌⊎◌, ℕ, ◌+◌, ◌-◌, ◌<◌, Option, None, List, [], ◌∷◌, ◌++◌, codes, length, slice_set}
 use Rattle.std.specs.List.{AllByRecursion}
-use Rattle.auction_model.specs.Book.{BookBid, Bidder, Book}
+use Rattle.auction_model.specs.Book.{BookBid, Bidder, Book, bidder_of, bids_of}
 use Rattle.auction_text.specs.BookForm.{IsName, IsOffer, AreReserves, IsBid, empty_package}
 use Rattle.auction_text.specs.BookLines.{Excess, supply_excess, bidder_excess, bid_excess, supply_line, reserve_line, bidder_line, bid_line}
 use Rattle.bid_book.specs.declared.read.Stage.{Stage}
@@ -31,15 +31,26 @@ pub record AddsBidder (old new : Book) (line : List ℕ) : Type 0 where
   pub unused : AllByRecursion (λ b. b.name ≢ name) old.bidders
   pub new_is : new ≡ with_bidders old (old.bidders ++ bidder_with name [] ∷ [])
 
--- the line of a bid: the book with that bid of its last bidder
+-- the bids of the last bidder, and the package that comes before the next of them
+abbrev pub last_bids : Book → List BookBid
+last_bids book = bids_of book (length book.bidders)
+
+abbrev pub lots_before : Book → List ℕ
+lots_before book = last_lots (empty_package book.supply) (last_bids book)
+
+-- the book with a bid more of its last bidder
+abbrev pub with_bid : Book → BookBid → Book
+with_bid book bid =
+    let bidder = bidder_with (bidder_of book (length book.bidders)).name (last_bids book ++ bid ∷ []) in
+    with_bidders book (slice_set book.bidders (length book.bidders - 1) bidder)
+
+-- the line of a bid: the book with that bid
 pub record AddsBid (old new : Book) (line : List ℕ) : Type 0 where
-  pub front : List Bidder
-  pub bidder : Bidder
   pub bid : BookBid
-  pub last : old.bidders ≡ front ++ bidder ∷ []
+  pub some : 0 < length old.bidders
   pub spelled : line ≡ (bid_line 0 bid).0
-  pub valid : IsBid old.supply old.reserves (last_lots (empty_package old.supply) bidder.bids) bid
-  pub new_is : new ≡ with_bidders old (front ++ bidder_with bidder.name (bidder.bids ++ bid ∷ []) ∷ [])
+  pub valid : IsBid old.supply old.reserves (lots_before old) bid
+  pub new_is : new ≡ with_bid old bid
 
 abbrev pub Adds : Book → Book → List ℕ → Type 0
 Adds old new line = AddsBidder old new line ⊎ AddsBid old new line

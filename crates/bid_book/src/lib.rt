@@ -2,13 +2,17 @@
 #![tactic(auto)]
 
 mod book;
+mod entries;
+mod fields;
+mod head;
 mod laws;
 mod name;
 mod read;
+mod stop;
 
 pub use auction_text::LimitKind;
 pub use book::BidBook;
-pub use laws::one_book;
+pub use laws::{one_book, one_text};
 pub use name::Name;
 pub use read::read_book;
 
@@ -22,3 +26,6 @@ pub enum BookStop {
     /// There was no memory.
     Memory,
 }
+
+#[cfg(test)]
+mod tests;
