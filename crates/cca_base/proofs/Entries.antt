@@ -1,5 +1,5 @@
 -- Lists of entries that have names: one entry is looked up, and one is changed.
-use Rattle.std.proofs.Common.{◌≡◌, ◌≢◌, ℕ, suc, ◌+◌, ◌≤◌, ◌<◌, Bool, true, false, not, cond, Option, Some, None, List, [], ◌∷◌, length, get_or, find, is_some, unwrap_or, take, ◌||◌, ◌++◌, AllPairs, refl, sym, ap, ◌∙◌, arith}
+use Rattle.std.proofs.Common.{◌≡◌, ◌≢◌, ℕ, suc, ◌+◌, ◌≤◌, ◌<◌, Bool, true, false, not, cond, Option, Some, List, [], ◌∷◌, length, get_or, find, is_some, unwrap_or, take, ◌||◌, ◌++◌, AllPairs, refl, sym, ap, ◌∙◌, arith}
 use Rattle.std.proofs.Math.ListN.{set}
 use Rattle.std.specs.List.{position_or_len, position, list_any}
 use Rattle.std.specs.Option.{option_map_or}

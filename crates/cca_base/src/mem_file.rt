@@ -91,8 +91,8 @@ fn extend(alloc: Global, bytes: &mut Option<Vec<u8>>, piece: &[u8]) -> Result<()
     }
 }
 
-// Adds a piece to the file of this name, which is made where it is missing. Where memory wants, a failed
-// append is counted in place of that.
+// Adds a piece to the file of this name, which is made where it is missing. For want of memory it counts a
+// failed append instead.
 pub(crate) fn add_to(
     alloc: Global,
     files: &mut [MemFile],

@@ -1,7 +1,6 @@
-use Rattle.std.proofs.Common.{rules, arith, ◌≡◌, ◌++◌, ℕ, List, length, unwrap_or, get_or, [], Some, Option, refl, sym, ap, ◌∙◌}
+use Rattle.std.proofs.Common.{rules, arith, ◌≡◌, ◌++◌, ℕ, List, unwrap_or, get_or, [], Some, Option, refl, ap, ◌∙◌}
 use Rattle.std.specs.Option.{option_map_or}
-use Rattle.cca_base.specs.Files.{KeepsFiles, Becomes}
-use Rattle.cca_base.specs.MemFiles.{mem_folder, bytes_in, content}
+use Rattle.cca_base.specs.MemFiles.{bytes_in}
 use Rattle.cca_base.specs.declared.mem_file.MemFile.{MemFile}
 use Rattle.cca_base.proofs.Entries.{set_changes, views_same, counts_only, counts_rose}
 use Rattle.cca_base.proofs.MemEntries.{name_of, mem_keeps, mem_becomes, held_is}

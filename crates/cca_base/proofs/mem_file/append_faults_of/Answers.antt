@@ -1,4 +1,4 @@
-use Rattle.std.proofs.Common.{ℕ, Option, sym, ap}
+use Rattle.std.proofs.Common.{Option, sym, ap}
 use Rattle.std.specs.Option.{option_map_or}
 use Rattle.cca_base.specs.declared.mem_file.MemFile.{MemFile}
 use Rattle.cca_base.proofs.Entries.{entry_here}

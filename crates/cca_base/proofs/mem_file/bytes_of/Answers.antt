@@ -1,14 +1,8 @@
-use Rattle.std.proofs.Common.{rules, ◌≡◌, ◌≤◌, ◌<◌, ◌++◌, ◌-◌, ◌+◌, ◌^◌, ℕ, List, length, min, take, drop, unwrap_or, is_some, find, string_bytes, [], Some, None, IsTrue, OnOk, OnErr, Bool, true, false, get_or, refl, sym, ap, ◌∙◌, arith, Bor, MutBor, Option, Vec, Global}
-use Rattle.std.specs.List.{position_or_len, position}
-use Rattle.std.specs.Option.{option_map, option_map_or, option_and_then}
-use Rattle.std.specs.Str.{bytes_eq}
-use Rattle.std.proofs.Math.ListN.{set}
-use Rattle.cca_base.specs.Faults.{Rose}
-use Rattle.cca_base.specs.Files.{KeepsFiles, CountsOnly, Becomes}
-use Rattle.cca_base.specs.MemFiles.{entry, mem_folder, content}
-use Rattle.cca_base.specs.declared.mem_file.MemFile.{MemFile}
+use Rattle.std.proofs.Common.{ℕ, Some, sym, ap, ◌∙◌, Vec, Global}
+use Rattle.std.specs.Option.{option_map, option_and_then}
+use Rattle.cca_base.specs.MemFiles.{content}
 use Rattle.cca_base.proofs.Entries.{entry_here}
-use Rattle.cca_base.proofs.MemEntries.{name_of, mem_keeps}
+use Rattle.cca_base.proofs.MemEntries.{name_of}
 use Rattle.cca_base.proofs.mem_file.bytes_of.Goals as goal
 
 pub returns-in-Some : goal.returns-in-Some

@@ -1,13 +1,7 @@
-use Rattle.std.proofs.Common.{rules, ◌≡◌, ◌≤◌, ◌<◌, ◌++◌, ◌-◌, ◌+◌, ◌^◌, ℕ, List, length, min, take, drop, unwrap_or, is_some, find, string_bytes, [], Some, None, IsTrue, OnOk, OnErr, Bool, true, false, get_or, refl, sym, ap, ◌∙◌, arith, Bor, MutBor, Option, Vec, Global}
-use Rattle.std.specs.List.{position_or_len, position}
-use Rattle.std.specs.Option.{option_map, option_map_or, option_and_then}
-use Rattle.std.specs.Str.{bytes_eq}
-use Rattle.std.proofs.Math.ListN.{set}
-use Rattle.cca_base.specs.Faults.{Rose}
-use Rattle.cca_base.specs.Files.{KeepsFiles, CountsOnly, Becomes}
-use Rattle.cca_base.specs.MemFiles.{entry, mem_folder, content}
+use Rattle.std.proofs.Common.{ℕ, refl, arith, Option}
+use Rattle.std.specs.Option.{option_map_or}
 use Rattle.cca_base.specs.declared.mem_file.MemFile.{MemFile}
-use Rattle.cca_base.proofs.Entries.{entry_here, set_changes, views_same, counts_only, counts_rose}
+use Rattle.cca_base.proofs.Entries.{set_changes, views_same, counts_only, counts_rose}
 use Rattle.cca_base.proofs.MemEntries.{name_of, mem_keeps}
 use Rattle.cca_base.proofs.mem_file.count_load_fault.Goals as goal
 

@@ -1,10 +1,8 @@
-use Rattle.std.proofs.Common.{◌≡◌, ◌++◌, ℕ, List, length, unwrap_or, [], Some, Option, refl, sym, ap, ◌∙◌, OnOk, OnErr}
+use Rattle.std.proofs.Common.{ℕ, Option, refl}
 use Rattle.std.specs.Option.{option_map_or}
-use Rattle.cca_base.specs.Files.{KeepsFiles, Becomes}
-use Rattle.cca_base.specs.MemFiles.{mem_folder, bytes_in}
 use Rattle.cca_base.specs.declared.mem_file.MemFile.{MemFile}
 use Rattle.cca_base.proofs.Entries.{set_changes, views_same}
-use Rattle.cca_base.proofs.MemEntries.{name_of, mem_keeps, mem_becomes, held_is}
+use Rattle.cca_base.proofs.MemEntries.{name_of, mem_becomes}
 use Rattle.cca_base.proofs.mem_file.set_bytes.Goals as goal
 
 pub returns-clause-set : goal.returns-clause-set

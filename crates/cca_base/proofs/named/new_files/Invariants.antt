@@ -1,4 +1,4 @@
-use Rattle.std.proofs.Common.{List, ℕ, All, take, string_bytes, String, Global}
+use Rattle.std.proofs.Common.{All, take, string_bytes, String, Global}
 use Rattle.cca_base.proofs.Entries.{AreNames, AreApart}
 use Rattle.cca_base.proofs.named.new_files.Given as goal
 
