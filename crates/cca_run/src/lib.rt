@@ -2,12 +2,14 @@
 #![tactic(auto)]
 
 mod book_file;
+mod laws;
 mod line;
 mod status;
 mod top;
 mod win;
 mod words;
 
+pub use laws::one_outcome;
 pub use status::{FileKind, Status};
 pub use top::run;
 
