@@ -7,15 +7,7 @@ use Rattle.auction_model.specs.Menu.{Menu, is_known_after, packages_after, fits_
 use Rattle.auction_model.specs.Book.{Book, menu_of, market_of, bids_of, net_of}
 use Rattle.auction_model.specs.Lawful.{IsMarket}
 use Rattle.auction_model.proofs.PackageLaws.{within-together}
-
-pub known-length : (m : Menu) (k : ℕ) (c : List ℕ) → IsTrue (is_known_after m k c) → k + length c ≡ m.bidders
-known-length m k [] t = omega (arith, eqb-true k m.bidders t)
-known-length m k (i ∷ c) t = omega (arith, known-length m (suc k) c (and_parts (nat_le i (m.bids (suc k))) (is_known_after m (suc k) c) t).1)
-
-pub known-at : (m : Menu) (k : ℕ) (c : List ℕ) (i : ℕ) → IsTrue (is_known_after m k c) → i < length c → get_or c i 0 ≤ m.bids (suc k + i)
-known-at m k [] i t h = absurd (omega arith)
-known-at m k (x ∷ c) zero t h = let same : suc k + 0 ≡ suc k = omega arith in rw same (leb-true x (m.bids (suc k)) (and_parts (nat_le x (m.bids (suc k))) (is_known_after m (suc k) c) t).0)
-known-at m k (x ∷ c) (suc i) t h = let same : suc k + suc i ≡ suc (suc k) + i = omega arith in rw same (known-at m (suc k) c i (and_parts (nat_le x (m.bids (suc k))) (is_known_after m (suc k) c) t).1 (omega arith))
+use Rattle.auction_model.proofs.ChoiceLaws.{known-length, known-at}
 
 pub fits-known : (m : Menu) (s c : List ℕ) → IsTrue (fits_after m 0 s c) → IsTrue (is_known_after m 0 c)
 fits-known m s c t = (and_parts (is_known_after m 0 c) (is_within (packages_after m 0 c) s) t).0

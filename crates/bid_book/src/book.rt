@@ -1,17 +1,18 @@
 // Books, and the calls that read them.
-ghost use Rattle.std.specs.Prelude.{◌≡◌, ℕ, ◌≤◌, ◌<◌, length};
+ghost use Rattle.std.specs.Prelude.{◌≡◌, ℕ, ◌≤◌, ◌<◌, [], ◌∷◌, ◌++◌, OnOk, length};
 ghost use Rattle.auction_model.specs.Book.{bidder_of, bids_of, bid_of, lots_of, net_of};
 ghost use Rattle.bid_book.specs.Kept.{IsBidBook};
 
 use crate::Name;
 use lots::{Bid, Supply};
+use std::alloc::{AllocError, Global};
 use std::marker::Model;
 
 /// A bid with its net amount.
 #[derive(Drop)]
 pub struct Entry {
-    bid: Bid,
-    net: i128,
+    pub bid: Bid,
+    pub net: i128,
 }
 
 /// A bidder with its bids, in the order of their packages.
@@ -44,6 +45,48 @@ impl Model for BidBook {
 }
 
 impl BidBook {
+    ghost use Rattle.auction_text.specs.BookForm.{AreReserves};
+    ghost use Rattle.auction_text.specs.BookLines.{IsBookWithinLimits};
+    ghost use Rattle.bid_book.specs.Fields.{HasNet, bid_value};
+    ghost use Rattle.lots.specs.Limits.{IsSupply};
+    ghost use Rattle.bid_book.specs.Stages.{bidder_with, opened, with_bid, with_bidders};
+
+    /// The book of this supply with these reserves, before its first bidder.
+    pub(crate) fn open(alloc: Global, supply: Supply, reserves: Vec<u64>) -> BidBook
+        requires supply { IsSupply supply }
+        requires reserves { AreReserves supply reserves.items }
+        ensures { result ≡ opened supply reserves.items }
+    {
+        BidBook {
+            supply,
+            reserves,
+            bidders: Vec::new(alloc),
+        }
+    }
+
+    /// Puts a bidder without bids behind the others.
+    pub(crate) fn add_bidder(&mut self, alloc: Global, name: Name) -> Result<(), AllocError>
+        requires { IsBookWithinLimits (with_bidders self.old (self.old.bidders ++ bidder_with name [] ∷ [])) }
+        ensures { OnOk result (self.new ≡ with_bidders self.old (self.old.bidders ++ bidder_with name [] ∷ [])) }
+    {
+        let bids = Vec::new(alloc);
+        self.bidders.push(BookBidder { name, bids })?;
+        Ok(())
+    }
+
+    /// Puts a bid behind those of the last bidder.
+    pub(crate) fn add_bid(&mut self, entry: Entry) -> Result<(), AllocError>
+        requires some { 0 < length self.old.bidders }
+        requires kept { IsBookWithinLimits (with_bid self.old (bid_value entry)) }
+        requires net { HasNet self.old.reserves entry }
+        ensures { OnOk result (self.new ≡ with_bid self.old (bid_value entry)) }
+    {
+        let last = self.bidders.len() - 1;
+        let bidder = &mut self.bidders[last];
+        bidder.bids.push(entry)?;
+        Ok(())
+    }
+
     /// What is sold.
     pub fn supply(&self) -> &Supply
         ensures supply { result.now ≡ self.now.supply }

@@ -2,11 +2,19 @@
 #![tactic(auto)]
 
 mod book;
+mod entries;
+mod fields;
+mod head;
+mod laws;
 mod name;
+mod read;
+mod stop;
 
 pub use auction_text::LimitKind;
 pub use book::BidBook;
+pub use laws::{one_book, one_text};
 pub use name::Name;
+pub use read::read_book;
 
 /// Why bytes are no book.
 #[derive(Clone, Copy, Debug, PartialEq, Eq)]
@@ -18,3 +26,6 @@ pub enum BookStop {
     /// There was no memory.
     Memory,
 }
+
+#[cfg(test)]
+mod tests;

@@ -1,11 +1,18 @@
 //! Packages of lots, supplies, and the places of a supply.
 #![tactic(auto)]
 
+ghost use Rattle.std.specs.Prelude.{◌≡◌};
+ghost use Rattle.lots.specs.declared.LotStop.TheVariants.{Memory};
+
+mod counts;
 mod package;
 mod places;
 mod supply;
+#[cfg(test)]
+mod tests;
 
 pub use package::{Bid, Package};
+use std::alloc::AllocError;
 pub use supply::Supply;
 
 /// Why counts make no package or no supply.
@@ -21,4 +28,12 @@ pub enum LotStop {
     States(u64),
     /// There was no memory.
     Memory,
+}
+
+impl From<AllocError> for LotStop {
+    ghost from_gives = { λ _ stop. stop ≡ Memory };
+
+    fn from(_error: AllocError) -> LotStop {
+        LotStop::Memory
+    }
 }

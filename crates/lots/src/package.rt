@@ -3,6 +3,7 @@ ghost use Rattle.std.specs.Prelude.{◌≡◌, ◌⊎◌, ℕ, ◌≤◌, ◌<�
 ghost use Rattle.auction_model.specs.Package.{is_within, cost_of};
 ghost use Rattle.lots.specs.Limits.{categories_stop, IsPackage};
 
+use crate::counts::{are_within, check_categories, cost_among, have_none};
 use crate::{LotStop, Supply};
 use std::alloc::Global;
 use std::marker::Model;
@@ -35,34 +36,57 @@ impl Package {
     /// The package of these counts. It stops at a number of categories that isn't 1 to 6.
     pub fn new(alloc: Global, counts: &[u16]) -> Result<Package, LotStop>
         ensures made { IfOk result (λ p. (p ≡ counts.now) × (categories_stop counts.now ≡ None)) }
-        ensures stopped { (stop : LotStop) → result ≡ Err stop → (stop ≡ LotStop.Memory) ⊎ (categories_stop counts.now ≡ Some stop) };
+        ensures stopped { (stop : LotStop) → result ≡ Err stop → (stop ≡ LotStop.Memory) ⊎ (categories_stop counts.now ≡ Some stop) }
+    {
+        check_categories(counts)?;
+        let counts = Vec::from_slice(alloc, counts)?;
+        Ok(Package { counts })
+    }
 
     /// How many categories there are.
     pub fn categories(&self) -> usize
         ensures count { result ≡ length self.now }
         ensures kept { IsPackage self.now }
+    {
+        self.counts.len()
+    }
 
     /// The count of a category, which is counted from 0.
     pub fn units(&self, category: usize) -> u16
         requires { category < length self.now }
         ensures { result ≡ slice_index self.now category }
+    {
+        self.counts[category]
+    }
 
     /// The counts, category by category.
     pub fn counts(&self) -> &[u16]
         ensures { result.now ≡ self.now }
+    {
+        &self.counts
+    }
 
     /// Whether all counts are 0.
     pub fn is_empty(&self) -> bool
         ensures { result ≡ is_within self.now [] }
+    {
+        have_none(&self.counts)
+    }
 
     /// The price of the package: the sum of price times count.
     pub fn cost(&self, prices: &[u64]) -> u64
         requires categories { length prices.now ≡ length self.now }
         requires most { All (λ p. p ≤ 2 ^ 36) prices.now }
         ensures { result ≡ cost_of prices.now self.now }
+    {
+        cost_among(prices, &self.counts)
+    }
 
     /// Whether no count is above that of the supply.
     pub fn fits(&self, supply: &Supply) -> bool
         requires { length self.now ≡ length supply.now }
         ensures { result ≡ is_within self.now supply.now }
+    {
+        are_within(&self.counts, supply.counts())
+    }
 }

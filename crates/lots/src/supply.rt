@@ -4,6 +4,7 @@ ghost use Rattle.auction_model.specs.Package.{is_within, less};
 ghost use Rattle.auction_model.specs.Place.{states_of, place_of, left_at, widths_of};
 ghost use Rattle.lots.specs.Limits.{supply_stop, IsSupply};
 
+use crate::counts::check_supply;
 use crate::places::{place_among, place_less, widths_among};
 use crate::{LotStop, Package};
 use std::alloc::Global;
@@ -34,31 +35,56 @@ impl Supply {
     /// The supply of these counts. It stops at the first rule that they break, in the order of `LotStop`.
     pub fn new(alloc: Global, counts: &[u16]) -> Result<Supply, LotStop>
         ensures made { IfOk result (λ s. (s ≡ counts.now) × (supply_stop counts.now ≡ None)) }
-        ensures stopped { (stop : LotStop) → result ≡ Err stop → (stop ≡ LotStop.Memory) ⊎ (supply_stop counts.now ≡ Some stop) };
+        ensures stopped { (stop : LotStop) → result ≡ Err stop → (stop ≡ LotStop.Memory) ⊎ (supply_stop counts.now ≡ Some stop) }
+    {
+        let states = check_supply(counts)?;
+        let widths = widths_among(alloc, counts, states)?;
+        let counts = Vec::from_slice(alloc, counts)?;
+        Ok(Supply {
+            counts,
+            states,
+            widths,
+        })
+    }
 
     /// How many categories there are.
     pub fn categories(&self) -> usize
         ensures count { result ≡ length self.now }
         ensures kept { IsSupply self.now }
+    {
+        self.counts.len()
+    }
 
     /// The count of a category, which is counted from 0.
     pub fn units(&self, category: usize) -> u16
         requires { category < length self.now }
         ensures { result ≡ slice_index self.now category }
+    {
+        self.counts[category]
+    }
 
     /// The counts, category by category.
     pub fn counts(&self) -> &[u16]
         ensures counts { result.now ≡ self.now }
         ensures kept { IsSupply self.now }
+    {
+        &self.counts
+    }
 
     /// How many places one count of each category spans.
     pub fn widths(&self) -> &[usize]
         ensures { result.now ≡ widths_of self.now }
+    {
+        &self.widths
+    }
 
     /// How many states there are: the product of the counts, each one more.
     pub fn states(&self) -> usize
         ensures states { result ≡ states_of self.now }
         ensures most { result ≤ 4096 }
+    {
+        self.states
+    }
 
     /// The place of a package that fits. The whole supply has the last place, `states - 1`.
     pub fn place(&self, package: &Package) -> usize
@@ -66,6 +92,9 @@ impl Supply {
         requires fits { IsTrue (is_within «package».now self.now) }
         ensures place { result ≡ place_of self.now «package».now }
         ensures below { result < states_of self.now }
+    {
+        place_among(&self.counts, package.counts())
+    }
 
     /// The place of what the package leaves of the supply of a place, or None where the package exceeds that.
     pub fn minus(&self, place: usize, package: &Package) -> Option<usize>
@@ -75,4 +104,7 @@ impl Supply {
         ensures left { IfSome result (λ p. p ≡ place_of self.now (less (left_at self.now place) «package».now)) }
         ensures below { IfSome result (λ p. p < states_of self.now) }
         ensures exceeds { IfNone result (IsFalse (is_within «package».now (left_at self.now place))) }
+    {
+        place_less(&self.counts, self.states, place, package.counts())
+    }
 }

@@ -78,6 +78,20 @@ impl NumList {
         Ok(())
     }
 
+    /// The list of these numbers. It takes no memory.
+    pub fn from_vec(numbers: Vec<i128>) -> Self
+        ensures { result ≡ numbers.items }
+    {
+        NumList { numbers }
+    }
+
+    /// The numbers as a `Vec`. It takes no memory.
+    pub fn into_vec(self) -> Vec<i128>
+        ensures { result.items ≡ self }
+    {
+        self.numbers
+    }
+
     /// The numbers in order.
     pub fn items(&self) -> &[i128]
         ensures { result.now ≡ self.now }

@@ -1,0 +1,39 @@
+-- Why a line is not taken, and what the numbers of a line are.
+use Rattle.std.specs.Prelude.{◌≡◌, ◌≢◌, ℕ, ◌≤◌, ◌^◌, List, [], ◌∷◌, ◌++◌}
+use Rattle.std.specs.List.{AllByRecursion}
+use Rattle.auction_text.specs.declared.LimitKind.TheVariants.{Categories, Lots, States}
+use Rattle.lots.specs.declared.LotStop.{LotStop}
+use Rattle.lots.specs.declared.LotStop.TheVariants as lots
+use Rattle.bid_book.specs.declared.BookStop.{BookStop}
+use Rattle.bid_book.specs.declared.BookStop.TheVariants as book
+use Rattle.bid_book.specs.declared.stop.LineStop.{LineStop}
+use Rattle.bid_book.specs.declared.stop.LineStop.TheVariants.{Form, Limit, Memory}
+
+-- the numbers of a book's lines: none is above 2 ^ 42
+abbrev pub AreNumbers : List ℕ → Type 0
+AreNumbers ns = AllByRecursion (λ n. n ≤ 2 ^ 42) ns
+
+-- nothing, or a space first
+abbrev pub Stops : List ℕ → Type 0
+Stops [] = Unit {0}
+Stops (c ∷ cs) = c ≡ 32
+
+-- the text is a space, a field without spaces, and what follows it
+pub record IsField (text field more : List ℕ) : Type 0 where
+  pub spelled : text ≡ 32 ∷ field ++ more
+  pub own : AllByRecursion (λ c. c ≢ 32) field
+  pub stops : Stops more
+
+-- a count without lots is a fault of form
+abbrev pub line_stop : LotStop → LineStop
+line_stop (lots.Categories count) = Limit Categories count
+line_stop (lots.Zero category) = Form
+line_stop (lots.Lots count) = Limit Lots count
+line_stop (lots.States count) = Limit States count
+line_stop lots.Memory = Memory
+
+-- the stop of the reader at the line that begins at this place
+abbrev pub book_stop : LineStop → ℕ → BookStop
+book_stop Form place = book.Form place
+book_stop (Limit kind count) place = book.Limit kind count
+book_stop Memory place = book.Memory

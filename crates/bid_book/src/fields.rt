@@ -1,0 +1,137 @@
+// The fields of a line.
+ghost use Rattle.std.specs.Prelude.{IfNone, IfOk, IfSome, IsTrue, List, drop, length, take, ℕ, ◌++◌, ◌^◌, ◌∷◌, ◌↔◌, ◌≡◌, ◌≢◌, ◌≤◌};
+ghost use Rattle.std.specs.List.{AllByRecursion};
+ghost use Rattle.std.specs.Fmt.{decimal};
+ghost use Rattle.auction_text.specs.BookForm.{IsName, IsNameByte};
+ghost use Rattle.auction_text.specs.BookLines.{numbers_text};
+ghost use Rattle.bid_book.specs.Stops.{AreNumbers, IsField, Stops};
+
+use crate::LimitKind;
+use crate::stop::LineStop;
+use std::alloc::Global;
+use wide_num::read_natural;
+
+/// The greatest number of a book, which is the greatest amount.
+const MOST_AMOUNT: u128 = 1 << 42;
+
+/// The most lots that a category may have in a text.
+const MOST_COUNT: u64 = 999;
+
+/// The most bytes of a name behind its first.
+const MORE_NAME_BYTES: usize = 19;
+
+/// The numbers of a line behind its word, each behind one space.
+pub fn numbers_behind(alloc: Global, word: &[u8], line: &[u8]) -> Result<Vec<u64>, LineStop>
+    ensures ok { IfOk result (λ v. AreNumbers v.items × (line.now ≡ word.now ++ numbers_text v.items)) }
+    ensures form { result ≡ Err LineStop.Form → (ns : List ℕ) → AreNumbers ns → line.now ≡ word.now ++ numbers_text ns → ⊥ }
+    ensures no_limit { (kind : LimitKind) (count : ℕ) → result ≡ Err (LineStop.Limit kind count) → ⊥ }
+{
+    match line.strip_prefix(word) {
+        Some(fields) => read_numbers(alloc, fields),
+        None => Err(LineStop::Form),
+    }
+}
+
+/// The numbers of a text in which one space stands before each.
+fn read_numbers(alloc: Global, text: &[u8]) -> Result<Vec<u64>, LineStop>
+    ensures ok { IfOk result (λ v. AreNumbers v.items × (text.now ≡ numbers_text v.items)) }
+    ensures form { result ≡ Err LineStop.Form → (ns : List ℕ) → AreNumbers ns → text.now ≡ numbers_text ns → ⊥ }
+    ensures no_limit { (kind : LimitKind) (count : ℕ) → result ≡ Err (LineStop.Limit kind count) → ⊥ }
+{
+    let mut numbers = Vec::new(alloc);
+    let mut rest = text;
+    while let Some((field, more)) = first_field(rest) {
+        let Some(number) = read_number(field) else {
+            return Err(LineStop::Form);
+        };
+        numbers.push(number)?;
+        rest = more;
+    }
+    if !rest.is_empty() {
+        return Err(LineStop::Form);
+    }
+    Ok(numbers)
+}
+
+/// The first field of a text, which has to stand behind a space, and what follows it.
+fn first_field(text: &[u8]) -> Option<(&[u8], &[u8])>
+    ensures found { IfSome result (λ parts. IsField text.now parts.0.now parts.1.now) }
+    ensures none { IfNone result ((behind : List ℕ) → text.now ≡ 32 ∷ behind → ⊥) }
+{
+    match text {
+        [b' ', behind @ ..] => Some(behind.split_at(field_len(behind))),
+        _ => None,
+    }
+}
+
+/// How many bytes stand before the first space.
+fn field_len(text: &[u8]) -> usize
+    ensures within { result ≤ length text.now }
+    ensures own { AllByRecursion (λ c. c ≢ 32) (take result text.now) }
+    ensures stops { Stops (drop result text.now) }
+{
+    for (i, c) in text.iter().enumerate() {
+        if *c == b' ' {
+            return i;
+        }
+    }
+    text.len()
+}
+
+/// The number that a field spells, where it is one of a book.
+fn read_number(field: &[u8]) -> Option<u64>
+    ensures found { IfSome result (λ n. (n ≤ 2 ^ 42) × (field.now ≡ decimal n)) }
+    ensures none { IfNone result ((n : ℕ) → n ≤ 2 ^ 42 → field.now ≡ decimal n → ⊥) }
+{
+    match read_natural(field) {
+        Some(n) if n <= MOST_AMOUNT => Some(n as u64),
+        _ => None,
+    }
+}
+
+/// The numbers as counts of lots.
+pub fn lot_counts(alloc: Global, numbers: &[u64]) -> Result<Vec<u16>, LineStop>
+    ensures ok { IfOk result (λ v. (v.items ≡ numbers.now) × AllByRecursion (λ n. n ≤ 999) numbers.now) }
+    ensures form { result ≡ Err LineStop.Form → AllByRecursion (λ n. n ≤ 999) numbers.now → ⊥ }
+    ensures no_limit { (kind : LimitKind) (count : ℕ) → result ≡ Err (LineStop.Limit kind count) → ⊥ }
+{
+    let mut counts = Vec::with_capacity(alloc, numbers.len())?;
+    for number in numbers {
+        if *number > MOST_COUNT {
+            return Err(LineStop::Form);
+        }
+        counts.push(*number as u16)?;
+    }
+    Ok(counts)
+}
+
+/// Whether the bytes are a name.
+pub fn is_name(text: &[u8]) -> bool
+    ensures { IsTrue result ↔ IsName text.now }
+{
+    match text {
+        [first, rest @ ..] => first.is_ascii_lowercase()
+            && are_name_bytes(rest)
+            && rest.len() <= MORE_NAME_BYTES,
+        [] => false,
+    }
+}
+
+/// Whether each byte may stand in a name.
+fn are_name_bytes(bytes: &[u8]) -> bool
+    ensures { IsTrue result ↔ AllByRecursion IsNameByte bytes.now }
+{
+    for c in bytes {
+        if !is_name_byte(*c) {
+            return false;
+        }
+    }
+    true
+}
+
+/// Whether the byte may stand in a name.
+fn is_name_byte(c: u8) -> bool
+    ensures { IsTrue result ↔ IsNameByte c }
+{
+    c.is_ascii_lowercase() || c.is_ascii_digit() || c == b'_'
+}

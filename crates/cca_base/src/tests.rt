@@ -1,0 +1,109 @@
+// Calls with ample memory, with answers found by hand.
+use crate::{
+    Files, MemFiles, MemSink, ReadStop, RealFiles, RealSink, Sink, WriteStop, read_all, write_sink,
+};
+use std::test::Fail;
+use std::{env, fs, process};
+
+#[test]
+fn reads_a_file_piece_by_piece(rt: HostRuntime) -> Result<(), Fail> {
+    let alloc = rt.alloc();
+    let names = [String::from_str(alloc, "book")?];
+    let mut files = MemFiles::new(alloc, &names, 3)?;
+    files.set("book", b"abcdefgh")?;
+    let bytes = read_all(alloc, &mut files, "book", 8)?;
+    assert_eq!(rt; bytes.as_slice(), b"abcdefgh".as_slice());
+    assert_eq!(rt; files.loads, 4);
+    assert!(rt;
+        matches!(
+            read_all(alloc, &mut files, "book", 7),
+            Err(ReadStop::TooLong)
+        )
+    );
+    assert_eq!(rt; files.load_faults("book"), 0);
+    Ok(())
+}
+
+#[test]
+fn stops_at_a_load_that_fails(rt: HostRuntime) -> Result<(), Fail> {
+    let alloc = rt.alloc();
+    let names = [
+        String::from_str(alloc, "book")?,
+        String::from_str(alloc, "log")?,
+    ];
+    let mut files = MemFiles::new(alloc, &names, 3)?;
+    assert!(rt; matches!(read_all(alloc, &mut files, "log", 8), Err(ReadStop::Fault)));
+    files.set("book", b"abcdefgh")?;
+    files.fail_loads.push(3)?;
+    assert!(rt; matches!(read_all(alloc, &mut files, "book", 8), Err(ReadStop::Fault)));
+    assert_eq!(rt; files.loads, 3);
+    assert_eq!(rt; files.load_faults("log"), 1);
+    assert_eq!(rt; files.load_faults("book"), 1);
+    assert_eq!(rt; files.append_faults("book"), 0);
+    Ok(())
+}
+
+#[test]
+fn makes_a_missing_file(rt: HostRuntime) -> Result<(), Fail> {
+    let alloc = rt.alloc();
+    let names = [
+        String::from_str(alloc, "cert")?,
+        String::from_str(alloc, "cert")?,
+    ];
+    let mut files = MemFiles::new(alloc, &names, 3)?;
+    assert_eq!(rt; files.files.len(), 1);
+    assert!(rt; files.bytes("cert").is_none());
+    files.fail_appends.push(2)?;
+    assert_eq!(rt; files.append("cert", b"hello")?, 3);
+    assert!(rt; files.append("cert", b"lo").is_err());
+    assert_eq!(rt; files.append("cert", b"lo")?, 2);
+    let bytes = files.bytes("cert").ok_or("missing")?;
+    assert_eq!(rt; bytes, b"hello".as_slice());
+    assert_eq!(rt; files.append_faults("cert"), 1);
+    Ok(())
+}
+
+#[test]
+fn writes_a_prefix(rt: HostRuntime) -> Result<(), Fail> {
+    let alloc = rt.alloc();
+    let mut out = MemSink::new(alloc, 3);
+    out.fail_puts.push(3)?;
+    assert_eq!(rt;
+        write_sink(&mut out, b"abcdefgh"),
+        Err(WriteStop::Fault { written: 6 })
+    );
+    assert_eq!(rt; out.bytes.as_slice(), b"abcdef".as_slice());
+    assert_eq!(rt; out.faults(), 1);
+    write_sink(&mut out, b"ghij")?;
+    assert_eq!(rt; out.bytes.as_slice(), b"abcdefghij".as_slice());
+    assert_eq!(rt; out.puts, 5);
+    Ok(())
+}
+
+#[test]
+fn prints(rt: HostRuntime) -> Result<(), Fail> {
+    let mut out = RealSink::new(&rt);
+    write_sink(&mut out, b"printed by a test\n")?;
+    assert_eq!(rt; out.faults(), 0);
+    Ok(())
+}
+
+#[test]
+fn reads_and_appends_real_files(rt: HostRuntime) -> Result<(), Fail> {
+    let alloc = rt.alloc();
+    let folder = env::temp_dir(&rt)?;
+    let number = process::id(rt.process());
+    let text = format!(in alloc; "{}/cca_base_{number}", folder.to_string_lossy())?;
+    let name = text.as_str();
+    let names = [String::from_str(alloc, name)?];
+    let mut files = RealFiles::new(alloc, &rt, &names)?;
+    assert!(rt; matches!(read_all(alloc, &mut files, name, 8), Err(ReadStop::Fault)));
+    assert_eq!(rt; files.load_faults(name), 1);
+    assert_eq!(rt; files.append(name, b"ab")?, 2);
+    assert_eq!(rt; files.append(name, b"cd")?, 2);
+    let bytes = read_all(alloc, &mut files, name, 4)?;
+    assert_eq!(rt; bytes.as_slice(), b"abcd".as_slice());
+    assert_eq!(rt; files.append_faults(name), 0);
+    fs::remove_file(&rt, name)?;
+    Ok(())
+}

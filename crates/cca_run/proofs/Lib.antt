@@ -1,0 +1,4 @@
+mod Judged
+mod OneOutcome
+mod Printed
+mod Winners

@@ -1,0 +1,5 @@
+use Rattle.cca_run.proofs.OneOutcome.{one-outcome}
+use Rattle.cca_run.proofs.laws.one_outcome.Goals as goal
+
+pub returns : goal.returns
+returns c = one-outcome c.one_book.ensures c.winning_choice.ensures.one c.book_market.ensures

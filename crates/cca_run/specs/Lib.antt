@@ -1,0 +1,5 @@
+pub mod Command
+pub mod Code
+pub mod StatusLine
+pub mod Outcome
+pub mod Stops

@@ -1,0 +1,86 @@
+// From the name of a book file to the text of its winners.
+ghost use Rattle.std.specs.Prelude.{◌≡◌, ◌⊎◌, ◌≤◌, ℕ, length, Some, IfOk, IsTrue};
+ghost use Rattle.line_text.specs.LineText.{stated};
+ghost use Rattle.cca_base.specs.Files.{KeepsFiles, CountsOnly};
+ghost use Rattle.cca_run.specs.Outcome.{book_bytes, WinGives, FileGives, done, stopped, IsStop, StopsBy};
+ghost use Rattle.cca_run.specs.Stops.{read_status, book_status};
+
+use crate::win::win_of;
+use crate::{FileKind, Status};
+use bid_book::{BidBook, BookStop, LimitKind, read_book};
+use cca_base::{Files, ReadStop, read_all};
+use std::alloc::Global;
+use wide_num::Text;
+
+// The most bytes of a book file.
+const BOOK_BYTES: u64 = 1 << 20;
+
+fn status_of_read(stop: ReadStop) -> Status
+    ensures { result ≡ read_status stop }
+{
+    match stop {
+        ReadStop::Fault => Status::ReadFault {
+            file: FileKind::Book,
+        },
+        ReadStop::TooLong => Status::Limit {
+            which: LimitKind::Bytes,
+            count: BOOK_BYTES + 1,
+        },
+        ReadStop::Memory => Status::Memory,
+    }
+}
+
+fn status_of_book(stop: BookStop) -> Status
+    ensures { result ≡ book_status stop }
+{
+    match stop {
+        BookStop::Form(place) => Status::Refused {
+            file: FileKind::Book,
+            place,
+            entry: 0,
+        },
+        BookStop::Limit(which, count) => Status::Limit { which, count },
+        BookStop::Memory => Status::Memory,
+    }
+}
+
+// The text of the winners of the book.
+fn print_winners(alloc: Global, book: &BidBook) -> Result<Text, Status>
+    ensures done { IfOk result (λ text. WinGives (stated book.now) (done text)) }
+    ensures stop { (s : Status) → result ≡ Err s → s ≡ Status.Memory }
+{
+    match win_of(alloc, book) {
+        Ok(text) => Ok(text),
+        Err(_) => Err(Status::Memory),
+    }
+}
+
+// The text of the winners of the book that the bytes state.
+fn judge(alloc: Global, bytes: &[u8]) -> Result<Text, Status>
+    requires { length bytes.now ≤ book_bytes }
+    ensures done { IfOk result (λ text. FileGives (Some bytes.now) (done text)) }
+    ensures stop { (s : Status) → result ≡ Err s → (s ≡ Status.Memory) ⊎ (IsStop s × FileGives (Some bytes.now) (stopped s)) }
+{
+    match read_book(alloc, bytes) {
+        Ok(book) => {
+            let text = print_winners(alloc, &book)?;
+            Ok(text)
+        }
+        Err(stop) => Err(status_of_book(stop)),
+    }
+}
+
+/// The text of the winners of the book in this file, or the status at which that stops.
+pub fn win_result<F: Files>(alloc: Global, files: &mut F, name: &str) -> Result<Text, Status>
+    requires { IsTrue ((F.folder files.old).knows name.now) }
+    ensures done { IsTrue (F.folder files.old).told → IfOk result (λ text. FileGives ((F.folder files.old).file name.now) (done text)) }
+    ensures stop { (s : Status) → result ≡ Err s → StopsBy (F.folder files.old).told ((F.folder files.old).file name.now) ((F.folder files.old).load_faults name.now) ((F.folder files.new).load_faults name.now) s }
+    ensures kept { KeepsFiles (F.folder files.old) (F.folder files.new) }
+    ensures count { CountsOnly name.now (F.folder files.old).load_faults (F.folder files.new).load_faults }
+    ensures appends { (F.folder files.new).append_faults ≡ (F.folder files.old).append_faults }
+{
+    match read_all(alloc, files, name, BOOK_BYTES) {
+        Ok(bytes) => judge(alloc, &bytes),
+        Err(stop) => Err(status_of_read(stop)),
+    }
+}

@@ -1,0 +1,16 @@
+// What holds of the definitions of a run, whoever runs it.
+ghost use Rattle.std.specs.Prelude.{◌≡◌, ℕ, List, Option};
+ghost use Rattle.cca_run.specs.Outcome.{Outcome, Gives};
+
+use auction_model::{book_market, winning_choice};
+use bid_book::one_book;
+
+/// The words and the bytes of the files give at most one result. So each status that is decided comes exactly where they
+/// give it.
+pub fn one_outcome()
+    ensures { (words : List (List ℕ)) (file : List ℕ → Option (List ℕ)) (o p : Outcome) → Gives words file o → Gives words file p → o ≡ p }
+{
+    one_book();
+    winning_choice();
+    book_market();
+}

@@ -1,0 +1,19 @@
+//! The top call: from words and files to what is printed.
+#![tactic(auto)]
+
+mod book_file;
+mod laws;
+mod line;
+mod status;
+mod top;
+mod win;
+mod words;
+
+pub use laws::one_outcome;
+pub use status::{FileKind, Status};
+pub use top::run;
+
+#[cfg(test)]
+mod listing_tests;
+#[cfg(test)]
+mod tests;

@@ -1,0 +1,236 @@
+// The top call on books with known winners, on faulty ones, and on faults of files and of the output; and the winners
+// beside a listing of all choices.
+ghost use Rattle.std.specs.Prelude.{◌<◌, length, IfOk, All, IsTrue, map, string_bytes};
+ghost use Rattle.cca_base.specs.MemFiles.{mem_folder};
+
+use crate::{FileKind, Status, run};
+use bid_book::LimitKind;
+use cca_base::{MemFiles, MemSink};
+use std::alloc::{AllocError, Global};
+use std::test::Fail;
+
+const DAY_CRAMTON: &str = "book 1\nsupply 1 1\nreserve 0 0\nbidder b1\nbid 1 0 28\nbidder b2\nbid 0 1 20\nbidder b3\nbid 1 1 32\nbidder b4\nbid 1 0 14\nbidder b5\nbid 0 1 12\nend\n";
+const NOBODY: &str = "book 1\nsupply 1\nreserve 0\nend\n";
+const AT_RESERVE: &str = "book 1\nsupply 1\nreserve 50\nbidder solo\nbid 1 50\nend\n";
+const LOCALS: &str = "book 1\nsupply 1 1 1\nreserve 0 0 0\nbidder l1\nbid 1 0 0 10\nbidder l2\nbid 0 1 0 10\nbidder l3\nbid 0 0 1 10\nbidder g\nbid 1 1 1 11\nend\n";
+const SPECTRUM: &str = "book 1\nsupply 4 1 14 9\nreserve 200000 250000 15000 100\nbidder p1\nbid 2 0 0 0 550000\nbidder p2\nbid 0 1 0 0 350000\nbidder p3\nbid 2 0 4 5 710500\nbidder p4\nbid 0 0 7 0 225000\nbidder p5\nbid 0 0 3 4 105400\nbidder p6\nbid 4 0 7 0 1285000\nend\n";
+const TIE: &str = "book 1\nsupply 2\nreserve 0\nbidder east\nbid 1 5\nbid 2 9\nbidder west\nbid 1 4\nend\n";
+const ELEVEN: &str = "book 1\nsupply 11\nreserve 0\nbidder c1\nbid 1 5\nbidder c2\nbid 1 5\nbidder c3\nbid 1 5\nbidder c4\nbid 1 5\nbidder c5\nbid 1 5\nbidder c6\nbid 1 5\nbidder c7\nbid 1 5\nbidder c8\nbid 1 5\nbidder c9\nbid 1 5\nbidder c10\nbid 1 5\nbidder c11\nbid 1 5\nend\n";
+const EQUALS: &str = "book 1\nsupply 1\nreserve 0\nbidder n1\nbid 1 9\nbidder n2\nbid 1 9\nbidder n3\nbid 1 9\nbidder n4\nbid 1 9\nend\n";
+const GREATEST: &str = "book 1\nsupply 7 7 7 7\nreserve 0 0 0 0\nend\n";
+const TOO_MANY_STATES: &str = "book 1\nsupply 7 7 7 8\nreserve 0 0 0 0\nend\n";
+const LEADING_ZERO: &str =
+    "book 1\nsupply 1 1\nreserve 0 0\nbidder east\nbid 1 0 028\nend\n";
+
+fn words_of(alloc: Global, words: &[&str]) -> Result<Vec<String>, AllocError> {
+    let mut list = Vec::new(alloc);
+    for word in words {
+        list.push(String::from_str(alloc, word)?)?;
+    }
+    Ok(list)
+}
+
+// Files that know the words.
+fn no_files(alloc: Global, words: &[String], bite: usize) -> Result<MemFiles, AllocError>
+    requires { 0 < bite }
+    ensures { IfOk result (λ files. All (λ w. IsTrue ((mem_folder files.files.items).knows w)) (map string_bytes words.now)) }
+{
+    let files = MemFiles::new(alloc, words, bite)?;
+    Ok(files)
+}
+
+// Files that know the words, of which the second names a file with these bytes.
+fn files_with(
+    alloc: Global,
+    words: &[String],
+    bite: usize,
+    bytes: &[u8],
+) -> Result<MemFiles, AllocError>
+    requires bite { 0 < bite }
+    requires words { 1 < length words.now }
+    ensures { IfOk result (λ files. All (λ w. IsTrue ((mem_folder files.files.items).knows w)) (map string_bytes words.now)) }
+{
+    let mut files = MemFiles::new(alloc, words, bite)?;
+    files.set(words[1].as_str(), bytes)?;
+    Ok(files)
+}
+
+fn files_of(
+    alloc: Global,
+    words: &[String],
+    bite: usize,
+    bytes: Option<&[u8]>,
+) -> Result<MemFiles, AllocError>
+    requires { 0 < bite }
+    ensures { IfOk result (λ files. All (λ w. IsTrue ((mem_folder files.files.items).knows w)) (map string_bytes words.now)) }
+{
+    match bytes {
+        Some(bytes) if words.len() > 1 => files_with(alloc, words, bite, bytes),
+        _ => no_files(alloc, words, bite),
+    }
+}
+
+// What a run over files in memory answers and prints. The load and the put of these numbers fail.
+fn run_on(
+    alloc: Global,
+    words: &[&str],
+    bytes: Option<&[u8]>,
+    fail_load: u64,
+    fail_put: u64,
+) -> Result<(Status, Vec<u8>), AllocError> {
+    let words = words_of(alloc, words)?;
+    let mut files = files_of(alloc, &words, 65_536, bytes)?;
+    files.fail_loads.push(fail_load)?;
+    let mut out = MemSink::new(alloc, 5);
+    out.fail_puts.push(fail_put)?;
+    let status = run(alloc, &words, &mut files, &mut out);
+    Ok((status, out.bytes))
+}
+
+#[test]
+fn prints_the_winners(rt: HostRuntime) -> Result<(), Fail> {
+    let table: [(&str, &str); 9] = [
+        (DAY_CRAMTON, "winner b1 1 0 28\nwinner b2 0 1 20\nnet 48\n"),
+        (NOBODY, "net 0\n"),
+        (AT_RESERVE, "winner solo 1 50\nnet 0\n"),
+        (
+            LOCALS,
+            "winner l1 1 0 0 10\nwinner l2 0 1 0 10\nwinner l3 0 0 1 10\nnet 30\n",
+        ),
+        (
+            SPECTRUM,
+            "winner p1 2 0 0 0 550000\nwinner p2 0 1 0 0 350000\nwinner p3 2 0 4 5 710500\nwinner p4 0 0 7 0 225000\nwinner p5 0 0 3 4 105400\nnet 680000\n",
+        ),
+        (TIE, "winner east 1 5\nwinner west 1 4\nnet 9\n"),
+        (
+            ELEVEN,
+            "winner c1 1 5\nwinner c2 1 5\nwinner c3 1 5\nwinner c4 1 5\nwinner c5 1 5\nwinner c6 1 5\nwinner c7 1 5\nwinner c8 1 5\nwinner c9 1 5\nwinner c10 1 5\nwinner c11 1 5\nnet 55\n",
+        ),
+        (EQUALS, "winner n1 1 9\nnet 9\n"),
+        (GREATEST, "net 0\n"),
+    ];
+    for (book, printed) in table {
+        let (status, bytes) = run_on(rt.alloc(), &["win", "BOOK"], Some(book.as_bytes()), 0, 0)?;
+        assert_eq!(rt; status, Status::Done);
+        assert_eq!(rt; bytes.as_slice(), printed.as_bytes());
+    }
+    Ok(())
+}
+
+fn refused(place: u64) -> Status {
+    Status::Refused {
+        file: FileKind::Book,
+        place,
+        entry: 0,
+    }
+}
+
+#[test]
+fn refuses_faulty_books(rt: HostRuntime) -> Result<(), Fail> {
+    let table: [(&str, Status, &str); 4] = [
+        (LEADING_ZERO, refused(42), "cca: refused book 42\n"),
+        ("", refused(0), "cca: refused book 0\n"),
+        (
+            "book 1\nsupply 1\nreserve 0\nend",
+            refused(26),
+            "cca: refused book 26\n",
+        ),
+        (
+            TOO_MANY_STATES,
+            Status::Limit {
+                which: LimitKind::States,
+                count: 4608,
+            },
+            "cca: limit states 4608\n",
+        ),
+    ];
+    for (book, expected, printed) in table {
+        let (status, bytes) = run_on(rt.alloc(), &["win", "BOOK"], Some(book.as_bytes()), 0, 0)?;
+        assert_eq!(rt; status, expected);
+        assert_eq!(rt; bytes.as_slice(), printed.as_bytes());
+    }
+    Ok(())
+}
+
+#[test]
+fn refuses_other_words(rt: HostRuntime) -> Result<(), Fail> {
+    let table: [&[&str]; 7] = [
+        &[],
+        &["check", "BOOK", "BOOK"],
+        &["win"],
+        &["win", ""],
+        &["win", "-BOOK"],
+        &["win", "BOOK", "BOOK"],
+        &["wins", "BOOK"],
+    ];
+    for words in table {
+        let (status, bytes) = run_on(rt.alloc(), words, Some(NOBODY.as_bytes()), 0, 0)?;
+        assert_eq!(rt; status, Status::Words);
+        assert_eq!(rt; bytes.as_slice(), b"cca: words\n".as_slice());
+    }
+    Ok(())
+}
+
+#[test]
+fn tells_faults(rt: HostRuntime) -> Result<(), Fail> {
+    let alloc = rt.alloc();
+    let long = vec![in alloc; b'x'; 1_048_577]?;
+    let book = Some(TIE.as_bytes());
+    let read_fault = Status::ReadFault {
+        file: FileKind::Book,
+    };
+    let write_fault = Status::WriteFault {
+        file: FileKind::Out,
+    };
+    let too_long = Status::Limit {
+        which: LimitKind::Bytes,
+        count: 1_048_577,
+    };
+    let table: [(Option<&[u8]>, u64, u64, Status, &str); 6] = [
+        (None, 0, 0, read_fault, "cca: read fault book\n"),
+        (book, 1, 0, read_fault, "cca: read fault book\n"),
+        (book, 2, 0, read_fault, "cca: read fault book\n"),
+        (book, 0, 1, write_fault, ""),
+        (book, 0, 3, write_fault, "winner eas"),
+        (Some(&long), 0, 0, too_long, "cca: limit bytes 1048577\n"),
+    ];
+    for (bytes, fail_load, fail_put, expected, printed) in table {
+        let (status, bytes) = run_on(alloc, &["win", "BOOK"], bytes, fail_load, fail_put)?;
+        assert_eq!(rt; status, expected);
+        assert_eq!(rt; bytes.as_slice(), printed.as_bytes());
+    }
+    Ok(())
+}
+
+#[test]
+fn ends_with_codes(rt: HostRuntime) {
+    let table: [(Status, u8); 8] = [
+        (Status::Done, 0),
+        (Status::No { test: 8, place: 2 }, 1),
+        (Status::Words, 2),
+        (refused(42), 3),
+        (
+            Status::ReadFault {
+                file: FileKind::Book,
+            },
+            4,
+        ),
+        (
+            Status::WriteFault {
+                file: FileKind::Cert,
+            },
+            5,
+        ),
+        (Status::Memory, 6),
+        (
+            Status::Limit {
+                which: LimitKind::Winners,
+                count: 11,
+            },
+            7,
+        ),
+    ];
+    for (status, code) in table {
+        assert_eq!(rt; status.code(), code);
+    }
+}

@@ -1,0 +1,53 @@
+// Choices.
+ghost use Rattle.std.specs.Prelude.{◌≡◌, ◌≤◌, ◌<◌, length};
+ghost use Rattle.auction_model.specs.Market.{number_of};
+
+use crate::Numbers;
+use std::marker::Model;
+
+/// A choice names for each bidder, in order, the number of one of its bids, or 0 for none. Bidders and bids are numbered
+/// from 1.
+#[derive(Debug, Drop)]
+pub struct Choice {
+    numbers: Numbers,
+}
+
+impl Model for Choice {
+    ghost use Rattle.std.specs.Prelude.{List, ℕ};
+
+    ghost Value = { List ℕ };
+
+    ghost view = { λ choice. choice.numbers };
+}
+
+impl Choice {
+    /// The choice of these numbers.
+    pub fn new(numbers: Numbers) -> Choice
+        ensures { result ≡ numbers }
+    {
+        Choice { numbers }
+    }
+
+    /// The number that bidder `j` is given.
+    pub fn number(&self, j: u16) -> u16
+        requires { (0 < j) × (j ≤ length self.now) }
+        ensures { result ≡ number_of self.now j }
+    {
+        let numbers = self.numbers();
+        numbers[j as usize - 1]
+    }
+
+    /// How many numbers there are.
+    pub fn count(&self) -> usize
+        ensures { result ≡ length self.now }
+    {
+        self.numbers().len()
+    }
+
+    /// The numbers, bidder by bidder.
+    pub fn numbers(&self) -> &[u16]
+        ensures { result.now ≡ self.now }
+    {
+        self.numbers.items()
+    }
+}

@@ -1,0 +1,46 @@
+// Lists of numbers of bids.
+ghost use Rattle.std.specs.Prelude.{◌≡◌, [], ◌∷◌, ◌++◌, OnOk, OnErr};
+
+use std::alloc::{AllocError, Global};
+use std::marker::Model;
+
+/// A list of numbers, as of those of bids.
+#[derive(Debug, Drop)]
+pub struct Numbers {
+    numbers: Vec<u16>,
+}
+
+impl Model for Numbers {
+    ghost use Rattle.std.specs.Prelude.{List, ℕ};
+
+    ghost Value = { List ℕ };
+
+    ghost view = { λ list. list.numbers.items };
+}
+
+impl Numbers {
+    /// The empty list. It takes no memory.
+    pub fn new(alloc: Global) -> Numbers
+        ensures { result ≡ [] }
+    {
+        Numbers {
+            numbers: Vec::new(alloc),
+        }
+    }
+
+    /// Appends one number. For want of memory the list stays as it is.
+    pub fn push(&mut self, item: u16) -> Result<(), AllocError>
+        ensures pushed { OnOk result (self.new ≡ self.old ++ item ∷ []) }
+        ensures unchanged { OnErr result (self.new ≡ self.old) }
+    {
+        self.numbers.push(item)?;
+        Ok(())
+    }
+
+    /// The numbers in order.
+    pub fn items(&self) -> &[u16]
+        ensures { result.now ≡ self.now }
+    {
+        self.numbers.as_slice()
+    }
+}

@@ -1,0 +1,30 @@
+use Rattle.std.proofs.Common.{◌≡◌, ◌∙◌, ◌+◌, refl, arith, rules}
+use Rattle.std.proofs.lemmas.Int.{to_z-of_z}
+use Rattle.auction_model.proofs.BidderLaws.{bidder-none, bidder-more, bidder-all}
+use Rattle.value_table.proofs.Sizes.{line-small}
+use Rattle.value_table.specs.Counted.{counted_bids, counted}
+use mir.Val.{SFits, to_z, of_z}
+use mir.Syntax.{w128}
+use Rattle.value_table.proofs.lines.count_bids.Goals as goal
+
+pub loop-i-init : goal.loop-i-init
+loop-i-init c =
+    let l = c.args.lowering.now in
+    bidder-none (counted_bids l) (counted l) l.book.now.supply c.args.j c.requires.bidder.0 c.args.below.now c.args.line.now (counted l c.args.j 0) refl refl c.requires.below c.requires.places c.requires.line
+
+pub add_bid-requires-clause-sizes : goal.add_bid-requires-clause-sizes
+add_bid-requires-clause-sizes c = line-small c.args.lowering.now c.args.j c.args.below.now c.requires.below
+
+pub loop-i-preserved : goal.loop-i-preserved
+loop-i-preserved c =
+    let l = c.args.lowering.now in
+    let worth_fits : SFits w128 c.worth-worth.result = search rules in
+    let worth : to_z w128 (of_z w128 c.worth-worth.result) ≡ counted l c.args.j (c.loop-i.i + 1) = to_z-of_z w128 c.worth-worth.result worth_fits ∙ c.worth-worth.ensures.worth in
+    bidder-more (counted_bids l) (counted l) l.book.now.supply c.args.j c.requires.bidder.0 c.loop-i.i c.args.below.now c.loop-i.line c.add_bid.new.line c.requires.below c.loop-i.invariant c.add_bid.auto.line
+    (λ s h. simp (c.supply.ensures.supply, c.bid-bid.ensures.lots, worth) at (c.add_bid.ensures s h))
+
+pub returns : goal.returns
+returns c =
+    let l = c.args.lowering.now in
+    let all : c.loop-i.i ≡ (counted_bids l).bids c.args.j = omega (arith, c.bids-i-end.ensures.bids) in
+    bidder-all (counted_bids l) (counted l) l.book.now.supply c.args.j c.requires.bidder.0 c.loop-i.line c.requires.bidder.1 (rw all at c.loop-i.invariant)

@@ -1,0 +1,24 @@
+-- What a lowering counts, and its lines and tables: words of private contracts.
+use Rattle.std.specs.Prelude.{ℕ, List, ℤ}
+use Rattle.auction_model.specs.Book.{net_of}
+use Rattle.auction_model.specs.Lowered.{lowered}
+use Rattle.auction_model.specs.Menu.{Menu}
+use Rattle.value_table.specs.BookTable.{menu_without, IsBookLine, AreBookLines, IsBookTable}
+use Rattle.value_table.specs.declared.lowering.Lowering.{Lowering}
+
+-- the bids that count
+abbrev pub counted_bids : Lowering → Menu
+counted_bids l = menu_without l.book.now l.skip
+
+-- what each counts, by its bidder and its number
+abbrev pub counted : Lowering → ℕ → ℕ → ℤ
+counted l = lowered l.den (net_of l.book.now) l.surplus.now
+
+abbrev pub IsCountedLine : Lowering → ℕ → List ℤ → Type 0
+IsCountedLine l k line = IsBookLine l.book.now l.skip l.den l.surplus.now k line
+
+abbrev pub AreCountedLines : Lowering → ℕ → ℕ → List (List ℤ) → Type 0
+AreCountedLines l last k lines = AreBookLines l.book.now l.skip l.den l.surplus.now last k lines
+
+abbrev pub IsCountedTable : Lowering → List (List ℤ) → Type 0
+IsCountedTable l table = IsBookTable l.book.now l.skip l.den l.surplus.now table

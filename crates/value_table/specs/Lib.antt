@@ -1,0 +1,3 @@
+pub mod BookTable
+pub mod Counted
+pub mod TableValue

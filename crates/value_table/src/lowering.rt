@@ -1,0 +1,66 @@
+// What bids count in a table.
+ghost use Rattle.std.specs.Prelude.{◌≡◌, ◌+◌, ◌*◌, ◌^◌, ◌≤◌, length, pos, neg_ℤ, ◌-ℤ◌, ◌*ℤ◌, unsigned_abs};
+ghost use Rattle.std.specs.Int.{int_max};
+ghost use Rattle.value_table.specs.BookTable.{IsInRange};
+
+use bid_book::BidBook;
+
+/// What the bids of a book count in a table. Bidder `skip` has no bids. A bid of another bidder counts `den` times its net
+/// amount less the surplus of its bidder. A bidder that isn't used counts its idle worth. A surplus is times `den`.
+#[derive(Drop)]
+pub struct Lowering<'a> {
+    pub book: &'a BidBook,
+    pub skip: u16,
+    pub den: i128,
+    pub surplus: &'a [i128],
+    pub ghost bidders: { length surplus.now ≡ length book.now.bidders },
+    pub ghost range: { IsInRange book.now skip den surplus.now },
+}
+
+impl<'a> Lowering<'a> {
+    ghost use Rattle.std.specs.Prelude.{◌<◌};
+    ghost use Rattle.auction_model.specs.Book.{bids_of};
+    ghost use Rattle.value_table.specs.Counted.{counted_bids, counted};
+
+    /// How many bids of bidder `j` count.
+    pub fn bids(&self, j: u16) -> u16
+        requires { (0 < j) × (j ≤ length self.now.book.now.bidders) }
+        ensures bids { result ≡ (counted_bids self.now).bids j }
+        ensures most { result ≤ length (bids_of self.now.book.now j) }
+    {
+        if j == self.skip { 0 } else { self.book.bids(j) }
+    }
+
+    /// What bid `i` of bidder `j` counts.
+    pub fn worth(&self, j: u16, i: u16) -> i128
+        requires bidder { (0 < j) × (j ≤ length self.now.book.now.bidders) }
+        requires bid { (0 < i) × (i ≤ (counted_bids self.now).bids j) }
+        ensures worth { result ≡ counted self.now j i }
+        ensures size { unsigned_abs result ≤ 2 ^ 120 }
+    {
+        lowered_worth(self.den, self.book.net(j, i), self.surplus[j as usize - 1])
+    }
+
+    /// What bidder `j` counts where it isn't used.
+    pub fn idle(&self, j: u16) -> i128
+        requires { (0 < j) × (j ≤ length self.now.book.now.bidders) }
+        ensures worth { result ≡ counted self.now j 0 }
+        ensures size { unsigned_abs result ≤ 2 ^ 120 }
+    {
+        idle_worth(self.surplus[j as usize - 1])
+    }
+}
+
+fn lowered_worth(den: i128, net: i128, surplus: i128) -> i128
+    requires { unsigned_abs den * unsigned_abs net + unsigned_abs surplus ≤ 2 ^ 120 }
+    ensures { result ≡ (den *ℤ net) -ℤ surplus }
+{
+    den * net - surplus
+}
+
+fn idle_worth(surplus: i128) -> i128
+    requires { unsigned_abs surplus ≤ 2 ^ 120 }
+    ensures { result ≡ int_max (pos 0) (neg_ℤ surplus) }
+{
+    if surplus < 0 { -surplus } else { 0 }
+}

@@ -1,0 +1,106 @@
+// Counting one bid in a line, run by run. In one category, block `q` of a line has the places with `q` lots of that category
+// left, and a bid of `count` lots raises block `q` from block `q - count` of the line below.
+ghost use Rattle.std.specs.Prelude.{◌≡◌, ℕ, ◌^◌, ◌≤◌, ◌<◌, length, slice_index_or, pos, ◌+ℤ◌, unsigned_abs};
+ghost use Rattle.std.specs.Int.{int_max};
+ghost use Rattle.auction_model.specs.Package.{IsNothingFrom};
+ghost use Rattle.auction_model.specs.Place.{states_of, widths_of};
+ghost use Rattle.auction_model.specs.Steps.{raised};
+
+use lots::{Package, Supply};
+
+/// Raises each number of `line` to that of `below` with the worth, where it is smaller.
+fn raise_run(line: &mut [i128], below: &[i128], worth: i128)
+    requires places { length line.old ≡ length below.now }
+    requires worth { unsigned_abs worth ≤ 2 ^ 120 }
+    requires sizes { (s : ℕ) → unsigned_abs (slice_index_or below.now s (pos 0)) ≤ 2 ^ 120 }
+    ensures { (s : ℕ) → s < length line.old → slice_index_or line.new s (pos 0) ≡ int_max (slice_index_or line.old s (pos 0)) (worth +ℤ slice_index_or below.now s (pos 0)) }
+{
+    for i in 0..line.len() {
+        let sum = worth + below[i];
+        if line[i] < sum {
+            line[i] = sum;
+        }
+    }
+}
+
+/// Counts one more bid in the places of some categories.
+fn raise_block(
+    supply: &[u16],
+    widths: &[usize],
+    counts: &[u16],
+    line: &mut [i128],
+    below: &[i128],
+    worth: i128,
+)
+    requires widths { widths.now ≡ widths_of supply.now }
+    requires some { 0 < length counts.now }
+    requires categories { length counts.now ≤ length supply.now }
+    requires states { states_of supply.now ≤ 4096 }
+    requires places { length below.now ≡ states_of supply.now }
+    requires line { length line.old ≡ states_of supply.now }
+    requires worth { unsigned_abs worth ≤ 2 ^ 120 }
+    requires sizes { (s : ℕ) → unsigned_abs (slice_index_or below.now s (pos 0)) ≤ 2 ^ 120 }
+    ensures { (s : ℕ) → s < length line.old → slice_index_or line.new s (pos 0) ≡ raised supply.now below.now counts.now worth s (slice_index_or line.old s (pos 0)) }
+{
+    let width = widths[0];
+    let count = counts[0] as usize;
+    if counts.len() == 1 {
+        let from = count * width;
+        let all = line.len();
+        if from < all {
+            raise_run(&mut line[from..], &below[..all - from], worth);
+        }
+    } else {
+        for block in count..supply[0] as usize + 1 {
+            let to = block * width;
+            let from = (block - count) * width;
+            raise_block(
+                &supply[1..],
+                &widths[1..],
+                &counts[1..],
+                &mut line[to..to + width],
+                &below[from..from + width],
+                worth,
+            );
+        }
+    }
+}
+
+/// How many categories there are up to the last of which a package has some, and at least one.
+fn used_categories(counts: &[u16]) -> usize
+    requires { 0 < length counts.now }
+    ensures some { 0 < result }
+    ensures most { result ≤ length counts.now }
+    ensures rest { IsNothingFrom result counts.now }
+{
+    let mut used = 1;
+    for i in 1..counts.len() {
+        if counts[i] != 0 {
+            used = i + 1;
+        }
+    }
+    used
+}
+
+/// Counts one more bid in each entry of the line.
+pub fn add_bid(supply: &Supply, line: &mut [i128], below: &[i128], lots: &Package, worth: i128)
+    requires places { length below.now ≡ states_of supply.now }
+    requires line { length line.old ≡ states_of supply.now }
+    requires categories { length lots.now ≡ length supply.now }
+    requires worth { unsigned_abs worth ≤ 2 ^ 120 }
+    requires sizes { (s : ℕ) → unsigned_abs (slice_index_or below.now s (pos 0)) ≤ 2 ^ 120 }
+    ensures { (s : ℕ) → s < length line.old → slice_index_or line.new s (pos 0) ≡ raised supply.now below.now lots.now worth s (slice_index_or line.old s (pos 0)) }
+{
+    let _states = supply.states();
+    let radices = supply.counts();
+    let counts = lots.counts();
+    let used = used_categories(counts);
+    raise_block(
+        radices,
+        supply.widths(),
+        &counts[..used],
+        line,
+        below,
+        worth,
+    );
+}

@@ -1,0 +1,82 @@
+// The first of the greatest choices, from the lines of a table.
+ghost use Rattle.std.specs.Prelude.{◌≡◌, ◌-◌, ◌≤◌, ◌<◌, length, IfOk, IfSome, IfNone, IsTrue, IsFalse};
+ghost use Rattle.auction_model.specs.Package.{is_within, less};
+ghost use Rattle.auction_model.specs.Place.{states_of, place_of, left_at};
+ghost use Rattle.auction_model.specs.Market.{sum_after};
+ghost use Rattle.auction_model.specs.Menu.{fits_after};
+ghost use Rattle.auction_model.specs.Greatest.{IsFirstGreatest};
+ghost use Rattle.auction_model.specs.Book.{lots_of};
+ghost use Rattle.auction_model.specs.Table.{IsEntry};
+ghost use Rattle.auction_model.specs.Steps.{sum_with, IsFirstNumber};
+ghost use Rattle.value_table.specs.Counted.{counted_bids, counted, IsCountedLine, IsCountedTable};
+
+use crate::lowering::Lowering;
+use choices::{Grid, Numbers, place_after};
+use std::alloc::{AllocError, Global};
+
+/// What bid `i` of bidder `j` and the bidders after it count at a place, or None where the package of the bid doesn't fit.
+fn sum_at(lowering: &Lowering, j: u16, i: u16, place: usize, below: &[i128]) -> Option<i128>
+    requires bidder { (0 < j) × (j ≤ length lowering.now.book.now.bidders) }
+    requires bid { (0 < i) × (i ≤ (counted_bids lowering.now).bids j) }
+    requires place { place < states_of lowering.now.book.now.supply }
+    requires below { IsCountedLine lowering.now j below.now }
+    ensures fits { IfSome result (λ _. IsTrue (is_within (lots_of lowering.now.book.now j i) (left_at lowering.now.book.now.supply place))) }
+    ensures sum { IfSome result (λ z. z ≡ sum_with (counted_bids lowering.now) (counted lowering.now) lowering.now.book.now.supply j place below.now i) }
+    ensures exceeds { IfNone result (IsFalse (is_within (lots_of lowering.now.book.now j i) (left_at lowering.now.book.now.supply place))) }
+{
+    let bid = lowering.book.bid(j, i);
+    match lowering.book.supply().minus(place, &bid.package) {
+        Some(rest) => Some(lowering.worth(j, i) + below[rest]),
+        None => None,
+    }
+}
+
+/// The first number of bidder `j`, by the order of ties, with which it and the bidders after it reach the entry of a place.
+fn first_number(lowering: &Lowering, j: u16, place: usize, here: i128, below: &[i128]) -> u16
+    requires bidder { (0 < j) × (j ≤ length lowering.now.book.now.bidders) }
+    requires place { place < states_of lowering.now.book.now.supply }
+    requires here { IsEntry (counted_bids lowering.now) (counted lowering.now) (j - 1) (left_at lowering.now.book.now.supply place) here }
+    requires below { IsCountedLine lowering.now j below.now }
+    ensures known { result ≤ (counted_bids lowering.now).bids j }
+    ensures first { IsFirstNumber (counted_bids lowering.now) (counted lowering.now) lowering.now.book.now.supply j place here below.now result }
+{
+    for i in 0..lowering.bids(j) {
+        if let Some(sum) = sum_at(lowering, j, i + 1, place, below) {
+            if sum == here {
+                return i + 1;
+            }
+        }
+    }
+    0
+}
+
+/// The place of what is left after number `i` of bidder `j`, whose package fits.
+fn place_left(lowering: &Lowering, j: u16, i: u16, place: usize) -> usize
+    requires bidder { (0 < j) × (j ≤ length lowering.now.book.now.bidders) }
+    requires bid { i ≤ (counted_bids lowering.now).bids j }
+    requires place { place < states_of lowering.now.book.now.supply }
+    requires fits { IsTrue (is_within (lots_of lowering.now.book.now j i) (left_at lowering.now.book.now.supply place)) }
+    ensures place { result ≡ place_of lowering.now.book.now.supply (less (left_at lowering.now.book.now.supply place) (lots_of lowering.now.book.now j i)) }
+    ensures below { result < states_of lowering.now.book.now.supply }
+{
+    let _bids = lowering.bids(j);
+    place_after(lowering.book, j, i, place).unwrap()
+}
+
+/// The first of the greatest choices, from the lines of its table.
+pub fn trace_lines(alloc: Global, lowering: &Lowering, lines: &Grid) -> Result<Numbers, AllocError>
+    requires { IsCountedTable lowering.now lines.now }
+    ensures { IfOk result (λ v. IsFirstGreatest (fits_after (counted_bids lowering.now) 0 lowering.now.book.now.supply) (sum_after (counted lowering.now) 0) v) }
+{
+    let mut numbers = Numbers::new(alloc);
+    let mut place = lowering.book.supply().states() - 1;
+    for k in 0..lowering.book.bidders() {
+        let j = k as u16 + 1;
+        let own = lines.line(k);
+        let here = own[place];
+        let number = first_number(lowering, j, place, here, lines.line(k + 1));
+        place = place_left(lowering, j, number, place);
+        numbers.push(number)?;
+    }
+    Ok(numbers)
+}
