@@ -1,7 +1,7 @@
 -- Choices taken bidder by bidder: which are known, which fit, and their sums.
-use Rattle.std.specs.Prelude.{◌≡◌, ◌≢◌, ℕ, zero, suc, ◌+◌, ◌≤◌, ◌<◌, Bool, true, false, ◌&&◌, nat_le, IsTrue, List, [], ◌∷◌, length, drop, get_or, ℤ, pos, ◌+ℤ◌, refl}
-use Rattle.std.proofs.Common.{sym, ◌∙◌, ap, arith, add-one, drop-cons}
-use Rattle.std.proofs.lemmas.Bool.{and_parts, and_left, eqb-true, eq-eqb, leb-true, le-leb, lt-leb}
+use Rattle.std.specs.Prelude.{◌≡◌, ◌≢◌, ℕ, zero, suc, ◌+◌, ◌≤◌, ◌<◌, true, false, ◌&&◌, nat_le, IsTrue, List, [], ◌∷◌, length, drop, get_or, ℤ, ◌+ℤ◌, refl}
+use Rattle.std.proofs.Common.{◌∙◌, ap, arith, add-one, drop-cons}
+use Rattle.std.proofs.lemmas.Bool.{and_parts, and_left, eqb-true, leb-true, le-leb, lt-leb}
 use Rattle.auction_model.specs.Package.{is_within, less}
 use Rattle.auction_model.specs.Menu.{Menu, is_known_after, fits_after}
 use Rattle.auction_model.specs.Market.{sum_after}
