@@ -1,2 +1,44 @@
 //! The definitions of a combinatorial auction and their laws, which the contracts of the crates above cite.
+//!
+//! Each function here is a law: it does nothing, and its contract is what holds of every market.
 #![tactic(auto)]
+
+ghost use Rattle.std.specs.Prelude.{◌≡◌, ℕ, ◌<◌, ◌≤◌, ◌^◌, Bool, List, ℤ, length, pos, ◌≤ℤ◌};
+ghost use Rattle.auction_model.specs.Market.{Market};
+ghost use Rattle.auction_model.specs.Greatest.{IsWinning};
+ghost use Rattle.auction_model.specs.Lawful.{IsMarket};
+ghost use Rattle.auction_model.specs.Book.{Book, bids_of, net_of, market_of};
+ghost use Rattle.auction_model.specs.Prices.{Point, IsBlocking, IsUnblocked, IsCorePoint, AreVickreyPrices, SamePoint, IsCoreOutcome};
+
+/// Every market has one winning choice.
+pub fn winning_choice()
+    ensures exists { (m : Market) → IsMarket m → (c : List ℕ) × IsWinning m c }
+    ensures one { (m : Market) (c d : List ℕ) → IsMarket m → IsWinning m c → IsWinning m d → c ≡ d }
+{}
+
+/// At every choice of a market each bidder has one Vickrey price.
+pub fn vickrey_prices()
+    ensures exist { (m : Market) (z : List ℕ) → IsMarket m → (v : ℕ → ℤ) × AreVickreyPrices m z v }
+    ensures one { (m : Market) (z : List ℕ) (v w : ℕ → ℤ) → AreVickreyPrices m z v → AreVickreyPrices m z w → (j : ℕ) → 0 < j → j ≤ m.bidders → v j ≡ w j }
+{}
+
+/// At the winning choice of a market some point is in the core.
+pub fn core_points()
+    ensures { (m : Market) (z : List ℕ) → IsMarket m → IsWinning m z → (p : Point) × IsCorePoint m z p }
+{}
+
+/// All core outcomes of a choice are the same point.
+pub fn core_outcome()
+    ensures { (m : Market) (z : List ℕ) (p q : Point) → IsMarket m → IsCoreOutcome m z p → IsCoreOutcome m z q → SamePoint m p q }
+{}
+
+/// A point is unblocked exactly where no coalition blocks it with any choice.
+pub fn blocking_coalitions()
+    ensures free { (m : Market) (z : List ℕ) (p : Point) → IsUnblocked m z p → (k : ℕ → Bool) (f : List ℕ) → IsBlocking m z p k f → ⊥ }
+    ensures none { (m : Market) (z : List ℕ) (p : Point) → ((k : ℕ → Bool) (f : List ℕ) → IsBlocking m z p k f → ⊥) → IsUnblocked m z p }
+{}
+
+/// A book is a market where its net amounts aren't negative.
+pub fn book_market()
+    ensures { (book : Book) → length book.bidders < 2 ^ 16 → ((j i : ℕ) → i ≤ length (bids_of book j) → pos 0 ≤ℤ net_of book j i) → IsMarket (market_of book) }
+{}
