@@ -99,11 +99,14 @@ begins_to-from (suc n) i c h =
 module _ (passes : List ℕ → Bool) (value : List ℕ → ℤ) where
   -- the choices that begin with i, from what follows i
   begun : (i : ℕ) → HasFirst (λ c. passes (i ∷ c)) (λ c. value (i ∷ c)) → HasFirst (λ c. passes c && begins i c) value
-  begun i (inl found) = inl (i ∷ found.0, record {
-    passed = and_from (passes (i ∷ found.0)) (begins i (i ∷ found.0)) found.1.passed (eq-eqb i i refl);
-    greatest = greatest;
-    first = first;
-  })
+  begun i (inl found) = inl (
+    i ∷ found.0,
+    record {
+      passed = and_from (passes (i ∷ found.0)) (begins i (i ∷ found.0)) found.1.passed (eq-eqb i i refl);
+      greatest = greatest;
+      first = first;
+    },
+  )
     where
       greatest : (d : List ℕ) → IsTrue (passes d && begins i d) → value d ≤ℤ value (i ∷ found.0)
       greatest [] t = absurd (false≢true (and_parts (passes []) (begins i []) t).1)
@@ -170,11 +173,14 @@ has-first zero caps passes value bounded = by (cases_Bool (passes []))
     empty (i ∷ c) e = absurd (omega (arith, e))
 
     by : (passes [] ≡ true) ⊎ (passes [] ≡ false) → HasFirst passes value
-    by (inl t) = inl ([], record {
-      passed = t;
-      greatest = λ d u. let e = empty d (bounded d u).0 in rw e (omega (arith, ints));
-      first = λ d u earlier. let e = empty d (bounded d u).0 in absurd (false≢true (rw e at earlier));
-    })
+    by (inl t) = inl (
+      [],
+      record {
+        passed = t;
+        greatest = λ d u. let e = empty d (bounded d u).0 in rw e (omega (arith, ints));
+        first = λ d u earlier. let e = empty d (bounded d u).0 in absurd (false≢true (rw e at earlier));
+      },
+    )
     by (inr f) = inr (λ c u. let e = empty c (bounded c u).0 in false≢true (sym f ∙ (rw e at u)))
 has-first (suc n) caps passes value bounded =
     has-same (λ c. (passes c && begins_to (caps 0) c) || (passes c && begins 0 c)) passes value same

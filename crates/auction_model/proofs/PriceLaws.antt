@@ -150,13 +150,16 @@ module _ (m : Market) (law : IsMarket m) (z : List ℕ) (g : IsWinning m z) wher
 
   -- paying all bids is in the core
   pub core-some : (p : Point) × IsCorePoint m z p
-  core-some = (all_bids, record {
-    den_positive = omega (arith, ints);
-    bidders = won-length m 0 z ∙ law.lengths z g.passed;
-    winners = λ j some inside wins. let own = paid-own j some inside in let least : pos 0 ≤ℤ worth_in m z j = law.not_negative z j g.passed some inside in (omega (arith, ints, own, least), omega (arith, ints, own));
-    losers = λ j some inside loses. paid-own j some inside ∙ nothing j loses;
-    unblocked = unblocked;
-  })
+  core-some = (
+    all_bids,
+    record {
+      den_positive = omega (arith, ints);
+      bidders = won-length m 0 z ∙ law.lengths z g.passed;
+      winners = λ j some inside wins. let own = paid-own j some inside in let least : pos 0 ≤ℤ worth_in m z j = law.not_negative z j g.passed some inside in (omega (arith, ints, own, least), omega (arith, ints, own));
+      losers = λ j some inside loses. paid-own j some inside ∙ nothing j loses;
+      unblocked = unblocked;
+    },
+  )
     where
       nothing : (j : ℕ) → IsFalse (uses z j) → worth_in m z j ≡ pos 0
       nothing j loses = by (number_of z j) loses
