@@ -1,5 +1,5 @@
 -- A book whose net amounts aren't negative is a lawful market.
-use Rattle.std.specs.Prelude.{◌≡◌, ℕ, zero, suc, ◌+◌, ◌-◌, ◌^◌, ◌≤◌, ◌<◌, ℤ, pos, ◌≤ℤ◌, nat_le, IsTrue, List, [], ◌∷◌, length, replicate, get_or, set, refl}
+use Rattle.std.specs.Prelude.{◌≡◌, ℕ, zero, suc, ◌+◌, ◌-◌, ◌^◌, ◌≤◌, ◌<◌, pos, ◌≤ℤ◌, nat_le, IsTrue, List, [], ◌∷◌, length, replicate, get_or, set, refl}
 use Rattle.std.proofs.Common.{sym, ◌∙◌, ap, arith}
 use Rattle.std.proofs.lemmas.Bool.{and_parts, and_from, eqb-true, eq-eqb, leb-true, le-leb}
 use Rattle.auction_model.specs.Package.{together, is_within, less}

@@ -3,10 +3,10 @@ use Rattle.std.specs.Prelude.{◌≡◌, ◌⊎◌, ℕ, zero, suc, ◌≤◌, �
 use Rattle.std.proofs.Common.{inl, inr, sym, ◌∙◌, ap, arith}
 use Rattle.std.proofs.lemmas.Bool.{false≢true, and_parts, and_from, or_cases, or_left, or_right, eqb-true, eq-eqb, cases_Bool, cases_eq}
 use Rattle.std.proofs.lemmas.Int.{ints, by_lt_z}
-use Rattle.auction_model.specs.Market.{is_number_before, is_earlier}
+use Rattle.auction_model.specs.Market.{is_earlier}
 use Rattle.auction_model.specs.Greatest.{IsFirstGreatest}
 use Rattle.auction_model.proofs.PlainLaws.{IsFirstGreatest-same}
-use Rattle.auction_model.proofs.OrderLaws.{before-self, before-greater, before-none, earlier-says, earlier-number, earlier-rest, earlier-not_both}
+use Rattle.auction_model.proofs.OrderLaws.{before-self, before-greater, before-none, earlier-says, earlier-number, earlier-not_both}
 
 -- the first of the greatest choices that pass, or none passes
 abbrev pub HasFirst : (List ℕ → Bool) → (List ℕ → ℤ) → Type 0
@@ -99,11 +99,14 @@ begins_to-from (suc n) i c h =
 module _ (passes : List ℕ → Bool) (value : List ℕ → ℤ) where
   -- the choices that begin with i, from what follows i
   begun : (i : ℕ) → HasFirst (λ c. passes (i ∷ c)) (λ c. value (i ∷ c)) → HasFirst (λ c. passes c && begins i c) value
-  begun i (inl found) = inl (i ∷ found.0, record {
-    passed = and_from (passes (i ∷ found.0)) (begins i (i ∷ found.0)) found.1.passed (eq-eqb i i refl);
-    greatest = greatest;
-    first = first;
-  })
+  begun i (inl found) = inl (
+    i ∷ found.0,
+    record {
+      passed = and_from (passes (i ∷ found.0)) (begins i (i ∷ found.0)) found.1.passed (eq-eqb i i refl);
+      greatest = greatest;
+      first = first;
+    },
+  )
     where
       greatest : (d : List ℕ) → IsTrue (passes d && begins i d) → value d ≤ℤ value (i ∷ found.0)
       greatest [] t = absurd (false≢true (and_parts (passes []) (begins i []) t).1)
@@ -170,11 +173,14 @@ has-first zero caps passes value bounded = by (cases_Bool (passes []))
     empty (i ∷ c) e = absurd (omega (arith, e))
 
     by : (passes [] ≡ true) ⊎ (passes [] ≡ false) → HasFirst passes value
-    by (inl t) = inl ([], record {
-      passed = t;
-      greatest = λ d u. let e = empty d (bounded d u).0 in rw e (omega (arith, ints));
-      first = λ d u earlier. let e = empty d (bounded d u).0 in absurd (false≢true (rw e at earlier));
-    })
+    by (inl t) = inl (
+      [],
+      record {
+        passed = t;
+        greatest = λ d u. let e = empty d (bounded d u).0 in rw e (omega (arith, ints));
+        first = λ d u earlier. let e = empty d (bounded d u).0 in absurd (false≢true (rw e at earlier));
+      },
+    )
     by (inr f) = inr (λ c u. let e = empty c (bounded c u).0 in false≢true (sym f ∙ (rw e at u)))
 has-first (suc n) caps passes value bounded =
     has-same (λ c. (passes c && begins_to (caps 0) c) || (passes c && begins 0 c)) passes value same

@@ -1,14 +1,14 @@
 -- Winning choices and Vickrey prices are there and are one, the core isn't empty, and there is at most one core outcome.
-use Rattle.std.specs.Prelude.{◌≡◌, ◌⊎◌, ℕ, zero, suc, ◌+◌, ◌-◌, ◌≤◌, ◌<◌, Bool, true, false, cond, ◌&&◌, not, ◌==◌, IsTrue, IsFalse, List, [], ◌∷◌, ◌++◌, length, take, replicate, get_or, refl, ℤ, pos, ◌+ℤ◌, ◌-ℤ◌, ◌*ℤ◌, ◌≤ℤ◌, ◌<ℤ◌}
+use Rattle.std.specs.Prelude.{◌≡◌, ◌⊎◌, ℕ, zero, suc, ◌+◌, ◌-◌, ◌≤◌, ◌<◌, Bool, true, false, cond, not, ◌==◌, IsTrue, IsFalse, List, [], ◌∷◌, ◌++◌, length, take, replicate, get_or, refl, ℤ, pos, ◌+ℤ◌, ◌-ℤ◌, ◌*ℤ◌, ◌≤ℤ◌, ◌<ℤ◌}
 use Rattle.std.proofs.Common.{inl, inr, sym, ◌∙◌, ap, arith, subst}
 use Rattle.std.proofs.lemmas.Bool.{false≢true, and_parts, and_from, not_from_false, not_from_true, eq-eqb, ne_eqb, cases_Bool, cases_lt}
 use Rattle.std.proofs.lemmas.List.{get_or-replicate, get_or_past, length-replicate, take_more, take_all, length-take}
 use Rattle.std.proofs.lemmas.Int.{ints, by_lt_z}
 use Rattle.auction_model.specs.Market.{Market, sum_after, value_of, number_of, worth_in, uses}
-use Rattle.auction_model.specs.Greatest.{IsGreatestValue, IsFirstGreatest, IsWinning}
+use Rattle.auction_model.specs.Greatest.{IsGreatestValue, IsWinning}
 use Rattle.auction_model.specs.Lawful.{IsMarket}
 use Rattle.auction_model.specs.Lowered.{of_bidder}
-use Rattle.auction_model.specs.Prices.{Point, sum_over, everyone, paid, offer, UsesOnly, IsBlocking, IsUnblocked, IsCorePoint, allowed_without, IsVickreyPrice, AreVickreyPrices, SamePoint, square_distance, IsCoreOutcome}
+use Rattle.auction_model.specs.Prices.{Point, sum_over, everyone, paid, offer, IsBlocking, IsUnblocked, IsCorePoint, allowed_without, IsVickreyPrice, AreVickreyPrices, SamePoint, square_distance, IsCoreOutcome}
 use Rattle.auction_model.proofs.OrderLaws.{one-first}
 use Rattle.auction_model.proofs.FirstLaws.{HasFirst, has-first}
 
@@ -150,13 +150,16 @@ module _ (m : Market) (law : IsMarket m) (z : List ℕ) (g : IsWinning m z) wher
 
   -- paying all bids is in the core
   pub core-some : (p : Point) × IsCorePoint m z p
-  core-some = (all_bids, record {
-    den_positive = omega (arith, ints);
-    bidders = won-length m 0 z ∙ law.lengths z g.passed;
-    winners = λ j some inside wins. let own = paid-own j some inside in let least : pos 0 ≤ℤ worth_in m z j = law.not_negative z j g.passed some inside in (omega (arith, ints, own, least), omega (arith, ints, own));
-    losers = λ j some inside loses. paid-own j some inside ∙ nothing j loses;
-    unblocked = unblocked;
-  })
+  core-some = (
+    all_bids,
+    record {
+      den_positive = omega (arith, ints);
+      bidders = won-length m 0 z ∙ law.lengths z g.passed;
+      winners = λ j some inside wins. let own = paid-own j some inside in let least : pos 0 ≤ℤ worth_in m z j = law.not_negative z j g.passed some inside in (omega (arith, ints, own, least), omega (arith, ints, own));
+      losers = λ j some inside loses. paid-own j some inside ∙ nothing j loses;
+      unblocked = unblocked;
+    },
+  )
     where
       nothing : (j : ℕ) → IsFalse (uses z j) → worth_in m z j ≡ pos 0
       nothing j loses = by (number_of z j) loses

@@ -1,5 +1,5 @@
 -- What every market keeps, whatever is sold in it.
-use Rattle.std.specs.Prelude.{◌≡◌, ℕ, ◌-◌, ◌<◌, ◌≤◌, ◌^◌, IsTrue, List, length, replicate, slice_set, ℤ, pos, ◌≤ℤ◌}
+use Rattle.std.specs.Prelude.{◌≡◌, ℕ, ◌-◌, ◌<◌, ◌≤◌, ◌^◌, IsTrue, List, length, replicate, slice_set, pos, ◌≤ℤ◌}
 use Rattle.auction_model.specs.Market.{Market, number_of, worth_in}
 
 pub record IsMarket (m : Market) : Type 0 where

@@ -1,7 +1,7 @@
 -- A pricing run: turn after turn a point that meets the rows so far, and the row that blocks it, until none does. (Day and
 -- Raghavan, Fair payments for efficient allocations in public sector combinatorial auctions, Management Science 53, 2007:
 -- core constraint generation.)
-use Rattle.std.specs.Prelude.{◌≡◌, ℕ, zero, suc, ◌<◌, ◌≤◌, ◌==◌, Bool, IsTrue, IsFalse, Option, MatchOption, List, [], ◌∷◌, ◌++◌, length, ℤ, pos, ◌*ℤ◌, ◌≤ℤ◌, ◌<ℤ◌}
+use Rattle.std.specs.Prelude.{◌≡◌, ℕ, zero, suc, ◌<◌, ◌≤◌, ◌==◌, Bool, IsFalse, Option, MatchOption, List, [], ◌∷◌, ◌++◌, length, ℤ, pos, ◌*ℤ◌, ◌≤ℤ◌, ◌<ℤ◌}
 use Rattle.std.specs.List.{AllByRecursion}
 use Rattle.auction_model.specs.Market.{Market, uses}
 use Rattle.auction_model.specs.Greatest.{IsWinning}

@@ -1,17 +1,14 @@
 -- Sums, products and tests over counts, one category at a time.
 use Rattle.std.specs.Prelude.{◌≡◌, ℕ, ◌+◌, ◌*◌, ◌^◌, ◌≤◌, ◌<◌, false, ◌&&◌, ◌==◌, List, [], ◌∷◌, length, sum, drop, get_or, refl}
 use Rattle.std.specs.List.{list_all}
-use Rattle.std.proofs.Common.{◌∙◌, ap, arith, drop-cons, add-one, leb}
+use Rattle.std.proofs.Common.{◌∙◌, ap, arith, leb}
 use Rattle.std.proofs.lemmas.Bool.{and_left, lt-leb, le-leb}
 use Rattle.std.proofs.lemmas.List.Sums.{sum_by-cons}
 use Rattle.std.proofs.Math.Nat.{mul-le-mul, pow-succ', pow-le-pow_right}
 use Rattle.auction_model.specs.Package.{is_within, cost_of}
 use Rattle.auction_model.specs.Place.{states_of}
 use Rattle.auction_model.proofs.PlaceLaws.{states-positive}
-use Rattle.lots.proofs.Steps.{place-at_most}
-
-drop-at : (s : List ℕ) (i : ℕ) → i < length s → drop i s ≡ get_or s i 0 ∷ drop (i + 1) s
-drop-at s i h = rw (add-one, drop-cons s i 0) refl
+use Rattle.lots.proofs.Steps.{drop-at, place-at_most}
 
 -- 40 lots in 6 categories have at most 41 ^ 6 states
 states-most : (s : List ℕ) → sum s ≤ 40 → states_of s ≤ 41 ^ length s

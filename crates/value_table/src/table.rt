@@ -37,7 +37,7 @@ impl Model for ValueTable {
 }
 
 impl ValueTable {
-    /// The exact table of a book, by dynamic programming over bidders and places. There is one surplus for each bidder, times
+    /// The exact table of a book, line by line from the last. There is one surplus for each bidder, times
     /// `den`, and the sum over the bidders of `den` times the greatest net amount and the size of the surplus is below 2^120.
     pub fn build(
         alloc: Global,
@@ -133,7 +133,10 @@ pub fn plain_table(alloc: Global, book: &BidBook) -> Result<ValueTable, AllocErr
     Ok(table)
 }
 
-/// The winning choice: of the choices within the supply the first of those of greatest value.
+/// The winning choice: of the choices within the supply the first of those of greatest value. This is the winner determination
+/// of a combinatorial auction in which at most one bid of each bidder wins (XOR bids). It goes by dynamic programming over
+/// bidders and remaining supplies, after Rothkopf, Pekeč and Harstad (1998), and takes a time in proportion to the bids times
+/// the states of the supply.
 pub fn win(alloc: Global, book: &BidBook) -> Result<Choice, AllocError>
     ensures { IfOk result (λ c. IsWinning (market_of book.now) c) }
 {
