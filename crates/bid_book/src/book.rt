@@ -11,7 +11,9 @@ use std::marker::Model;
 /// A bid with its net amount.
 #[derive(Drop)]
 pub struct Entry {
+    /// The package with its amount.
     pub bid: Bid,
+    /// The amount less the reserve of the package.
     pub net: i128,
 }
 
@@ -139,8 +141,8 @@ impl BidBook {
         ensures categories { length result.now.package ≡ length self.now.supply }
     {
         let bidder = &self.bidders[j as usize - 1];
-        let entry = &bidder.bids[i as usize - 1];
-        &entry.bid
+        let chosen = &bidder.bids[i as usize - 1];
+        &chosen.bid
     }
 
     /// The net amount of bid `i` of bidder `j`: its amount less the reserve of its package. It is at least 0.
