@@ -1,0 +1,64 @@
+-- The conditions of a system of at most six lines with entries up to 6 give the limits.
+use Rattle.std.proofs.Common.{◌≡◌, ℕ, ◌-◌, ◌*◌, ◌^◌, ◌<◌, ◌≤◌, ℤ, ◌*ℤ◌, sym, ap, ◌∙◌, subst, arith, unsigned_abs, List, [], length, slice_index_or}
+use Rattle.std.proofs.Math.Nat.{mul-le-mul, pow-le-pow_right}
+use Rattle.far_num.specs.declared.Far.{Far}
+use Rattle.lin_solve.specs.declared.solved.Solved.{Solved}
+use Rattle.lin_solve.specs.declared.solved.Solved.TheVariants.{One, Dependent}
+use Rattle.lin_solve.specs.Systems.{row, size, bound, IsWithin}
+use Rattle.lin_solve.specs.Solved.{IsSmallSystem, IsWithinLimits, AreParts, IsOnly, IsAnswer}
+use Rattle.far_num.specs.Pairs.{far_at, near_at}
+use Rattle.lin_solve.proofs.PivotFacts.{size_small}
+
+le_two : (x y z : ℕ) → x ≤ y → y ≤ z → x ≤ z
+le_two x y z a b = omega arith
+
+below_two : (x y z : ℕ) → x ≤ y → y < z → x < z
+below_two x y z a b = omega arith
+
+same : (x : ℕ) → x ≤ x
+same x = omega arith
+
+module _ (m : List (List ℤ)) (right : List Far) (ys zs : List ℤ) (long : length right ≡ length m) (sys : IsSmallSystem 6 6 (2 ^ 46) m right)
+    (n1 : 1 ≤ length m) (n6 : length m ≤ 6) (square : (k : ℕ) → k < length m → length (slice_index_or m k []) ≡ length m)
+    (py : AreParts (length right) (far_at right) ys) (pz : AreParts (length right) (near_at right) zs) where
+  h_le : bound 36 (length m) ≤ 36 ^ 5
+  h_le = let l : length m - 1 ≤ 5 = omega (arith, n6) in let o : 0 < 36 = omega arith in pow-le-pow_right o l
+
+  t_le : 36 ^ length m ≤ 36 ^ 6
+  t_le = let o : 0 < 36 = omega arith in pow-le-pow_right o n6
+
+  row_le : (a : ℕ → ℤ) → IsWithin 6 (length m) a → size (length m) a ≤ 36
+  row_le a w = le_two (size (length m) a) (length m * 6) 36 (size_small (length m) 6 a w) (omega (arith, n6))
+
+  part_le : length m * bound 36 (length m) * 2 ^ 46 ≤ 6 * 36 ^ 5 * 2 ^ 46
+  part_le = mul-le-mul (mul-le-mul n6 h_le) (same (2 ^ 46))
+
+  pub first_limits : IsWithinLimits 36 (2 ^ 46) (36 ^ 6) m ys zs
+  first_limits = record {
+    bounded = record {
+      some = omega arith;
+      room = below_two (2 * (36 * (bound 36 (length m) * bound 36 (length m)))) (2 * (36 * (36 ^ 5 * 36 ^ 5))) (2 ^ 120) (mul-le-mul (same 2) (mul-le-mul (same 36) (mul-le-mul h_le h_le))) (omega arith);
+      wide = square;
+      sized = λ k l. row_le (row m k) (λ i li. sys.entries k i l li);
+      columns = λ i l. row_le (λ (k : ℕ). row m k i) (λ k lk. sys.entries k i lk l);
+    };
+    signs = sys.signs;
+    long_fars = py.long ∙ long;
+    long_nears = pz.long ∙ long;
+    far_sizes = λ k l. subst (λ (x : ℤ). unsigned_abs x ≤ 2 ^ 46) (sym (py.is k (subst (λ (n : ℕ). k < n) (sym long) l))) (sys.fars k l);
+    near_sizes = λ k l. subst (λ (x : ℤ). unsigned_abs x ≤ 2 ^ 46) (sym (pz.is k (subst (λ (n : ℕ). k < n) (sym long) l))) (sys.nears k l);
+    reaches = below_two (36 ^ length m * (length m * bound 36 (length m) * 2 ^ 46)) (36 ^ 6 * (6 * 36 ^ 5 * 2 ^ 46)) (2 ^ 119) (mul-le-mul t_le part_le) (omega arith);
+    tops = t_le;
+    cs = below_two (36 ^ 6 * (36 * bound 36 (length m))) (36 ^ 6 * (36 * 36 ^ 5)) (2 ^ 120) (mul-le-mul (same (36 ^ 6)) (mul-le-mul (same 36) h_le)) (omega arith);
+    parts = below_two (36 ^ 6 * (length m * bound 36 (length m) * 2 ^ 46)) (36 ^ 6 * (6 * 36 ^ 5 * 2 ^ 46)) (2 ^ 106) (mul-le-mul (same (36 ^ 6)) part_le) (omega arith);
+  }
+
+only_at : (m : List (List ℤ)) (x b c : ℕ → ℤ) (d : ℤ) → ((k : ℕ) → k < length m → b k ≡ c k) → IsOnly m x d b → IsOnly m x d c
+only_at m x b c d e h = record {
+  solves = λ k l. h.solves k l ∙ ap (λ (t : ℤ). d *ℤ t) (e k l);
+  only = λ y f g i l. h.only y f (λ k lk. g k lk ∙ ap (λ (t : ℤ). f *ℤ t) (sym (e k lk))) i l;
+}
+
+pub answer_at : (m : List (List ℤ)) (b c b' c' : ℕ → ℤ) → ((k : ℕ) → k < length m → b k ≡ b' k) → ((k : ℕ) → k < length m → c k ≡ c' k) → (s : Solved) → IsAnswer m b c s → IsAnswer m b' c' s
+answer_at m b c b' c' e f (One den values) h = record { positive = h.positive; long = h.long; far = only_at m (far_at values) b b' den e h.far; near = only_at m (near_at values) c c' den f h.near }
+answer_at m b c b' c' e f (Dependent v) h = h

@@ -1,0 +1,79 @@
+ghost use Rattle.std.specs.Prelude.{◌≡◌, ◌≢◌, ℕ, ◌+◌, ◌*◌, ◌≤◌, ◌<◌, ◌^◌, ℤ, pos, ◌≤ℤ◌, length, unsigned_abs, IfOk, slice_index_or, List, []};
+ghost use Rattle.std.specs.Prelude.{◌*ℤ◌};
+ghost use Rattle.wide_num.specs.Range.{Divides};
+ghost use Rattle.lin_solve.specs.Systems.{IsBounded, OnlyZero, IsWithin, HasEdge};
+ghost use Rattle.wide_num.specs.Sums.{nth};
+ghost use Rattle.lin_solve.specs.Pivots.{pivot, ArePivots, HaveCommon, IsCommonDen, AreValues};
+ghost use Rattle.far_num.specs.Pairs.{far_at, near_at};
+
+use wide_num::NumList;
+use far_num::FarList;
+use crate::pivots::{Pivot, grow, pivot_at};
+use crate::rows::times;
+use far_num::Far;
+use std::alloc::{AllocError, Global};
+use wide_num::div_exact;
+
+/// The pivots of all places.
+pub fn all_pivots(
+    alloc: Global,
+    limit: u64,
+    edge: u64,
+    lines: &[NumList],
+    fars: &[i128],
+    nears: &[i128],
+) -> Result<Vec<Pivot>, AllocError>
+    requires bounded { IsBounded limit lines.now }
+    requires only { OnlyZero (length lines.now) lines.now }
+    requires long { (length fars.now ≡ length lines.now) × (length nears.now ≡ length lines.now) }
+    requires fars { IsWithin edge (length lines.now) (nth fars.now) }
+    requires nears { IsWithin edge (length lines.now) (nth nears.now) }
+    requires edge { HasEdge limit (length lines.now) edge }
+    ensures long { IfOk result (λ all. length all.items ≡ length lines.now) }
+    ensures pivots { IfOk result (λ all. ArePivots limit edge lines.now (nth fars.now) (nth nears.now) (length lines.now) all.items) }
+{
+    let mut all = Vec::new(alloc);
+    for i in 0..lines.len() {
+        all.push(pivot_at(alloc, limit, edge, lines, i, fars, nears)?)?;
+    }
+    Ok(all)
+}
+
+/// A denominator over which all values are whole.
+pub fn common_den(top: u64, pivots: &[Pivot]) -> i128
+    requires { HaveCommon top pivots.now }
+    ensures { IsCommonDen top pivots.now result }
+{
+    let mut den = 1;
+    for i in 0..pivots.len() {
+        den = grow(den, pivots[i].c, pivots[i].far, pivots[i].near);
+    }
+    den
+}
+
+/// `den * part / c`.
+fn quotient(den: i128, c: i128, part: i128) -> i128
+    requires apart { c ≢ pos 0 }
+    requires room { unsigned_abs den * unsigned_abs part < 2 ^ 120 }
+    requires whole { Divides c (den *ℤ part) }
+    ensures { c *ℤ result ≡ den *ℤ part }
+{
+    let product = times(den, part);
+    div_exact(product, c)
+}
+
+/// The values over the denominator.
+pub fn values(alloc: Global, top: u64, den: i128, pivots: &[Pivot]) -> Result<FarList, AllocError>
+    requires common { HaveCommon top pivots.now }
+    requires den { IsCommonDen top pivots.now den }
+    ensures long { IfOk result (λ out. length out ≡ length pivots.now) }
+    ensures values { IfOk result (λ out. AreValues pivots.now den (length pivots.now) (far_at out) (near_at out)) }
+{
+    let mut out = FarList::new(alloc);
+    for i in 0..pivots.len() {
+        let far = quotient(den, pivots[i].c, pivots[i].far);
+        let near = quotient(den, pivots[i].c, pivots[i].near);
+        out.push(Far { far, near })?;
+    }
+    Ok(out)
+}
