@@ -1,11 +1,13 @@
 -- The conditions of a system of at most six lines with entries up to 6 give the limits.
-use Rattle.std.proofs.Common.{◌≡◌, ℕ, ◌-◌, ◌*◌, ◌^◌, ◌<◌, ◌≤◌, ℤ, ◌*ℤ◌, sym, ap, ◌∙◌, subst, arith, unsigned_abs, List, [], length, slice_index_or}
+use Rattle.std.proofs.Common.{◌≡◌, ℕ, ◌-◌, ◌*◌, ◌^◌, ◌<◌, ◌≤◌, ◌+◌, ℤ, pos, ◌*ℤ◌, ◌≤ℤ◌, sym, ap, ◌∙◌, subst, arith, unsigned_abs, List, [], length, slice_index_or}
+use Rattle.std.proofs.lemmas.Int.{ints}
+use Rattle.wide_num.specs.Sums.{nth}
 use Rattle.std.proofs.Math.Nat.{mul-le-mul, pow-le-pow_right}
 use Rattle.far_num.specs.declared.Far.{Far}
 use Rattle.lin_solve.specs.declared.solved.Solved.{Solved}
 use Rattle.lin_solve.specs.declared.solved.Solved.TheVariants.{One, Dependent}
-use Rattle.lin_solve.specs.Systems.{row, size, bound, IsWithin}
-use Rattle.lin_solve.specs.Solved.{IsSmallSystem, IsWithinLimits, AreParts, IsOnly, IsAnswer}
+use Rattle.lin_solve.specs.Systems.{row, size, bound, IsKernelRow, IsWithin}
+use Rattle.lin_solve.specs.Solved.{IsSmallSystem, IsWithinLimits, AreParts, IsOnly, IsAnswer, IsSmallAnswer}
 use Rattle.far_num.specs.Pairs.{far_at, near_at}
 use Rattle.lin_solve.proofs.PivotFacts.{size_small}
 
@@ -42,7 +44,7 @@ module _ (m : List (List ℤ)) (right : List Far) (ys zs : List ℤ) (long : len
       sized = λ k l. row_le (row m k) (λ i li. sys.entries k i l li);
       columns = λ i l. row_le (λ (k : ℕ). row m k i) (λ k lk. sys.entries k i lk l);
     };
-    signs = sys.signs;
+    signs = λ k i l li. let h : pos 0 ≤ℤ row m k i = sys.signs k i l li in omega (arith, ints, h);
     long_fars = py.long ∙ long;
     long_nears = pz.long ∙ long;
     far_sizes = λ k l. subst (λ (x : ℤ). unsigned_abs x ≤ 2 ^ 46) (sym (py.is k (subst (λ (n : ℕ). k < n) (sym long) l))) (sys.fars k l);
@@ -62,3 +64,17 @@ only_at m x b c d e h = record {
 pub answer_at : (m : List (List ℤ)) (b c b' c' : ℕ → ℤ) → ((k : ℕ) → k < length m → b k ≡ b' k) → ((k : ℕ) → k < length m → c k ≡ c' k) → (s : Solved) → IsAnswer m b c s → IsAnswer m b' c' s
 answer_at m b c b' c' e f (One den values) h = record { positive = h.positive; long = h.long; far = only_at m (far_at values) b b' den e h.far; near = only_at m (near_at values) c c' den f h.near }
 answer_at m b c b' c' e f (Dependent v) h = h
+
+-- a kernel row is smaller than the largest denominator
+pub row_below : (limit top : ℕ) (lines : List (List ℤ)) (v : List ℤ) → 1 ≤ limit → limit ^ length lines ≤ top → IsKernelRow limit (length lines) lines v → (i : ℕ) → i < length v → unsigned_abs (nth v i) < top + 1
+row_below limit top lines v some tops k i l =
+    let small : unsigned_abs (nth v i) ≤ limit ^ (length lines - 1) = k.small i (subst (λ (n : ℕ). i < n) k.long l) in
+    let more : limit ^ (length lines - 1) ≤ limit ^ length lines = pow-le-pow_right some (omega arith) in
+    omega (arith, small, more, tops)
+
+pub wider_answer : (a b part : ℕ) (s : Solved) → a ≤ b → IsSmallAnswer a part s → IsSmallAnswer b part s
+wider_answer a b part (One den values) le h = (below_le h.0, h.1)
+  where
+    below_le : {x : ℕ} → x < a → x < b
+    below_le h = omega arith
+wider_answer a b part (Dependent v) le h = λ i l. let k = h i l in omega (arith, k)

@@ -3,14 +3,14 @@ use Rattle.std.proofs.Common.{◌≡◌, ◌≢◌, ℕ, ◌+◌, ◌*◌, ◌<�
 use Rattle.std.proofs.lemmas.Int.{ints, unsigned_abs-mul}
 use Rattle.std.proofs.Math.IntN.{*ℤ_comm, *ℤ-zero}
 use Rattle.wide_num.proofs.Ints.{mul_cancel, *ℤ-one}
-use Rattle.lin_solve.specs.Systems.{ContentOf, IsPart, IsPrimitivePart, IsMix, Reduces}
+use Rattle.lin_solve.specs.Systems.{ContentOf, AreQuotients, IsPrimitivePart, IsMix, Reduces}
 use Rattle.wide_num.specs.Sums.{nth, dot}
 use Rattle.wide_num.proofs.Sums.{dot-same, dot-scale}
 
 pub content_apart : (v : List ℤ) (g : ℤ) → ContentOf (length v) (nth v) g → (p : ℕ) → p < length v → nth v p ≢ pos 0 → g ≢ pos 0
 content_apart v g c p l ne e = ne (sym (c.parts p l) ∙ ap (λ (x : ℤ). x *ℤ c.part p) e ∙ *ℤ_comm (pos 0) (c.part p) ∙ *ℤ-zero (c.part p))
 
-pub primitive_part : (v y : List ℤ) (g : ℤ) → g ≢ pos 0 → ContentOf (length v) (nth v) g → IsPart g v y → IsPrimitivePart v y
+pub primitive_part : (v y : List ℤ) (g : ℤ) → g ≢ pos 0 → ContentOf (length v) (nth v) g → AreQuotients g v y → IsPrimitivePart v y
 primitive_part v y g ne c p = record {
   long = p.long;
   g = g;

@@ -34,15 +34,15 @@ abbrev pub IsAnswer : List (List ℤ) → (ℕ → ℤ) → (ℕ → ℤ) → So
 IsAnswer m fars nears (One den values) = IsOneSolution m fars nears den values
 IsAnswer m fars nears (Dependent combination) = IsDependence m combination
 
--- the bounds on the answer
+-- the denominator and the numbers of a combination are below the first bound in size, and the parts of the values below the second
 abbrev pub IsSmallAnswer : ℕ → ℕ → Solved → Type 0
-IsSmallAnswer top part (One den values) = (unsigned_abs den ≤ top) × ((i : ℕ) → i < length values → (unsigned_abs (far_at values i) < part) × (unsigned_abs (near_at values i) < part))
-IsSmallAnswer top part (Dependent combination) = Unit {0}
+IsSmallAnswer top part (One den values) = (unsigned_abs den < top) × ((i : ℕ) → i < length values → (unsigned_abs (far_at values i) < part) × (unsigned_abs (near_at values i) < part))
+IsSmallAnswer top part (Dependent combination) = (i : ℕ) → i < length combination → unsigned_abs (nth combination i) < top
 
 -- entries from 0 to the top, and parts of the right side up to the edge in size
 pub record IsSmallSystem (size top edge : ℕ) (m : List (List ℤ)) (right : List Far) : Type 0 where
   pub lines : length m ≤ size
-  pub signs : (k i : ℕ) → k < length m → i < length m → pos (unsigned_abs (row m k i)) ≡ row m k i
+  pub signs : (k i : ℕ) → k < length m → i < length m → pos 0 ≤ℤ row m k i
   pub entries : (k i : ℕ) → k < length m → i < length m → unsigned_abs (row m k i) ≤ top
   pub fars : (k : ℕ) → k < length m → unsigned_abs (far_at right k) ≤ edge
   pub nears : (k : ℕ) → k < length m → unsigned_abs (near_at right k) ≤ edge

@@ -32,7 +32,7 @@ pub record Reduces (s t : ℤ) (v w y : List ℤ) : Type 0 where
   pub primitive : IsPrimitive (length v) (nth y)
 
 -- g times y is v
-pub record IsPart (g : ℤ) (v y : List ℤ) : Type 0 where
+pub record AreQuotients (g : ℤ) (v y : List ℤ) : Type 0 where
   pub long : length y ≡ length v
   pub is : (i : ℕ) → i < length v → g *ℤ nth y i ≡ nth v i
 
@@ -55,6 +55,13 @@ pub record ContentOf (n : ℕ) (v : ℕ → ℤ) (g : ℤ) : Type 0 where
 abbrev pub row : List (List ℤ) → ℕ → ℕ → ℤ
 row vs j i = nth (slice_index_or vs j []) i
 
+-- 1 to 6 lines, each with as many numbers
+pub record IsSquare (m : List (List ℤ)) : Type 0 where
+  pub some : 1 ≤ length m
+  pub few : length m ≤ 6
+  pub wide : (k : ℕ) → k < length m → length (slice_index_or m k []) ≡ length m
+
+-- whether a coordinate is free
 abbrev pub flag : List Bool → ℕ → Bool
 flag free j = slice_index_or free j false
 
@@ -92,6 +99,14 @@ pub record Ready (limit : ℕ) (line : List ℤ) (basis : List (List ℤ)) (free
 -- the row of j after the line is cleared at the pivot
 abbrev pub IsNext : List ℤ → List (List ℤ) → ℕ → ℕ → List ℤ → Type 0
 IsNext line basis p j y = Reduces (product line (slice_index_or basis p [])) (product line (slice_index_or basis j [])) (slice_index_or basis j []) (slice_index_or basis p []) y
+
+-- p is free, and the line doesn't send its row to 0
+abbrev pub CanClear : List ℤ → List (List ℤ) → List Bool → ℕ → Type 0
+CanClear line basis free p = (p < length free) × (flag free p ≡ true) × (product line (slice_index_or basis p []) ≢ pos 0)
+
+-- the line sends the rows of all free coordinates to 0
+abbrev pub NoneCanClear : List ℤ → List (List ℤ) → List Bool → Type 0
+NoneCanClear line basis free = (j : ℕ) → j < length free → flag free j ≡ true → product line (slice_index_or basis j []) ≡ pos 0
 
 -- v is 1 at j and 0 elsewhere
 pub record IsUnit (n j : ℕ) (v : List ℤ) : Type 0 where

@@ -1,10 +1,10 @@
-ghost use Rattle.std.specs.Prelude.{◌≡◌, ◌≢◌, ℕ, ◌+◌, ◌≤◌, ◌<◌, ℤ, pos, length, unsigned_abs, IfOk, slice_index_or, List, []};
-ghost use Rattle.lin_solve.specs.Systems.{row, size, IsColumn, IsKeptColumn, IsBounded, IsClearing, OnlyZero};
+ghost use Rattle.lin_solve.specs.Systems.{IsBounded, IsClearing, IsColumn, IsKeptColumn, OnlyZero};
+ghost use Rattle.std.specs.Prelude.{IfOk, [], length, pos, slice_index_or, ℕ, ◌<◌, ◌≡◌};
 ghost use Rattle.wide_num.specs.Sums.{nth};
 
 use crate::kernel::kernel;
-use wide_num::NumList;
 use std::alloc::{AllocError, Global};
+use wide_num::NumList;
 
 /// Column `i`.
 pub fn column(alloc: Global, lines: &[NumList], i: usize) -> Result<NumList, AllocError>
@@ -19,6 +19,7 @@ pub fn column(alloc: Global, lines: &[NumList], i: usize) -> Result<NumList, All
     Ok(out)
 }
 
+/// As many zeros.
 fn zeros(alloc: Global, width: usize) -> Result<NumList, AllocError>
     ensures long { IfOk result (λ y. length y ≡ width) }
     ensures zero { IfOk result (λ y. (k : ℕ) → k < width → nth y k ≡ pos 0) }
@@ -30,32 +31,49 @@ fn zeros(alloc: Global, width: usize) -> Result<NumList, AllocError>
     Ok(out)
 }
 
-fn kept_column(alloc: Global, lines: &[NumList], out: usize, i: usize) -> Result<NumList, AllocError>
+/// Column `i`, and zeros in place of the column `left_out`.
+fn kept_column(
+    alloc: Global,
+    lines: &[NumList],
+    left_out: usize,
+    i: usize,
+) -> Result<NumList, AllocError>
     requires { (k : ℕ) → k < length lines.now → i < length (slice_index_or lines.now k []) }
-    ensures { IfOk result (λ y. IsKeptColumn lines.now out i y) }
+    ensures { IfOk result (λ y. IsKeptColumn lines.now left_out i y) }
 {
-    if i == out {
+    if i == left_out {
         zeros(alloc, lines.len())
     } else {
         column(alloc, lines, i)
     }
 }
 
-/// The columns, with zeros in place of the one at `out`.
-fn kept_columns(alloc: Global, lines: &[NumList], out: usize) -> Result<Vec<NumList>, AllocError>
+/// The columns of a square matrix, with zeros in place of the column `left_out`.
+fn kept_columns(
+    alloc: Global,
+    lines: &[NumList],
+    left_out: usize,
+) -> Result<Vec<NumList>, AllocError>
     requires { (k : ℕ) → k < length lines.now → length (slice_index_or lines.now k []) ≡ length lines.now }
     ensures long { IfOk result (λ all. length all.items ≡ length lines.now) }
-    ensures columns { IfOk result (λ all. (i : ℕ) → i < length lines.now → IsKeptColumn lines.now out i (slice_index_or all.items i [])) }
+    ensures columns {
+        IfOk result (λ all. (i : ℕ) → i < length lines.now → IsKeptColumn lines.now left_out i (slice_index_or all.items i []))
+    }
 {
     let mut all = Vec::new(alloc);
     for i in 0..lines.len() {
-        all.push(kept_column(alloc, lines, out, i)?)?;
+        all.push(kept_column(alloc, lines, left_out, i)?)?;
     }
     Ok(all)
 }
 
 /// A small row whose product with each column but the one at `i` is 0.
-pub fn clearing(alloc: Global, limit: u64, lines: &[NumList], i: usize) -> Result<NumList, AllocError>
+pub fn clearing(
+    alloc: Global,
+    limit: u64,
+    lines: &[NumList],
+    i: usize,
+) -> Result<NumList, AllocError>
     requires bounded { IsBounded limit lines.now }
     requires only { OnlyZero (length lines.now) lines.now }
     requires within { i < length lines.now }

@@ -1,18 +1,15 @@
-ghost use Rattle.std.specs.Prelude.{◌≡◌, ◌≢◌, ℕ, ◌+◌, ◌*◌, ◌≤◌, ◌<◌, ◌^◌, ℤ, pos, ◌≤ℤ◌, length, unsigned_abs, IfOk, slice_index_or, List, []};
-ghost use Rattle.std.specs.Prelude.{◌*ℤ◌};
-ghost use Rattle.wide_num.specs.Range.{Divides};
-ghost use Rattle.lin_solve.specs.Systems.{IsBounded, OnlyZero, IsWithin, HasEdge};
-ghost use Rattle.wide_num.specs.Sums.{nth};
-ghost use Rattle.lin_solve.specs.Pivots.{pivot, ArePivots, HaveCommon, IsCommonDen, AreValues};
 ghost use Rattle.far_num.specs.Pairs.{far_at, near_at};
+ghost use Rattle.lin_solve.specs.Pivots.{ArePivots, AreValues, HaveCommon, IsCommonDen};
+ghost use Rattle.lin_solve.specs.Systems.{HasEdge, IsBounded, IsWithin, OnlyZero};
+ghost use Rattle.std.specs.Prelude.{IfOk, length, pos, unsigned_abs, ◌*ℤ◌, ◌*◌, ◌<◌, ◌^◌, ◌≡◌, ◌≢◌};
+ghost use Rattle.wide_num.specs.Range.{Divides};
+ghost use Rattle.wide_num.specs.Sums.{nth};
 
-use wide_num::NumList;
-use far_num::FarList;
 use crate::pivots::{Pivot, grow, pivot_at};
 use crate::rows::times;
-use far_num::Far;
+use far_num::{Far, FarList};
 use std::alloc::{AllocError, Global};
-use wide_num::div_exact;
+use wide_num::{NumList, div_exact};
 
 /// The pivots of all places.
 pub fn all_pivots(
@@ -30,7 +27,9 @@ pub fn all_pivots(
     requires nears { IsWithin edge (length lines.now) (nth nears.now) }
     requires edge { HasEdge limit (length lines.now) edge }
     ensures long { IfOk result (λ all. length all.items ≡ length lines.now) }
-    ensures pivots { IfOk result (λ all. ArePivots limit edge lines.now (nth fars.now) (nth nears.now) (length lines.now) all.items) }
+    ensures pivots {
+        IfOk result (λ all. ArePivots limit edge lines.now (nth fars.now) (nth nears.now) (length lines.now) all.items)
+    }
 {
     let mut all = Vec::new(alloc);
     for i in 0..lines.len() {
@@ -39,7 +38,7 @@ pub fn all_pivots(
     Ok(all)
 }
 
-/// A denominator over which all values are whole.
+/// A denominator over which all values are whole, at most `top`.
 pub fn common_den(top: u64, pivots: &[Pivot]) -> i128
     requires { HaveCommon top pivots.now }
     ensures { IsCommonDen top pivots.now result }
@@ -51,7 +50,7 @@ pub fn common_den(top: u64, pivots: &[Pivot]) -> i128
     den
 }
 
-/// `den * part / c`.
+/// `den * part / c`, which is whole.
 fn quotient(den: i128, c: i128, part: i128) -> i128
     requires apart { c ≢ pos 0 }
     requires room { unsigned_abs den * unsigned_abs part < 2 ^ 120 }

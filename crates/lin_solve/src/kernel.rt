@@ -1,12 +1,12 @@
-ghost use Rattle.std.specs.Prelude.{◌≡◌, ◌≢◌, ℕ, ◌+◌, ◌-◌, ◌*◌, ◌≤◌, ◌<◌, ◌^◌, ℤ, pos, ◌+ℤ◌, ◌-ℤ◌, ◌*ℤ◌, ◌<ℤ◌, ◌≤ℤ◌, length, unsigned_abs, IfOk, MatchOption, true, false, slice_index_or, List, []};
-ghost use Rattle.lin_solve.specs.Systems.{row, flag, size, product, reach, bound, IsWithin, HasRoom, IsPrimitive, IsCleared, Reduces, Ready, IsNext, IsUnit, AreLines, IsKernelRow, OnlyZero};
-ghost use Rattle.wide_num.specs.Sums.{nth, dot as dots};
+ghost use Rattle.lin_solve.specs.Systems.{AreLines, CanClear, HasRoom, IsKernelRow, IsNext, IsUnit, IsWithin, NoneCanClear, OnlyZero, Ready, Reduces, bound, flag, product, size};
+ghost use Rattle.std.specs.Prelude.{IfOk, MatchOption, [], false, length, pos, slice_index_or, true, ℕ, ◌<◌, ◌≡◌, ◌≢◌, ◌≤◌};
+ghost use Rattle.wide_num.specs.Sums.{nth};
 
-use wide_num::NumList;
 use crate::rows::{dot, reduced};
 use std::alloc::{AllocError, Global};
+use wide_num::NumList;
 
-/// The combination of the row `v` and the pivot's row `w` that `line` sends to 0, primitive.
+/// The combination of the row `v` and the pivot's row `w` that `line` sends to 0, divided by what its numbers share.
 fn cleared_row(
     alloc: Global,
     limit: u64,
@@ -20,7 +20,9 @@ fn cleared_row(
     requires left { IsWithin (bound limit (length line.now)) (length line.now) (nth v.now) }
     requires right { IsWithin (bound limit (length line.now)) (length line.now) (nth w.now) }
     requires room { HasRoom limit (length line.now) }
-    requires apart { (p : ℕ) × (p < length v.now) × (nth v.now p ≢ pos 0) × (nth w.now p ≡ pos 0) × (product line.now w.now ≢ pos 0) }
+    requires apart {
+        (p : ℕ) × (p < length v.now) × (nth v.now p ≢ pos 0) × (nth w.now p ≡ pos 0) × (product line.now w.now ≢ pos 0)
+    }
     ensures { IfOk result (λ y. Reduces (product line.now w.now) (product line.now v.now) v.now w.now y) }
 {
     let s = dot(line, w);
@@ -31,9 +33,7 @@ fn cleared_row(
 /// The first free coordinate whose row `line` doesn't send to 0.
 fn find_pivot(limit: u64, line: &[i128], basis: &[NumList], free: &[bool]) -> Option<usize>
     requires { Ready limit line.now basis.now free.now }
-    ensures { MatchOption result
-        ((j : ℕ) → j < length free.now → flag free.now j ≡ true → product line.now (slice_index_or basis.now j []) ≡ pos 0)
-        (λ p. (p < length free.now) × (flag free.now p ≡ true) × (product line.now (slice_index_or basis.now p []) ≢ pos 0)) }
+    ensures { MatchOption result (NoneCanClear line.now basis.now free.now) (CanClear line.now basis.now free.now) }
 {
     for j in 0..free.len() {
         if free[j] {
@@ -57,7 +57,7 @@ fn next_row(
     free: &[bool],
 ) -> Result<NumList, AllocError>
     requires ready { Ready limit line.now basis.now free.now }
-    requires pivot { (pivot < length free.now) × (flag free.now pivot ≡ true) × (product line.now (slice_index_or basis.now pivot []) ≢ pos 0) }
+    requires pivot { CanClear line.now basis.now free.now pivot }
     requires within { j < length free.now }
     ensures { IfOk result (λ y. flag free.now j ≡ true → j ≢ pivot → IsNext line.now basis.now pivot j y) }
 {
@@ -78,9 +78,12 @@ fn cleared(
     free: &[bool],
 ) -> Result<Vec<NumList>, AllocError>
     requires ready { Ready limit line.now basis.now free.now }
-    requires pivot { (pivot < length free.now) × (flag free.now pivot ≡ true) × (product line.now (slice_index_or basis.now pivot []) ≢ pos 0) }
+    requires pivot { CanClear line.now basis.now free.now pivot }
     ensures long { IfOk result (λ next. length next.items ≡ length free.now) }
-    ensures rows { IfOk result (λ next. (j : ℕ) → j < length free.now → flag free.now j ≡ true → j ≢ pivot → IsNext line.now basis.now pivot j (slice_index_or next.items j [])) }
+    ensures rows {
+        IfOk result (λ next. (j : ℕ) → j < length free.now → flag free.now j ≡ true → j ≢ pivot
+            → IsNext line.now basis.now pivot j (slice_index_or next.items j []))
+    }
 {
     let mut next = Vec::new(alloc);
     for j in 0..free.len() {
@@ -89,6 +92,7 @@ fn cleared(
     Ok(next)
 }
 
+/// The row that is 1 at `j` and 0 elsewhere.
 fn unit(alloc: Global, width: usize, j: usize) -> Result<NumList, AllocError>
     ensures { IfOk result (λ v. IsUnit width j v) }
 {
@@ -99,6 +103,7 @@ fn unit(alloc: Global, width: usize, j: usize) -> Result<NumList, AllocError>
     Ok(out)
 }
 
+/// The unit rows of all coordinates.
 fn units(alloc: Global, width: usize) -> Result<Vec<NumList>, AllocError>
     ensures long { IfOk result (λ rows. length rows.items ≡ width) }
     ensures units { IfOk result (λ rows. (j : ℕ) → j < width → IsUnit width j (slice_index_or rows.items j [])) }
@@ -126,6 +131,9 @@ fn take_free(mut basis: Vec<NumList>, free: &[bool]) -> Option<NumList>
 }
 
 /// A small row other than 0 that all lines send to 0, or None where they send only 0 to 0.
+///
+/// There is one row for each coordinate, and a coordinate is free until a line is cleared at it. The rows of the free
+/// coordinates span what all lines so far send to 0, and each is 0 at the other free coordinates.
 pub fn kernel(
     alloc: Global,
     limit: u64,

@@ -13,5 +13,8 @@ mod rows;
 mod solved;
 mod square;
 
+#[cfg(test)]
+mod tests;
+
 pub use solved::{Solved, solve};
 pub use square::Square;

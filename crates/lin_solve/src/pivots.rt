@@ -1,18 +1,20 @@
-ghost use Rattle.std.specs.Prelude.{◌≡◌, ◌≢◌, ℕ, ◌+◌, ◌*◌, ◌≤◌, ◌<◌, ◌^◌, ℤ, pos, ◌≤ℤ◌, length, unsigned_abs, IfOk, slice_index_or, List, []};
-ghost use Rattle.lin_solve.specs.Systems.{row, size, IsBounded, IsClearing, IsPivot, OnlyZero, IsWithin, HasEdge, IsGrown};
+ghost use Rattle.lin_solve.specs.Systems.{HasEdge, IsBounded, IsGrown, IsPivot, IsWithin, OnlyZero};
+ghost use Rattle.std.specs.Prelude.{IfOk, length, pos, unsigned_abs, ◌*◌, ◌<◌, ◌^◌, ◌≡◌, ◌≢◌, ◌≤ℤ◌};
 ghost use Rattle.wide_num.specs.Sums.{nth};
 
 use crate::columns::{clearing, column};
-use wide_num::NumList;
 use crate::rows::{dot, times};
 use std::alloc::{AllocError, Global};
-use wide_num::{div_exact, gcd};
+use wide_num::{NumList, div_exact, gcd};
 
-/// What a clearing row makes of its column and of the right side.
+/// The products of a row that clears all columns but one: value `i` of the solution is `far / c` and `near / c`.
 #[derive(Clone, Copy, Drop)]
 pub struct Pivot {
+    /// The product with the column that is left, which isn't 0.
     pub c: i128,
+    /// The product with the far parts of the right side.
     pub far: i128,
+    /// The product with the near parts of the right side.
     pub near: i128,
 }
 
@@ -43,7 +45,7 @@ pub fn pivot_at(
     Ok(Pivot { c, far, near })
 }
 
-/// The denominator after one more pivot.
+/// The least multiple of `den` over which `far / c` and `near / c` are whole too.
 pub fn grow(den: i128, c: i128, far: i128, near: i128) -> i128
     requires positive { pos 1 ≤ℤ den }
     requires apart { c ≢ pos 0 }

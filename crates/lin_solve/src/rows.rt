@@ -1,11 +1,18 @@
-ghost use Rattle.std.specs.Prelude.{◌≡◌, ◌≢◌, ℕ, ◌+◌, ◌*◌, ◌≤◌, ◌<◌, ◌^◌, ℤ, pos, ◌+ℤ◌, ◌-ℤ◌, ◌*ℤ◌, ◌<ℤ◌, ◌≤ℤ◌, length, unsigned_abs, IfOk, All};
+ghost use Rattle.lin_solve.specs.Systems.{AreQuotients, ContentOf, IsMix, IsPrimitivePart, Reduces, product, reach};
+ghost use Rattle.std.specs.Prelude.{IfOk, length, pos, unsigned_abs, ℕ, ◌*ℤ◌, ◌*◌, ◌+ℤ◌, ◌+◌, ◌-ℤ◌, ◌<◌, ◌^◌, ◌≡◌, ◌≢◌};
 ghost use Rattle.wide_num.specs.Range.{Divides};
-ghost use Rattle.lin_solve.specs.Systems.{reach, product, IsPrimitive, IsMix, Reduces, IsPart, IsPrimitivePart, ContentOf};
-ghost use Rattle.wide_num.specs.Sums.{nth, dot};
+ghost use Rattle.wide_num.specs.Sums.{nth};
 
-use wide_num::NumList;
 use std::alloc::{AllocError, Global};
-use wide_num::{div_exact, gcd};
+use wide_num::{NumList, div_exact, gcd};
+
+/// A product that is known to stay in the range.
+pub fn times(a: i128, b: i128) -> i128
+    requires { unsigned_abs a * unsigned_abs b < 2 ^ 120 }
+    ensures { result ≡ a *ℤ b }
+{
+    a * b
+}
 
 fn add_product(sum: i128, a: i128, b: i128) -> i128
     requires { unsigned_abs sum + unsigned_abs a * unsigned_abs b < 2 ^ 120 }
@@ -14,6 +21,16 @@ fn add_product(sum: i128, a: i128, b: i128) -> i128
     sum + a * b
 }
 
+fn minus_products(s: i128, v: i128, t: i128, w: i128) -> i128
+    requires { unsigned_abs s * unsigned_abs v + unsigned_abs t * unsigned_abs w < 2 ^ 120 }
+    ensures { result ≡ s *ℤ v -ℤ t *ℤ w }
+{
+    let left = times(s, v);
+    let right = times(t, w);
+    left - right
+}
+
+/// The product of two rows.
 pub fn dot(line: &[i128], vector: &[i128]) -> i128
     requires long { length line.now ≡ length vector.now }
     requires room { reach line.now vector.now < 2 ^ 120 }
@@ -31,33 +48,20 @@ fn content(xs: &[i128]) -> i128
     requires { (i : ℕ) → i < length xs.now → unsigned_abs (nth xs.now i) < 2 ^ 120 }
     ensures { ContentOf (length xs.now) (nth xs.now) result }
 {
-    let mut sum = 0;
-    for i in 0..xs.len() {
-        sum = gcd(sum, xs[i]);
+    let mut shared = 0;
+    for x in xs {
+        shared = gcd(shared, *x);
     }
-    sum
-}
-
-pub fn times(a: i128, b: i128) -> i128
-    requires { unsigned_abs a * unsigned_abs b < 2 ^ 120 }
-    ensures { result ≡ a *ℤ b }
-{
-    a * b
-}
-
-fn minus_products(s: i128, v: i128, t: i128, w: i128) -> i128
-    requires { unsigned_abs s * unsigned_abs v + unsigned_abs t * unsigned_abs w < 2 ^ 120 }
-    ensures { result ≡ s *ℤ v -ℤ t *ℤ w }
-{
-    let left = times(s, v);
-    let right = times(t, w);
-    left - right
+    shared
 }
 
 /// `s` times `v` less `t` times `w`.
 fn mix(alloc: Global, s: i128, v: &[i128], t: i128, w: &[i128]) -> Result<NumList, AllocError>
     requires long { length v.now ≡ length w.now }
-    requires room { (i : ℕ) → i < length v.now → unsigned_abs s * unsigned_abs (nth v.now i) + unsigned_abs t * unsigned_abs (nth w.now i) < 2 ^ 120 }
+    requires room {
+        (i : ℕ) → i < length v.now
+        → unsigned_abs s * unsigned_abs (nth v.now i) + unsigned_abs t * unsigned_abs (nth w.now i) < 2 ^ 120
+    }
     ensures { IfOk result (λ y. IsMix s t v.now w.now y) }
 {
     let mut out = NumList::new(alloc);
@@ -68,15 +72,15 @@ fn mix(alloc: Global, s: i128, v: &[i128], t: i128, w: &[i128]) -> Result<NumLis
 }
 
 /// Each number divided by `g`.
-fn part(alloc: Global, g: i128, v: &[i128]) -> Result<NumList, AllocError>
+fn quotients(alloc: Global, g: i128, v: &[i128]) -> Result<NumList, AllocError>
     requires apart { g ≢ pos 0 }
     requires divides { (i : ℕ) → i < length v.now → Divides g (nth v.now i) }
     requires room { (i : ℕ) → i < length v.now → unsigned_abs (nth v.now i) < 2 ^ 120 }
-    ensures { IfOk result (λ y. IsPart g v.now y) }
+    ensures { IfOk result (λ y. AreQuotients g v.now y) }
 {
     let mut out = NumList::new(alloc);
-    for i in 0..v.len() {
-        out.push(div_exact(v[i], g))?;
+    for x in v {
+        out.push(div_exact(*x, g))?;
     }
     Ok(out)
 }
@@ -88,13 +92,22 @@ fn primitive(alloc: Global, v: &[i128]) -> Result<NumList, AllocError>
     ensures { IfOk result (λ y. IsPrimitivePart v.now y) }
 {
     let shared = content(v);
-    part(alloc, shared, v)
+    quotients(alloc, shared, v)
 }
 
 /// `s` times `v` less `t` times `w`, divided by what its numbers share.
-pub fn reduced(alloc: Global, s: i128, v: &[i128], t: i128, w: &[i128]) -> Result<NumList, AllocError>
+pub fn reduced(
+    alloc: Global,
+    s: i128,
+    v: &[i128],
+    t: i128,
+    w: &[i128],
+) -> Result<NumList, AllocError>
     requires long { length v.now ≡ length w.now }
-    requires room { (i : ℕ) → i < length v.now → unsigned_abs s * unsigned_abs (nth v.now i) + unsigned_abs t * unsigned_abs (nth w.now i) < 2 ^ 120 }
+    requires room {
+        (i : ℕ) → i < length v.now
+        → unsigned_abs s * unsigned_abs (nth v.now i) + unsigned_abs t * unsigned_abs (nth w.now i) < 2 ^ 120
+    }
     requires apart { (p : ℕ) × (p < length v.now) × (s *ℤ nth v.now p -ℤ t *ℤ nth w.now p ≢ pos 0) }
     ensures { IfOk result (λ y. Reduces s t v.now w.now y) }
 {

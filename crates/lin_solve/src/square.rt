@@ -1,13 +1,13 @@
-ghost use Rattle.std.specs.Prelude.{◌≡◌, ℕ, ◌+◌, ◌*◌, ◌≤◌, ◌<◌, ℤ, List, [], length, slice_index_or, IfOk};
-ghost use Rattle.lin_solve.specs.Systems.{row};
+ghost use Rattle.lin_solve.specs.Systems.{IsSquare, row};
+ghost use Rattle.std.specs.Prelude.{IfOk, List, length, ℕ, ℤ, ◌*◌, ◌+◌, ◌<◌, ◌≡◌, ◌≤◌};
 ghost use Rattle.wide_num.specs.Sums.{nth};
 
-use wide_num::NumList;
 use std::alloc::{AllocError, Global};
 use std::marker::Model;
+use wide_num::NumList;
 
-/// A square matrix of whole numbers, seen as the list of its lines.
-#[derive(Drop)]
+/// A square matrix of whole numbers with 1 to 6 lines. Contracts see it as the list of its lines.
+#[derive(Debug, Drop)]
 pub struct Square {
     lines: Vec<NumList>,
 }
@@ -17,25 +17,15 @@ impl Model for Square {
 
     ghost view = { λ s. s.lines.items };
 
-    ghost invariant = { λ s. (1 ≤ length s.lines.items) × (length s.lines.items ≤ 6) × ((k : ℕ) → k < length s.lines.items → length (slice_index_or s.lines.items k []) ≡ length s.lines.items) };
-}
-
-fn line_of(alloc: Global, entries: &[i128], start: usize, size: usize) -> Result<NumList, AllocError>
-    requires { start + size ≤ length entries.now }
-    ensures long { IfOk result (λ y. length y ≡ size) }
-    ensures entries { IfOk result (λ y. (i : ℕ) → i < size → nth y i ≡ nth entries.now (start + i)) }
-{
-    let mut out = NumList::new(alloc);
-    for i in 0..size {
-        out.push(entries[start + i])?;
-    }
-    Ok(out)
+    ghost invariant = { λ s. IsSquare s.lines.items };
 }
 
 impl Square {
+    /// The matrix of this size whose lines, one after the other, are the entries.
     pub fn new(alloc: Global, size: usize, entries: &[i128]) -> Result<Square, AllocError>
         requires size { (1 ≤ size) × (size ≤ 6) }
         requires entries { length entries.now ≡ size * size }
+        ensures square { IfOk result (λ m. IsSquare m) }
         ensures long { IfOk result (λ m. length m ≡ size) }
         ensures entries { IfOk result (λ m. (k i : ℕ) → k < size → i < size → row m k i ≡ nth entries.now (k * size + i)) }
     {
@@ -46,11 +36,29 @@ impl Square {
         Ok(Square { lines })
     }
 
-    pub fn lines(&self) -> &[NumList]
+    /// The lines in order.
+    pub(crate) fn lines(&self) -> &[NumList]
         ensures same { result.now ≡ self.now }
-        ensures size { (1 ≤ length self.now) × (length self.now ≤ 6) }
-        ensures square { (k : ℕ) → k < length self.now → length (slice_index_or self.now k []) ≡ length self.now }
+        ensures square { IsSquare self.now }
     {
         self.lines.as_slice()
     }
+}
+
+// The `size` entries from `start` on.
+fn line_of(
+    alloc: Global,
+    entries: &[i128],
+    start: usize,
+    size: usize,
+) -> Result<NumList, AllocError>
+    requires { start + size ≤ length entries.now }
+    ensures long { IfOk result (λ y. length y ≡ size) }
+    ensures entries { IfOk result (λ y. (i : ℕ) → i < size → nth y i ≡ nth entries.now (start + i)) }
+{
+    let mut line = NumList::new(alloc);
+    for i in 0..size {
+        line.push(entries[start + i])?;
+    }
+    Ok(line)
 }

@@ -1,4 +1,4 @@
-use Rattle.std.proofs.Common.{rules, FitsSigned}
+use Rattle.std.proofs.Common.{arith, rules, FitsSigned}
 use Rattle.std.specs.Int.{w128}
 use Rattle.std.proofs.lemmas.Int.{to_z-of_z}
 use Rattle.wide_num.specs.Sums.{nth}
@@ -36,7 +36,7 @@ returns-clause-small c =
     let lv = rw c.deref-2.ensures.value at c.in_ok-values.ensures.long in
     let av = simp to_z-of_z at (rw c.deref-2.ensures.value at c.in_ok-values.ensures.values) in
     simp to_z-of_z (
-      cd.small,
+      omega (arith, cd.small),
       small_values c.args.limit c.args.edge c.args.top c.args.lines.now (nth c.args.fars.now) (nth c.args.nears.now) c.in_ok-pivots.pivots.items k.bounded c.requires.only k.signs c.in_ok-pivots.ensures.long c.in_ok-pivots.ensures.pivots k.tops k.cs k.parts
           c.common_den-den.result c.in_ok-values.values cd lv av,
     )

@@ -4,6 +4,6 @@ use Rattle.lin_solve.proofs.square.line_of.Given as goal
 
 abbrev pub invariant-loop-i : goal.invariant-loop-i
 invariant-loop-i l = record {
-  long : length l.out ≡ l.i;
-  is : (k : ℕ) → k < l.i → nth l.out k ≡ nth l.entries (l.start + k);
+  long : length l.line ≡ l.i;
+  is : (k : ℕ) → k < l.i → nth l.line k ≡ nth l.entries (l.start + k);
 }
