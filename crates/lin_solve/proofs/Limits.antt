@@ -6,7 +6,7 @@ use Rattle.std.proofs.Math.Nat.{mul-le-mul, pow-le-pow_right}
 use Rattle.far_num.specs.declared.Far.{Far}
 use Rattle.lin_solve.specs.declared.solved.Solved.{Solved}
 use Rattle.lin_solve.specs.declared.solved.Solved.TheVariants.{One, Dependent}
-use Rattle.lin_solve.specs.Systems.{row, size, bound, IsKernelRow, IsWithin}
+use Rattle.lin_solve.specs.Systems.{row, size, bound, IsWithin}
 use Rattle.lin_solve.specs.Solved.{IsSmallSystem, IsWithinLimits, AreParts, IsOnly, IsAnswer, IsSmallAnswer}
 use Rattle.far_num.specs.Pairs.{far_at, near_at}
 use Rattle.lin_solve.proofs.PivotFacts.{size_small}
@@ -65,13 +65,7 @@ pub answer_at : (m : List (List ℤ)) (b c b' c' : ℕ → ℤ) → ((k : ℕ) �
 answer_at m b c b' c' e f (One den values) h = record { positive = h.positive; long = h.long; far = only_at m (far_at values) b b' den e h.far; near = only_at m (near_at values) c c' den f h.near }
 answer_at m b c b' c' e f (Dependent v) h = h
 
--- a kernel row is smaller than the largest denominator
-pub row_below : (limit top : ℕ) (lines : List (List ℤ)) (v : List ℤ) → 1 ≤ limit → limit ^ length lines ≤ top → IsKernelRow limit (length lines) lines v → (i : ℕ) → i < length v → unsigned_abs (nth v i) < top + 1
-row_below limit top lines v some tops k i l =
-    let small : unsigned_abs (nth v i) ≤ limit ^ (length lines - 1) = k.small i (subst (λ (n : ℕ). i < n) k.long l) in
-    let more : limit ^ (length lines - 1) ≤ limit ^ length lines = pow-le-pow_right some (omega arith) in
-    omega (arith, small, more, tops)
-
+-- a wider bound on denominators
 pub wider_answer : (a b part : ℕ) (s : Solved) → a ≤ b → IsSmallAnswer a part s → IsSmallAnswer b part s
 wider_answer a b part (One den values) le h = (below_le h.0, h.1)
   where

@@ -12,9 +12,8 @@ pub fn column(alloc: Global, lines: &[NumList], i: usize) -> Result<NumList, All
     ensures { IfOk result (λ y. IsColumn lines.now i y) }
 {
     let mut out = NumList::new(alloc);
-    for k in 0..lines.len() {
-        let line = lines[k].items();
-        out.push(line[i])?;
+    for line in lines {
+        out.push(line.items()[i])?;
     }
     Ok(out)
 }

@@ -44,8 +44,8 @@ pub fn common_den(top: u64, pivots: &[Pivot]) -> i128
     ensures { IsCommonDen top pivots.now result }
 {
     let mut den = 1;
-    for i in 0..pivots.len() {
-        den = grow(den, pivots[i].c, pivots[i].far, pivots[i].near);
+    for pivot in pivots {
+        den = grow(den, pivot.c, pivot.far, pivot.near);
     }
     den
 }
@@ -69,9 +69,9 @@ pub fn values(alloc: Global, top: u64, den: i128, pivots: &[Pivot]) -> Result<Fa
     ensures values { IfOk result (λ out. AreValues pivots.now den (length pivots.now) (far_at out) (near_at out)) }
 {
     let mut out = FarList::new(alloc);
-    for i in 0..pivots.len() {
-        let far = quotient(den, pivots[i].c, pivots[i].far);
-        let near = quotient(den, pivots[i].c, pivots[i].near);
+    for pivot in pivots {
+        let far = quotient(den, pivot.c, pivot.far);
+        let near = quotient(den, pivot.c, pivot.near);
         out.push(Far { far, near })?;
     }
     Ok(out)

@@ -3,8 +3,8 @@ use Rattle.lin_solve.specs.Systems.{row}
 use Rattle.wide_num.specs.Sums.{nth}
 use Rattle.lin_solve.proofs.columns.column.Given as goal
 
-abbrev pub invariant-loop-k : goal.invariant-loop-k
-invariant-loop-k l = record {
-  long : length l.out ≡ l.k;
-  is : (m : ℕ) → m < l.k → nth l.out m ≡ row l.lines m l.i;
+abbrev pub invariant-loop-line : goal.invariant-loop-line
+invariant-loop-line l = record {
+  long : length l.out ≡ l.line-index;
+  is : (m : ℕ) → m < l.line-index → nth l.out m ≡ row l.lines m l.i;
 }
