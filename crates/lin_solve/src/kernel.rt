@@ -145,10 +145,10 @@ pub fn kernel(
 {
     let mut basis = units(alloc, width)?;
     let mut free = vec![in alloc; true; width]?;
-    for k in 0..lines.len() {
-        let line = lines[k].items();
-        if let Some(pivot) = find_pivot(limit, line, &basis, &free) {
-            basis = cleared(alloc, limit, line, pivot, &basis, &free)?;
+    for line in lines {
+        let numbers = line.items();
+        if let Some(pivot) = find_pivot(limit, numbers, &basis, &free) {
+            basis = cleared(alloc, limit, numbers, pivot, &basis, &free)?;
             free[pivot] = false;
         }
     }
