@@ -20,9 +20,7 @@ fn cleared_row(
     requires left { IsWithin (bound limit (length line.now)) (length line.now) (nth v.now) }
     requires right { IsWithin (bound limit (length line.now)) (length line.now) (nth w.now) }
     requires room { HasRoom limit (length line.now) }
-    requires apart {
-        (p : ℕ) × (p < length v.now) × (nth v.now p ≢ pos 0) × (nth w.now p ≡ pos 0) × (product line.now w.now ≢ pos 0)
-    }
+    requires apart { (p : ℕ) × (p < length v.now) × (nth v.now p ≢ pos 0) × (nth w.now p ≡ pos 0) × (product line.now w.now ≢ pos 0) }
     ensures { IfOk result (λ y. Reduces (product line.now w.now) (product line.now v.now) v.now w.now y) }
 {
     let s = dot(line, w);
@@ -80,10 +78,8 @@ fn cleared(
     requires ready { Ready limit line.now basis.now free.now }
     requires pivot { CanClear line.now basis.now free.now pivot }
     ensures long { IfOk result (λ next. length next.items ≡ length free.now) }
-    ensures rows {
-        IfOk result (λ next. (j : ℕ) → j < length free.now → flag free.now j ≡ true → j ≢ pivot
-            → IsNext line.now basis.now pivot j (slice_index_or next.items j []))
-    }
+    ensures rows { IfOk result (λ next. (j : ℕ) → j < length free.now → flag free.now j ≡ true → j ≢ pivot
+        → IsNext line.now basis.now pivot j (slice_index_or next.items j [])) }
 {
     let mut next = Vec::new(alloc);
     for j in 0..free.len() {

@@ -12,7 +12,6 @@ mod pivots;
 mod rows;
 mod solved;
 mod square;
-
 #[cfg(test)]
 mod tests;
 

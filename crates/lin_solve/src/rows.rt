@@ -58,10 +58,8 @@ fn content(xs: &[i128]) -> i128
 /// `s` times `v` less `t` times `w`.
 fn mix(alloc: Global, s: i128, v: &[i128], t: i128, w: &[i128]) -> Result<NumList, AllocError>
     requires long { length v.now ≡ length w.now }
-    requires room {
-        (i : ℕ) → i < length v.now
-        → unsigned_abs s * unsigned_abs (nth v.now i) + unsigned_abs t * unsigned_abs (nth w.now i) < 2 ^ 120
-    }
+    requires room { (i : ℕ) → i < length v.now
+        → unsigned_abs s * unsigned_abs (nth v.now i) + unsigned_abs t * unsigned_abs (nth w.now i) < 2 ^ 120 }
     ensures { IfOk result (λ y. IsMix s t v.now w.now y) }
 {
     let mut out = NumList::new(alloc);
@@ -104,10 +102,8 @@ pub fn reduced(
     w: &[i128],
 ) -> Result<NumList, AllocError>
     requires long { length v.now ≡ length w.now }
-    requires room {
-        (i : ℕ) → i < length v.now
-        → unsigned_abs s * unsigned_abs (nth v.now i) + unsigned_abs t * unsigned_abs (nth w.now i) < 2 ^ 120
-    }
+    requires room { (i : ℕ) → i < length v.now
+        → unsigned_abs s * unsigned_abs (nth v.now i) + unsigned_abs t * unsigned_abs (nth w.now i) < 2 ^ 120 }
     requires apart { (p : ℕ) × (p < length v.now) × (s *ℤ nth v.now p -ℤ t *ℤ nth w.now p ≢ pos 0) }
     ensures { IfOk result (λ y. Reduces s t v.now w.now y) }
 {
