@@ -7,7 +7,7 @@ use Rattle.wide_num.proofs.Ints.{lin, mul-zero_cases}
 use Rattle.wide_num.proofs.Sums.{dot-lin, dot-scale, dot-same, dot-zero}
 use Rattle.wide_num.specs.Sums.{dot}
 use Rattle.lin_solve.proofs.Siegel.{Solves}
-use Rattle.lin_solve.specs.Systems.{nats}
+use Rattle.lin_solve.specs.Bounds.{nat_total}
 
 pub true_false : {X : Type 0} (b : Bool) → b ≡ true → b ≡ false → X
 true_false b e f = cc
@@ -35,7 +35,7 @@ held b = cond b 0 1
 
 -- how many coordinates below n are not free
 abbrev pub taken : ℕ → (ℕ → Bool) → ℕ
-taken n free = nats n (λ (i : ℕ). held (free i))
+taken n free = nat_total n (λ (i : ℕ). held (free i))
 
 pub record Basis (n : ℕ) (free : ℕ → Bool) (kept : List (ℕ → ℤ)) (v : ℕ → ℕ → ℤ) : Type 0 where
   pub own : (j : ℕ) → j < n → free j ≡ true → v j j ≢ pos 0

@@ -3,18 +3,21 @@ use Rattle.std.proofs.Common.{◌≡◌, ℕ, zero, suc, ◌<◌, ◌≤◌, ℤ
 use Rattle.std.proofs.lemmas.Bool.{cases_eq}
 use Rattle.std.proofs.Math.IntN.{*ℤ_comm}
 use Rattle.wide_num.proofs.Ints.{*ℤ-one}
-use Rattle.lin_solve.specs.Systems.{row, nats, size, IsCleared, AreLines, IsKernelRow, OnlyZero, IsKeptColumn, IsBounded, IsClearing}
+use Rattle.lin_solve.specs.Matrix.{row, IsCleared, OnlyZero}
+use Rattle.lin_solve.specs.Bounds.{nat_total, size, AreLines, IsBounded}
+use Rattle.lin_solve.specs.Elimination.{IsKernelRow}
+use Rattle.lin_solve.specs.Clearing.{IsKeptColumn, IsClearing}
 use Rattle.wide_num.specs.Sums.{nth, dot}
 use Rattle.wide_num.proofs.Sums.{total-same, dot-zero}
-use Rattle.lin_solve.proofs.Siegel.{nats-le}
+use Rattle.lin_solve.proofs.Siegel.{nat_total-le}
 use Rattle.lin_solve.proofs.Inverse.{Solvable, solvable, unit, unit-same}
 
 pub dot_comm : (n : ℕ) (a v : ℕ → ℤ) → dot n a v ≡ dot n v a
 dot_comm n a v = total-same n (λ (i : ℕ). a i *ℤ v i) (λ (i : ℕ). v i *ℤ a i) (λ i l. *ℤ_comm (a i) (v i))
 
-nats_zero : (n : ℕ) (f : ℕ → ℕ) → ((i : ℕ) → i < n → f i ≡ 0) → nats n f ≡ 0
-nats_zero zero f h = refl
-nats_zero (suc n) f h = omega (arith, h zero (omega arith), nats_zero n (λ (i : ℕ). f (suc i)) (λ i l. h (suc i) (omega arith)))
+nat_total-zero : (n : ℕ) (f : ℕ → ℕ) → ((i : ℕ) → i < n → f i ≡ 0) → nat_total n f ≡ 0
+nat_total-zero zero f h = refl
+nat_total-zero (suc n) f h = omega (arith, h zero (omega arith), nat_total-zero n (λ (i : ℕ). f (suc i)) (λ i l. h (suc i) (omega arith)))
 
 module _ (limit out : ℕ) (lines all : List (List ℤ)) (b : IsBounded limit lines) (lo : out < length lines) (long : length all ≡ length lines)
     (columns : (i : ℕ) → i < length lines → IsKeptColumn lines out i (slice_index_or all i [])) where
@@ -36,9 +39,9 @@ module _ (limit out : ℕ) (lines all : List (List ℤ)) (b : IsBounded limit li
       sized_at k l =
           let c = columns k l in
           elim (cases_eq k out) [
-            | inl e ↦ (let z : size (length lines) (row all k) ≡ 0 = nats_zero (length lines) (λ (i : ℕ). unsigned_abs (row all k i)) (λ i li. ap unsigned_abs (c.zero e i li)) in omega (arith, z))
+            | inl e ↦ (let z : size (length lines) (row all k) ≡ 0 = nat_total-zero (length lines) (λ (i : ℕ). unsigned_abs (row all k i)) (λ i li. ap unsigned_abs (c.zero e i li)) in omega (arith, z))
             | inr ne ↦ le_two (size (length lines) (row all k)) (size (length lines) (λ (m : ℕ). row lines m k)) limit
-                (nats-le (length lines) (λ (i : ℕ). unsigned_abs (row all k i)) (λ (i : ℕ). unsigned_abs (row lines i k)) (λ i li. le_of_same (unsigned_abs (row all k i)) (unsigned_abs (row lines i k)) (ap unsigned_abs (c.is ne i li))))
+                (nat_total-le (length lines) (λ (i : ℕ). unsigned_abs (row all k i)) (λ (i : ℕ). unsigned_abs (row lines i k)) (λ i li. le_of_same (unsigned_abs (row all k i)) (unsigned_abs (row lines i k)) (ap unsigned_abs (c.is ne i li))))
                 (b.columns k l)
           ]
 

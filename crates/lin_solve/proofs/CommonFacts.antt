@@ -4,11 +4,11 @@ use Rattle.std.proofs.lemmas.Int.{ints, unsigned_abs-mul}
 use Rattle.std.proofs.Math.IntN.{*ℤ_comm}
 use Rattle.wide_num.proofs.Ints.{mul_assoc, *ℤ-one}
 use Rattle.lin_solve.specs.declared.pivots.Pivot.{Pivot}
-use Rattle.lin_solve.specs.Systems.{IsWholeOver, IsGrown}
+use Rattle.lin_solve.specs.Clearing.{IsWholeOver, IsGrown}
 use Rattle.lin_solve.specs.Pivots.{pivot, AreWhole, HaveCommon, IsCommonDen, AreValues}
 use Rattle.far_num.specs.Pairs.{both, far_at, near_at, pair_at}
 use Rattle.far_num.specs.declared.Far.{Far}
-use Rattle.std.proofs.Common.{◌∷◌, [], ◌++◌, get_or}
+use Rattle.std.proofs.Common.{◌∷◌, [], ◌++◌}
 use Rattle.std.proofs.lemmas.List.{get_or_append_left, get_or_push}
 
 factor_below : (d q k t : ℕ) → k ≡ d * q → 1 ≤ k → k ≤ t → d ≤ t

@@ -8,9 +8,9 @@ use Rattle.std.proofs.Math.Nat.{mul-div_cancel_left, pow-zero, pow-suc, div-add-
 use Rattle.wide_num.proofs.Ints.{lin, mul-add, mul-sub, mul-neg, swap_mul, mul_assoc, mul_cancel, *ℤ-one, combined, Combined}
 use Rattle.wide_num.proofs.Sums.{dot-lin, dot-scale, dot-same, total-first, total-same, total-scale}
 use Rattle.wide_num.specs.Sums.{dot}
-use Rattle.lin_solve.proofs.Siegel.{nats-le, pos_nats, joined_below, joined_same}
-use Rattle.lin_solve.specs.Systems.{nats}
-use Rattle.lin_solve.proofs.Small.{le_mul, mul_le, nats-scale}
+use Rattle.lin_solve.proofs.Siegel.{nat_total-le, pos-nat_total, joined_below, joined_same}
+use Rattle.lin_solve.specs.Bounds.{nat_total}
+use Rattle.lin_solve.proofs.Small.{le_mul, mul_le, nat_total-scale}
 use Rattle.lin_solve.proofs.Inverse.{Injective}
 use Rattle.lin_solve.proofs.Pigeon.{collide, Collision}
 
@@ -144,7 +144,7 @@ small_multiple g i j (negsuc c) h k e = absurd (omega (arith, ints, e))
 
 module _ (n s d : ℕ) (a : ℕ → ℕ → ℕ) (p q b c : ℕ → ℤ) (s1 : 1 ≤ s) (d1 : 1 ≤ d)
     (inj : Injective n (λ (m i : ℕ). pos (a m i)))
-    (rows : (m : ℕ) → m < n → nats n (a m) ≤ s)
+    (rows : (m : ℕ) → m < n → nat_total n (a m) ≤ s)
     (is_p : (m : ℕ) → m < n → dot n (λ (i : ℕ). pos (a m i)) p ≡ pos d *ℤ b m)
     (is_q : (m : ℕ) → m < n → dot n (λ (i : ℕ). pos (a m i)) q ≡ pos d *ℤ c m) where
   sum_at : ℕ → ℕ → ℕ → ℤ
@@ -154,13 +154,13 @@ module _ (n s d : ℕ) (a : ℕ → ℕ → ℕ) (p q b c : ℕ → ℤ) (s1 : 1
   rest_at i j l = rest_of d (sum_at i j l) d1
 
   value_at : ℕ → ℕ → ℕ → ℕ
-  value_at i j m = nats n (λ (l : ℕ). a m l * (rest_at i j l).r)
+  value_at i j m = nat_total n (λ (l : ℕ). a m l * (rest_at i j l).r)
 
   -- the matrix sends the rests to a multiple of d
   value_is : (i j m : ℕ) → m < n → pos (value_at i j m) ≡ pos d *ℤ (pos i *ℤ b m -ℤ neg_ℤ (pos j) *ℤ c m -ℤ dot n (λ (l : ℕ). pos (a m l)) (λ (l : ℕ). (rest_at i j l).q))
   unfolding value_at sum_at
   value_is i j m l =
-      pos_nats n (λ (l : ℕ). a m l * (rest_at i j l).r)
+      pos-nat_total n (λ (l : ℕ). a m l * (rest_at i j l).r)
       ∙ dot-same n (λ (l : ℕ). pos (a m l)) (λ (l : ℕ). pos ((rest_at i j l).r)) (λ (l : ℕ). pos 1 *ℤ sum_at i j l -ℤ pos d *ℤ (rest_at i j l).q) (λ l b. out (sum_at i j l) (pos ((rest_at i j l).r)) (pos d *ℤ (rest_at i j l).q) (rest_at i j l).is)
       ∙ dot-lin n (pos 1) (pos d) (λ (l : ℕ). pos (a m l)) (sum_at i j) (λ (l : ℕ). (rest_at i j l).q)
       ∙ ap (λ (x : ℤ). pos 1 *ℤ x -ℤ pos d *ℤ dot n (λ (l : ℕ). pos (a m l)) (λ (l : ℕ). (rest_at i j l).q)) (dot-lin n (pos i) (neg_ℤ (pos j)) (λ (l : ℕ). pos (a m l)) p q)
@@ -178,9 +178,9 @@ module _ (n s d : ℕ) (a : ℕ → ℕ → ℕ) (p q b c : ℕ → ℤ) (s1 : 1
   value_below i j m l =
       omega (
         arith,
-        nats-le n (λ (l : ℕ). a m l * (rest_at i j l).r) (λ (l : ℕ). a m l * (d - 1)) (λ l b. le_mul (a m l) ((rest_at i j l).r) (d - 1) (below_pred d ((rest_at i j l).r) (rest_at i j l).below)),
-        nats-scale n (d - 1) (a m),
-        mul_le (d - 1) (nats n (a m)) s (rows m l),
+        nat_total-le n (λ (l : ℕ). a m l * (rest_at i j l).r) (λ (l : ℕ). a m l * (d - 1)) (λ l b. le_mul (a m l) ((rest_at i j l).r) (d - 1) (below_pred d ((rest_at i j l).r) (rest_at i j l).below)),
+        nat_total-scale n (d - 1) (a m),
+        mul_le (d - 1) (nat_total n (a m)) s (rows m l),
       )
     where
       below_pred : (d r : ℕ) → r < d → r ≤ d - 1
@@ -195,7 +195,7 @@ module _ (n s d : ℕ) (a : ℕ → ℕ → ℕ) (p q b c : ℕ → ℤ) (s1 : 1
       (λ m b.
       dot-lin n (pos 1) (pos 1) (λ (l : ℕ). pos (a m l)) (λ (l : ℕ). pos ((rest_at i j l).r)) (λ (l : ℕ). pos ((rest_at i' j' l).r))
       ∙ minus_equal (dot n (λ (l : ℕ). pos (a m l)) (λ (l : ℕ). pos ((rest_at i j l).r))) (dot n (λ (l : ℕ). pos (a m l)) (λ (l : ℕ). pos ((rest_at i' j' l).r)))
-      (sym (pos_nats n (λ (l : ℕ). a m l * (rest_at i j l).r)) ∙ ap pos (same_value m b) ∙ pos_nats n (λ (l : ℕ). a m l * (rest_at i' j' l).r)))
+      (sym (pos-nat_total n (λ (l : ℕ). a m l * (rest_at i j l).r)) ∙ ap pos (same_value m b) ∙ pos-nat_total n (λ (l : ℕ). a m l * (rest_at i' j' l).r)))
       l bl)
     where
       same_value : (m : ℕ) → m < n → value_at i j m ≡ value_at i' j' m

@@ -8,7 +8,7 @@ use Rattle.wide_num.proofs.Ints.{lin, mul-neg, swap_mul, mul_cancel, mul-zero_ca
 use Rattle.wide_num.proofs.Sums.{dot-scale, dot-same, dot-through, total-first, total-one}
 use Rattle.wide_num.specs.Sums.{dot}
 use Rattle.lin_solve.proofs.Siegel.{Solves, room, box, siegel, Solution}
-use Rattle.lin_solve.specs.Systems.{nats, size}
+use Rattle.lin_solve.specs.Bounds.{nat_total, size}
 use Rattle.lin_solve.proofs.Small.{SizesWithin, room_below, crowd}
 
 -- the first m rows of a matrix
@@ -30,7 +30,7 @@ Solves-all n zero a z h = tt
 Solves-all n (suc m) a z h = (h zero (omega arith), Solves-all n m (λ (i : ℕ). a (suc i)) z (λ k l. h (suc k) (omega arith)))
 
 -- sizes within the sum of all
-sizes_within : (n m s : ℕ) (a : ℕ → ℕ → ℤ) → nats m (λ (k : ℕ). size n (a k)) ≤ s → SizesWithin n s (rows_of m a)
+sizes_within : (n m s : ℕ) (a : ℕ → ℕ → ℤ) → nat_total m (λ (k : ℕ). size n (a k)) ≤ s → SizesWithin n s (rows_of m a)
 sizes_within n zero s a h = tt
 sizes_within n (suc m) s a h = (omega (arith, h), sizes_within n m s (λ (k : ℕ). a (suc k)) (omega (arith, h)))
 
@@ -41,8 +41,8 @@ box_full (suc n) h = omega (arith, ap (λ (x : ℕ). suc h * x) (box_full n h), 
 -- fewer rows than unknowns: some solution isn't zero
 pub few_rows : (n m : ℕ) (a : ℕ → ℕ → ℤ) → m < n → (u : ℕ → ℕ) × Solution n u (rows_of m a)
 few_rows n m a l =
-    let s : ℕ = suc (nats m (λ (k : ℕ). size n (a k))) in
-    (λ (i : ℕ). s ^ m, siegel n (λ (i : ℕ). s ^ m) (rows_of m a) (enough (suc (nats m (λ (k : ℕ). size n (a k)))) (omega arith) (sizes_within n m (suc (nats m (λ (k : ℕ). size n (a k)))) a (omega arith))))
+    let s : ℕ = suc (nat_total m (λ (k : ℕ). size n (a k))) in
+    (λ (i : ℕ). s ^ m, siegel n (λ (i : ℕ). s ^ m) (rows_of m a) (enough (suc (nat_total m (λ (k : ℕ). size n (a k)))) (omega arith) (sizes_within n m (suc (nat_total m (λ (k : ℕ). size n (a k)))) a (omega arith))))
   where
     enough : (s : ℕ) → 1 ≤ s → SizesWithin n s (rows_of m a) → room n (λ (i : ℕ). s ^ m) (rows_of m a) < box n (λ (i : ℕ). s ^ m)
     enough s one h =

@@ -3,7 +3,7 @@ use Rattle.std.proofs.Common.{◌≡◌, ◌≢◌, ℕ, ◌+◌, ◌*◌, ◌<�
 use Rattle.std.proofs.lemmas.Int.{ints, unsigned_abs-mul}
 use Rattle.std.proofs.Math.IntN.{*ℤ_comm, *ℤ-zero}
 use Rattle.wide_num.proofs.Ints.{mul_cancel, *ℤ-one}
-use Rattle.lin_solve.specs.Systems.{ContentOf, AreQuotients, IsPrimitivePart, IsMix, Reduces}
+use Rattle.lin_solve.specs.Elimination.{ContentOf, AreQuotients, IsPrimitivePart, IsMix, Reduces}
 use Rattle.wide_num.specs.Sums.{nth, dot}
 use Rattle.wide_num.proofs.Sums.{dot-same, dot-scale}
 

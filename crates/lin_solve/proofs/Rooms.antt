@@ -3,17 +3,18 @@ use Rattle.std.proofs.Common.{◌≡◌, ◌≢◌, ℕ, zero, suc, ◌+◌, ◌
 use Rattle.std.proofs.Math.Nat.{mul-le-mul, one-le-pow}
 use Rattle.std.proofs.Math.IntN.{*ℤ-zero}
 use Rattle.wide_num.proofs.Ints.{lin, mul-zero_cases}
-use Rattle.lin_solve.specs.Systems.{size, reach, product, bound, IsWithin}
+use Rattle.lin_solve.specs.Bounds.{size, reach, bound, IsWithin}
+use Rattle.lin_solve.specs.Elimination.{product}
 use Rattle.wide_num.specs.Sums.{nth}
-use Rattle.lin_solve.proofs.Siegel.{nats-le, abs_dot}
-use Rattle.lin_solve.proofs.Small.{le_mul, mul_le, nats-scale}
+use Rattle.lin_solve.proofs.Siegel.{nat_total-le, abs_dot}
+use Rattle.lin_solve.proofs.Small.{le_mul, mul_le, nat_total-scale}
 
 pub reach_small : (a v : List ℤ) (s h : ℕ) → size (length a) (nth a) ≤ s → IsWithin h (length a) (nth v) → reach a v ≤ s * h
 reach_small a v s h sized small =
     omega (
       arith,
-      nats-le (length a) (λ (i : ℕ). unsigned_abs (nth a i) * unsigned_abs (nth v i)) (λ (i : ℕ). unsigned_abs (nth a i) * h) (λ i l. le_mul (unsigned_abs (nth a i)) (unsigned_abs (nth v i)) h (small i l)),
-      nats-scale (length a) h (λ (i : ℕ). unsigned_abs (nth a i)),
+      nat_total-le (length a) (λ (i : ℕ). unsigned_abs (nth a i) * unsigned_abs (nth v i)) (λ (i : ℕ). unsigned_abs (nth a i) * h) (λ i l. le_mul (unsigned_abs (nth a i)) (unsigned_abs (nth v i)) h (small i l)),
+      nat_total-scale (length a) h (λ (i : ℕ). unsigned_abs (nth a i)),
       mul_le h (size (length a) (nth a)) s sized,
     )
 

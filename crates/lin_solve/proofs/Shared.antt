@@ -3,7 +3,7 @@ use Rattle.std.proofs.Common.{◌≡◌, ◌≢◌, ℕ, zero, suc, ◌*◌, ◌
 use Rattle.std.proofs.lemmas.Int.{ints}
 use Rattle.std.proofs.Math.IntN.{*ℤ_comm}
 use Rattle.wide_num.proofs.Ints.{lin, mul-add, swap_mul, mul_assoc, mul_cancel, mul-zero_cases, *ℤ-one, abs_pos}
-use Rattle.lin_solve.specs.Systems.{nats}
+use Rattle.lin_solve.specs.Bounds.{nat_total}
 use Rattle.wide_num.specs.Sums.{dot}
 use Rattle.wide_num.proofs.Sums.{dot-scale, dot-same, dot-scale_left}
 use Rattle.lin_solve.proofs.Inverse.{Injective, Solvable, solvable}
@@ -31,7 +31,7 @@ factors_some r t g d h l = (one_of (r * t) g d h l, λ z. two_of (r * t) g d h l
 
 module _ (n s d : ℕ) (a : ℕ → ℕ → ℕ) (b c p q : ℕ → ℤ) (s1 : 1 ≤ s) (d1 : 1 ≤ d)
     (inj : Injective n (λ (m i : ℕ). pos (a m i)))
-    (rows : (m : ℕ) → m < n → nats n (a m) ≤ s)
+    (rows : (m : ℕ) → m < n → nat_total n (a m) ≤ s)
     (is_p : (m : ℕ) → m < n → dot n (λ (i : ℕ). pos (a m i)) p ≡ pos d *ℤ b m)
     (is_q : (m : ℕ) → m < n → dot n (λ (i : ℕ). pos (a m i)) q ≡ pos d *ℤ c m) where
   one_ct : Content n d p
@@ -146,7 +146,7 @@ grows k d m c c' g f h x y z u v ek ec ne eg eu ev =
         )
 
 -- the denominator for two right sides: at most the n-th power of s
-pub common : (n s : ℕ) (a : ℕ → ℕ → ℕ) (b c : ℕ → ℤ) → 1 ≤ s → Injective n (λ (m i : ℕ). pos (a m i)) → ((m : ℕ) → m < n → nats n (a m) ≤ s) → Common n s (λ (m i : ℕ). pos (a m i)) b c
+pub common : (n s : ℕ) (a : ℕ → ℕ → ℕ) (b c : ℕ → ℤ) → 1 ≤ s → Injective n (λ (m i : ℕ). pos (a m i)) → ((m : ℕ) → m < n → nat_total n (a m) ≤ s) → Common n s (λ (m i : ℕ). pos (a m i)) b c
 common n s a b c s1 inj rows =
     let v : Solvable n (λ (m i : ℕ). pos (a m i)) b = solvable n (λ (m i : ℕ). pos (a m i)) inj b in
     let w : Solvable n (λ (m i : ℕ). pos (a m i)) c = solvable n (λ (m i : ℕ). pos (a m i)) inj c in

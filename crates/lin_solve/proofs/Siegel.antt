@@ -6,7 +6,7 @@ use Rattle.std.proofs.Math.Nat.{div-add-mod, mod-lt, mul-le-mul, div-lt_iff_lt-m
 use Rattle.wide_num.proofs.Ints.{lin}
 use Rattle.wide_num.proofs.Sums.{total-same, total-add, dot-lin}
 use Rattle.wide_num.specs.Sums.{total, dot}
-use Rattle.lin_solve.specs.Systems.{nats}
+use Rattle.lin_solve.specs.Bounds.{nat_total}
 use Rattle.lin_solve.proofs.Pigeon.{collide, Collision}
 
 -- z is a solution of each of the rows
@@ -18,41 +18,41 @@ abbrev SameOn : ℕ → (ℕ → ℤ) → (ℕ → ℤ) → List (ℕ → ℤ) �
 SameOn n z y [] = Unit {0}
 SameOn n z y (a ∷ rows) = (dot n a z ≡ dot n a y) × SameOn n z y rows
 
-pub nats-le : (n : ℕ) (f g : ℕ → ℕ) → ((i : ℕ) → i < n → f i ≤ g i) → nats n f ≤ nats n g
-nats-le zero f g h = omega arith
-nats-le (suc n) f g h = omega (arith, h zero (omega arith), nats-le n (λ (i : ℕ). f (suc i)) (λ (i : ℕ). g (suc i)) (λ i l. h (suc i) (omega arith)))
+pub nat_total-le : (n : ℕ) (f g : ℕ → ℕ) → ((i : ℕ) → i < n → f i ≤ g i) → nat_total n f ≤ nat_total n g
+nat_total-le zero f g h = omega arith
+nat_total-le (suc n) f g h = omega (arith, h zero (omega arith), nat_total-le n (λ (i : ℕ). f (suc i)) (λ (i : ℕ). g (suc i)) (λ i l. h (suc i) (omega arith)))
 
-pub nats-last : (n : ℕ) (f : ℕ → ℕ) → nats (suc n) f ≡ nats n f + f n
-nats-last zero f = omega arith
-nats-last (suc n) f = omega (arith, nats-last n (λ (i : ℕ). f (suc i)))
+pub nat_total-last : (n : ℕ) (f : ℕ → ℕ) → nat_total (suc n) f ≡ nat_total n f + f n
+nat_total-last zero f = omega arith
+nat_total-last (suc n) f = omega (arith, nat_total-last n (λ (i : ℕ). f (suc i)))
 
-pub nats-more : (i n : ℕ) (f : ℕ → ℕ) → i ≤ n → nats i f ≤ nats n f
-nats-more zero n f h = omega arith
-nats-more (suc i) zero f h = absurd (omega arith)
-nats-more (suc i) (suc n) f h = omega (arith, nats-more i n (λ (k : ℕ). f (suc k)) (omega arith))
+pub nat_total-more : (i n : ℕ) (f : ℕ → ℕ) → i ≤ n → nat_total i f ≤ nat_total n f
+nat_total-more zero n f h = omega arith
+nat_total-more (suc i) zero f h = absurd (omega arith)
+nat_total-more (suc i) (suc n) f h = omega (arith, nat_total-more i n (λ (k : ℕ). f (suc k)) (omega arith))
 
 abs_add : (x y : ℤ) → unsigned_abs (x +ℤ y) ≤ unsigned_abs x + unsigned_abs y
 abs_add x y = omega (arith, ints)
 
-pub abs_total : (n : ℕ) (f : ℕ → ℤ) → unsigned_abs (total n f) ≤ nats n (λ (i : ℕ). unsigned_abs (f i))
+pub abs_total : (n : ℕ) (f : ℕ → ℤ) → unsigned_abs (total n f) ≤ nat_total n (λ (i : ℕ). unsigned_abs (f i))
 abs_total zero f = omega arith
-abs_total (suc n) f = omega (arith, abs_add (total n f) (f n), abs_total n f, nats-last n (λ (i : ℕ). unsigned_abs (f i)))
+abs_total (suc n) f = omega (arith, abs_add (total n f) (f n), abs_total n f, nat_total-last n (λ (i : ℕ). unsigned_abs (f i)))
 
-nats-same : (n : ℕ) (f g : ℕ → ℕ) → ((i : ℕ) → f i ≡ g i) → nats n f ≡ nats n g
-nats-same zero f g h = refl
-nats-same (suc n) f g h = omega (arith, h zero, nats-same n (λ (i : ℕ). f (suc i)) (λ (i : ℕ). g (suc i)) (λ i. h (suc i)))
+nat_total-same : (n : ℕ) (f g : ℕ → ℕ) → ((i : ℕ) → f i ≡ g i) → nat_total n f ≡ nat_total n g
+nat_total-same zero f g h = refl
+nat_total-same (suc n) f g h = omega (arith, h zero, nat_total-same n (λ (i : ℕ). f (suc i)) (λ (i : ℕ). g (suc i)) (λ i. h (suc i)))
 
-pub abs_dot : (n : ℕ) (a v : ℕ → ℤ) → unsigned_abs (dot n a v) ≤ nats n (λ (i : ℕ). unsigned_abs (a i) * unsigned_abs (v i))
-abs_dot n a v = omega (arith, abs_total n (λ (i : ℕ). a i *ℤ v i), nats-same n (λ (i : ℕ). unsigned_abs (a i *ℤ v i)) (λ (i : ℕ). unsigned_abs (a i) * unsigned_abs (v i)) (λ i. unsigned_abs-mul (a i) (v i)))
+pub abs_dot : (n : ℕ) (a v : ℕ → ℤ) → unsigned_abs (dot n a v) ≤ nat_total n (λ (i : ℕ). unsigned_abs (a i) * unsigned_abs (v i))
+abs_dot n a v = omega (arith, abs_total n (λ (i : ℕ). a i *ℤ v i), nat_total-same n (λ (i : ℕ). unsigned_abs (a i *ℤ v i)) (λ (i : ℕ). unsigned_abs (a i) * unsigned_abs (v i)) (λ i. unsigned_abs-mul (a i) (v i)))
 
 -- one more product stays within the whole sum
-pub dot_room : (i n : ℕ) (a v : ℕ → ℤ) → i < n → unsigned_abs (dot i a v) + unsigned_abs (a i) * unsigned_abs (v i) ≤ nats n (λ (k : ℕ). unsigned_abs (a k) * unsigned_abs (v k))
+pub dot_room : (i n : ℕ) (a v : ℕ → ℤ) → i < n → unsigned_abs (dot i a v) + unsigned_abs (a i) * unsigned_abs (v i) ≤ nat_total n (λ (k : ℕ). unsigned_abs (a k) * unsigned_abs (v k))
 dot_room i n a v l =
-    omega (arith, abs_dot i a v, nats-last i (λ (k : ℕ). unsigned_abs (a k) * unsigned_abs (v k)), nats-more (suc i) n (λ (k : ℕ). unsigned_abs (a k) * unsigned_abs (v k)) l)
+    omega (arith, abs_dot i a v, nat_total-last i (λ (k : ℕ). unsigned_abs (a k) * unsigned_abs (v k)), nat_total-more (suc i) n (λ (k : ℕ). unsigned_abs (a k) * unsigned_abs (v k)) l)
 
 -- what a row of numbers gives at most on a box
 abbrev pub weight : ℕ → (ℕ → ℤ) → (ℕ → ℕ) → ℕ
-weight n a u = nats n (λ (i : ℕ). unsigned_abs (a i) * u i)
+weight n a u = nat_total n (λ (i : ℕ). unsigned_abs (a i) * u i)
 
 -- a z, moved so that it isn't negative, for z up to u
 abbrev part : ℤ → ℕ → ℕ → ℕ
@@ -81,22 +81,22 @@ part_below (pos c) u z h = mul_le_right c z u h
 part_below (negsuc c) u z h = omega (arith, minus_mul c u z h)
 
 image : ℕ → (ℕ → ℤ) → (ℕ → ℕ) → (ℕ → ℕ) → ℕ
-image n a u z = nats n (λ (i : ℕ). part (a i) (u i) (z i))
+image n a u z = nat_total n (λ (i : ℕ). part (a i) (u i) (z i))
 
-pub pos_nats : (n : ℕ) (f : ℕ → ℕ) → pos (nats n f) ≡ total n (λ (i : ℕ). pos (f i))
-pos_nats zero f = refl
-pos_nats (suc n) f = ap pos (nats-last n f) ∙ ap (λ (x : ℤ). x +ℤ pos (f n)) (pos_nats n f)
+pub pos-nat_total : (n : ℕ) (f : ℕ → ℕ) → pos (nat_total n f) ≡ total n (λ (i : ℕ). pos (f i))
+pos-nat_total zero f = refl
+pos-nat_total (suc n) f = ap pos (nat_total-last n f) ∙ ap (λ (x : ℤ). x +ℤ pos (f n)) (pos-nat_total n f)
 
 image_is : (n : ℕ) (a : ℕ → ℤ) (u z : ℕ → ℕ) → ((i : ℕ) → i < n → z i ≤ u i) → pos (image n a u z) ≡ dot n a (λ (i : ℕ). pos (z i)) +ℤ total n (λ (i : ℕ). offset (a i) (u i))
 unfolding image
 image_is n a u z h =
-    pos_nats n (λ (i : ℕ). part (a i) (u i) (z i))
+    pos-nat_total n (λ (i : ℕ). part (a i) (u i) (z i))
     ∙ total-same n (λ (i : ℕ). pos (part (a i) (u i) (z i))) (λ (i : ℕ). a i *ℤ pos (z i) +ℤ offset (a i) (u i)) (λ i l. part_is (a i) (u i) (z i) (h i l))
     ∙ total-add n (λ (i : ℕ). a i *ℤ pos (z i)) (λ (i : ℕ). offset (a i) (u i))
 
 image_below : (n : ℕ) (a : ℕ → ℤ) (u z : ℕ → ℕ) → ((i : ℕ) → i < n → z i ≤ u i) → image n a u z ≤ weight n a u
 unfolding image
-image_below n a u z h = nats-le n (λ (i : ℕ). part (a i) (u i) (z i)) (λ (i : ℕ). unsigned_abs (a i) * u i) (λ i l. part_below (a i) (u i) (z i) (h i l))
+image_below n a u z h = nat_total-le n (λ (i : ℕ). part (a i) (u i) (z i)) (λ (i : ℕ). unsigned_abs (a i) * u i) (λ i l. part_below (a i) (u i) (z i) (h i l))
 
 -- two numbers by one
 abbrev pub room : ℕ → (ℕ → ℕ) → List (ℕ → ℤ) → ℕ

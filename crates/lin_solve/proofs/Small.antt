@@ -9,19 +9,19 @@ use Rattle.std.proofs.lemmas.Nat.{mul-pow}
 use Rattle.std.proofs.Common.{zero-add}
 use Rattle.std.proofs.Math.Nat.{pow-zero, pow-suc, pow-le-pow_left, pow-le-pow_right, one-le-pow, mul-le-mul}
 use Rattle.wide_num.proofs.Ints.{lin, mul_assoc, mul_cancel, abs_pos, abs-zero}
-use Rattle.lin_solve.specs.Systems.{size, nats}
+use Rattle.lin_solve.specs.Bounds.{size, nat_total}
 use Rattle.wide_num.proofs.Sums.{dot-scale, dot-same}
 use Rattle.wide_num.specs.Sums.{dot}
-use Rattle.lin_solve.proofs.Siegel.{Solves, nats-le, weight, room, box, siegel, Solution}
+use Rattle.lin_solve.proofs.Siegel.{Solves, nat_total-le, weight, room, box, siegel, Solution}
 use Rattle.lin_solve.proofs.Basis.{Basis, Solves-lin, minus_same, minus_zero, held, taken, taken_one}
 
 abbrev pub SizesWithin : ℕ → ℕ → List (ℕ → ℤ) → Type 0
 SizesWithin n s [] = Unit {0}
 SizesWithin n s (a ∷ rows) = (size n a ≤ s) × SizesWithin n s rows
 
-pub nats-scale : (n h : ℕ) (f : ℕ → ℕ) → nats n (λ (i : ℕ). f i * h) ≡ nats n f * h
-nats-scale zero h f = omega arith
-nats-scale (suc n) h f = omega (arith, nats-scale n h (λ (i : ℕ). f (suc i)))
+pub nat_total-scale : (n h : ℕ) (f : ℕ → ℕ) → nat_total n (λ (i : ℕ). f i * h) ≡ nat_total n f * h
+nat_total-scale zero h f = omega arith
+nat_total-scale (suc n) h f = omega (arith, nat_total-scale n h (λ (i : ℕ). f (suc i)))
 
 pub le_mul : (a b d : ℕ) → b ≤ d → a * b ≤ a * d
 le_mul a b d h = grind arith
@@ -33,8 +33,8 @@ weight_below : (n s h : ℕ) (a : ℕ → ℤ) (u : ℕ → ℕ) → ((i : ℕ) 
 weight_below n s h a u below sized =
     omega (
       arith,
-      nats-le n (λ (i : ℕ). unsigned_abs (a i) * u i) (λ (i : ℕ). unsigned_abs (a i) * h) (λ i l. le_mul (unsigned_abs (a i)) (u i) h (below i l)),
-      nats-scale n h (λ (i : ℕ). unsigned_abs (a i)),
+      nat_total-le n (λ (i : ℕ). unsigned_abs (a i) * u i) (λ (i : ℕ). unsigned_abs (a i) * h) (λ i l. le_mul (unsigned_abs (a i)) (u i) h (below i l)),
+      nat_total-scale n h (λ (i : ℕ). unsigned_abs (a i)),
       mul_le h (size n a) s sized,
     )
 

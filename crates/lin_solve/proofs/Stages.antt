@@ -3,7 +3,9 @@ use Rattle.std.proofs.Common.{◌≡◌, ◌≢◌, ℕ, zero, suc, ◌-◌, ◌
 use Rattle.std.proofs.lemmas.Bool.{cases_eq, cases_lt}
 use Rattle.std.proofs.lemmas.List.{get_or-set_same, get_or-set_other, get_or_past, get_or-replicate}
 use Rattle.std.proofs.Math.Nat.{pow-le-pow_right}
-use Rattle.lin_solve.specs.Systems.{row, flag, size, IsCleared, IsPrimitive, Reduces, Ready, IsNext, AreLines, IsWithin, HasRoom, bound, product, IsUnit, IsKernelRow}
+use Rattle.lin_solve.specs.Matrix.{row, IsCleared}
+use Rattle.lin_solve.specs.Bounds.{size, AreLines, IsWithin, HasRoom, bound}
+use Rattle.lin_solve.specs.Elimination.{flag, IsPrimitive, Reduces, Ready, IsNext, product, IsUnit, IsKernelRow}
 use Rattle.wide_num.specs.Sums.{nth, dot}
 use Rattle.lin_solve.proofs.Siegel.{Solves}
 use Rattle.lin_solve.proofs.Basis.{Basis, Cleared, start, step, taken, held, taken_one, true_false, Solves-part, minus_same, minus_zero}

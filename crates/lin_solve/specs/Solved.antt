@@ -1,9 +1,10 @@
 -- What the answers of a linear system say.
-use Rattle.std.specs.Prelude.{◌≡◌, ◌≢◌, ℕ, ◌*◌, ◌≤◌, ◌<◌, ◌^◌, ℤ, pos, ◌*ℤ◌, ◌≤ℤ◌, unsigned_abs, List, length, slice_index_or}
+use Rattle.std.specs.Prelude.{◌≡◌, ◌≢◌, ℕ, ◌*◌, ◌≤◌, ◌<◌, ◌^◌, ℤ, pos, ◌*ℤ◌, ◌≤ℤ◌, unsigned_abs, List, length}
 use Rattle.far_num.specs.declared.Far.{Far}
 use Rattle.lin_solve.specs.declared.solved.Solved.{Solved}
 use Rattle.lin_solve.specs.declared.solved.Solved.TheVariants.{One, Dependent}
-use Rattle.lin_solve.specs.Systems.{row, bound, IsCleared, IsBounded, IsWithin, HasEdge}
+use Rattle.lin_solve.specs.Matrix.{row, IsCleared}
+use Rattle.lin_solve.specs.Bounds.{bound, IsBounded, IsWithin, HasEdge}
 use Rattle.far_num.specs.Pairs.{far_at, near_at}
 use Rattle.wide_num.specs.Sums.{nth, dot}
 
@@ -16,13 +17,14 @@ pub record IsOnly (m : List (List ℤ)) (x : ℕ → ℤ) (d : ℤ) (b : ℕ →
   pub solves : Satisfies m x d b
   pub only : (y : ℕ → ℤ) (e : ℤ) → Satisfies m y e b → (i : ℕ) → i < length m → d *ℤ y i ≡ e *ℤ x i
 
+-- den is at least 1, and the far and the near parts of the values over it are the only solutions for their parts of the right side
 pub record IsOneSolution (m : List (List ℤ)) (fars nears : ℕ → ℤ) (den : ℤ) (values : List Far) : Type 0 where
   pub positive : pos 1 ≤ℤ den
   pub long : length values ≡ length m
   pub far : IsOnly m (far_at values) den fars
   pub near : IsOnly m (near_at values) den nears
 
--- a combination of the columns that isn't zero and gives 0
+-- v isn't zero, and the matrix sends it to 0
 pub record IsDependence (m : List (List ℤ)) (v : List ℤ) : Type 0 where
   pub long : length v ≡ length m
   pub place : ℕ
@@ -30,6 +32,7 @@ pub record IsDependence (m : List (List ℤ)) (v : List ℤ) : Type 0 where
   pub apart : nth v place ≢ pos 0
   pub zero : IsCleared (length m) (length m) m (nth v)
 
+-- what an answer says of the matrix and of the two parts of the right side
 abbrev pub IsAnswer : List (List ℤ) → (ℕ → ℤ) → (ℕ → ℤ) → Solved → Type 0
 IsAnswer m fars nears (One den values) = IsOneSolution m fars nears den values
 IsAnswer m fars nears (Dependent combination) = IsDependence m combination

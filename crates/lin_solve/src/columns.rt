@@ -1,4 +1,6 @@
-ghost use Rattle.lin_solve.specs.Systems.{IsBounded, IsClearing, IsColumn, IsKeptColumn, OnlyZero};
+ghost use Rattle.lin_solve.specs.Matrix.{OnlyZero};
+ghost use Rattle.lin_solve.specs.Bounds.{IsBounded};
+ghost use Rattle.lin_solve.specs.Clearing.{IsClearing, IsColumn, IsKeptColumn};
 ghost use Rattle.std.specs.Prelude.{IfOk, [], length, pos, slice_index_or, ℕ, ◌<◌, ◌≡◌};
 ghost use Rattle.wide_num.specs.Sums.{nth};
 

@@ -1,6 +1,7 @@
 ghost use Rattle.far_num.specs.Pairs.{far_at, near_at};
 ghost use Rattle.lin_solve.specs.Pivots.{ArePivots, AreValues, HaveCommon, IsCommonDen};
-ghost use Rattle.lin_solve.specs.Systems.{HasEdge, IsBounded, IsWithin, OnlyZero};
+ghost use Rattle.lin_solve.specs.Matrix.{OnlyZero};
+ghost use Rattle.lin_solve.specs.Bounds.{HasEdge, IsBounded, IsWithin};
 ghost use Rattle.std.specs.Prelude.{IfOk, length, pos, unsigned_abs, ◌*ℤ◌, ◌*◌, ◌<◌, ◌^◌, ◌≡◌, ◌≢◌};
 ghost use Rattle.wide_num.specs.Range.{Divides};
 ghost use Rattle.wide_num.specs.Sums.{nth};

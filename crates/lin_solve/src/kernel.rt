@@ -1,4 +1,6 @@
-ghost use Rattle.lin_solve.specs.Systems.{AreLines, CanClear, HasRoom, IsKernelRow, IsNext, IsUnit, IsWithin, NoneCanClear, OnlyZero, Ready, Reduces, bound, flag, product, size};
+ghost use Rattle.lin_solve.specs.Matrix.{OnlyZero};
+ghost use Rattle.lin_solve.specs.Bounds.{AreLines, HasRoom, IsWithin, bound, size};
+ghost use Rattle.lin_solve.specs.Elimination.{CanClear, IsKernelRow, IsNext, IsUnit, NoneCanClear, Ready, Reduces, flag, product};
 ghost use Rattle.std.specs.Prelude.{IfOk, MatchOption, [], false, length, pos, slice_index_or, true, ℕ, ◌<◌, ◌≡◌, ◌≢◌, ◌≤◌};
 ghost use Rattle.wide_num.specs.Sums.{nth};
 

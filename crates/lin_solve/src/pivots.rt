@@ -1,4 +1,6 @@
-ghost use Rattle.lin_solve.specs.Systems.{HasEdge, IsBounded, IsGrown, IsPivot, IsWithin, OnlyZero};
+ghost use Rattle.lin_solve.specs.Matrix.{OnlyZero};
+ghost use Rattle.lin_solve.specs.Bounds.{HasEdge, IsBounded, IsWithin};
+ghost use Rattle.lin_solve.specs.Clearing.{IsGrown, IsPivot};
 ghost use Rattle.std.specs.Prelude.{IfOk, length, pos, unsigned_abs, ◌*◌, ◌<◌, ◌^◌, ◌≡◌, ◌≢◌, ◌≤ℤ◌};
 ghost use Rattle.wide_num.specs.Sums.{nth};
 

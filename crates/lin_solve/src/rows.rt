@@ -1,4 +1,5 @@
-ghost use Rattle.lin_solve.specs.Systems.{AreQuotients, ContentOf, IsMix, IsPrimitivePart, Reduces, product, reach};
+ghost use Rattle.lin_solve.specs.Bounds.{reach};
+ghost use Rattle.lin_solve.specs.Elimination.{AreQuotients, ContentOf, IsMix, IsPrimitivePart, Reduces, product};
 ghost use Rattle.std.specs.Prelude.{IfOk, length, pos, unsigned_abs, ℕ, ◌*ℤ◌, ◌*◌, ◌+ℤ◌, ◌+◌, ◌-ℤ◌, ◌<◌, ◌^◌, ◌≡◌, ◌≢◌};
 ghost use Rattle.wide_num.specs.Range.{Divides};
 ghost use Rattle.wide_num.specs.Sums.{nth};

@@ -1,6 +1,6 @@
 ghost use Rattle.far_num.specs.Pairs.{far_at, near_at};
 ghost use Rattle.lin_solve.specs.Solved.{AreParts, IsAnswer, IsSmallAnswer, IsSmallSystem, IsWithinLimits};
-ghost use Rattle.lin_solve.specs.Systems.{OnlyZero};
+ghost use Rattle.lin_solve.specs.Matrix.{OnlyZero};
 ghost use Rattle.std.specs.Prelude.{IfOk, length, ◌+◌, ◌^◌, ◌≡◌};
 ghost use Rattle.wide_num.specs.Sums.{nth};
 

@@ -1,4 +1,4 @@
-ghost use Rattle.lin_solve.specs.Systems.{IsSquare, row};
+ghost use Rattle.lin_solve.specs.Matrix.{IsSquare, row};
 ghost use Rattle.std.specs.Prelude.{IfOk, List, length, ℕ, ℤ, ◌*◌, ◌+◌, ◌<◌, ◌≡◌, ◌≤◌};
 ghost use Rattle.wide_num.specs.Sums.{nth};
 

@@ -1,5 +1,5 @@
 use Rattle.std.proofs.Common.{◌≡◌, ℕ, ◌<◌, length}
-use Rattle.lin_solve.specs.Systems.{row}
+use Rattle.lin_solve.specs.Matrix.{row}
 use Rattle.wide_num.specs.Sums.{nth}
 use Rattle.lin_solve.proofs.columns.column.Given as goal
 

@@ -1,7 +1,8 @@
 use Rattle.std.proofs.Common.{ℕ, ◌<◌, length, FitsSigned, rules, subst, sym, unsigned_abs}
 use Rattle.std.specs.Int.{w128}
 use Rattle.std.proofs.lemmas.Int.{to_z-of_z}
-use Rattle.lin_solve.specs.Systems.{product, bound}
+use Rattle.lin_solve.specs.Bounds.{bound}
+use Rattle.lin_solve.specs.Elimination.{product}
 use Rattle.wide_num.specs.Sums.{nth}
 use Rattle.lin_solve.proofs.Rooms.{reach_small, product_small, mixed_room, reach_room, apart_left, bound_some}
 use Rattle.lin_solve.proofs.kernel.cleared_row.Goals as goal

@@ -1,5 +1,5 @@
 use Rattle.std.proofs.Common.{◌<◌, ◌^◌, pos, ◌≤ℤ◌, unsigned_abs}
-use Rattle.lin_solve.specs.Systems.{ContentOf}
+use Rattle.lin_solve.specs.Elimination.{ContentOf}
 use Rattle.wide_num.specs.Sums.{nth}
 use Rattle.lin_solve.proofs.rows.content.Given as goal
 

@@ -3,7 +3,7 @@ use Rattle.far_num.specs.declared.Far.{Far}
 use Rattle.lin_solve.proofs.Small.{mul_le}
 use Rattle.lin_solve.proofs.tests.answer.Goals as goal
 use Rattle.lin_solve.specs.Solved.{IsSmallSystem}
-use Rattle.lin_solve.specs.Systems.{row}
+use Rattle.lin_solve.specs.Matrix.{row}
 use Rattle.std.proofs.Common.{List, arith, length, pos, rules, subst, sym, unsigned_abs, ℕ, ℤ, ◌*◌, ◌+◌, ◌<◌, ◌^◌, ◌≡◌, ◌≤ℤ◌, ◌≤◌}
 use Rattle.wide_num.specs.Sums.{nth}
 

@@ -1,5 +1,5 @@
 use Rattle.std.proofs.Common.{◌≡◌, ℕ, ◌<◌, ◌+◌, ◌*◌, length, slice_index_or, []}
-use Rattle.lin_solve.specs.Systems.{row}
+use Rattle.lin_solve.specs.Matrix.{row}
 use Rattle.wide_num.specs.Sums.{nth}
 use Rattle.lin_solve.proofs.square.Square.new.Given as goal
 
