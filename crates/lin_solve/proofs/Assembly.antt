@@ -17,9 +17,6 @@ use Rattle.lin_solve.proofs.Inverse.{Injective, Clears, pick, solution}
 use Rattle.lin_solve.proofs.Inverse.{pivot as pivot_apart}
 use Rattle.lin_solve.proofs.Shared.{Common, common}
 
-pub as_lines : (limit : ℕ) (lines : List (List ℤ)) → IsBounded limit lines → AreLines limit (length lines) lines
-as_lines limit lines b = record { some = b.some; room = b.room; long = b.wide; sized = b.sized }
-
 pub clears_of : (limit i : ℕ) (lines : List (List ℤ)) (f : List ℤ) → IsClearing limit lines i f → Clears (length lines) (row lines) (nth f) i
 clears_of limit i lines f c = record { place = c.place; below = c.below; apart = c.apart; clear = c.clear }
 

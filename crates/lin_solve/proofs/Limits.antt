@@ -55,16 +55,6 @@ module _ (m : List (List ℤ)) (right : List Far) (ys zs : List ℤ) (long : len
     parts = below_two (36 ^ 6 * (length m * bound 36 (length m) * 2 ^ 46)) (36 ^ 6 * (6 * 36 ^ 5 * 2 ^ 46)) (2 ^ 106) (mul-le-mul (same (36 ^ 6)) part_le) (omega arith);
   }
 
-only_at : (m : List (List ℤ)) (x b c : ℕ → ℤ) (d : ℤ) → ((k : ℕ) → k < length m → b k ≡ c k) → IsOnly m x d b → IsOnly m x d c
-only_at m x b c d e h = record {
-  solves = λ k l. h.solves k l ∙ ap (λ (t : ℤ). d *ℤ t) (e k l);
-  only = λ y f g i l. h.only y f (λ k lk. g k lk ∙ ap (λ (t : ℤ). f *ℤ t) (sym (e k lk))) i l;
-}
-
-pub answer_at : (m : List (List ℤ)) (b c b' c' : ℕ → ℤ) → ((k : ℕ) → k < length m → b k ≡ b' k) → ((k : ℕ) → k < length m → c k ≡ c' k) → (s : Solved) → IsAnswer m b c s → IsAnswer m b' c' s
-answer_at m b c b' c' e f (One den values) h = record { positive = h.positive; long = h.long; far = only_at m (far_at values) b b' den e h.far; near = only_at m (near_at values) c c' den f h.near }
-answer_at m b c b' c' e f (Dependent v) h = h
-
 -- a wider bound on denominators
 pub wider_answer : (a b part : ℕ) (s : Solved) → a ≤ b → IsSmallAnswer a part s → IsSmallAnswer b part s
 wider_answer a b part (One den values) le h = (below_le h.0, h.1)

@@ -73,7 +73,7 @@ IsCleared-more : (n k : ℕ) (lines : List (List ℤ)) (z : ℕ → ℤ) → IsC
 IsCleared-more n k lines z h e i l = elim (cases_eq i k) [ inl q ↦ subst (λ (j : ℕ). dot n (row lines j) z ≡ pos 0) (sym q) e | inr ne ↦ h i (omega arith) ]
 
 -- a line that no free row answers changes nothing
-pub skip : (n s k : ℕ) (lines : List (List ℤ)) (free : List Bool) (vs : List (List ℤ)) → State n s k lines free vs →
+skip : (n s k : ℕ) (lines : List (List ℤ)) (free : List Bool) (vs : List (List ℤ)) → State n s k lines free vs →
     ((j : ℕ) → j < n → flag free j ≡ true → dot n (row lines k) (row vs j) ≡ pos 0) → State n s (suc k) lines free vs
 skip n s k lines free vs st none = record {
   kept = st.kept;
@@ -113,7 +113,7 @@ module _ (n s k p : ℕ) (lines : List (List ℤ)) (free : List Bool) (vs ws : L
         tt,
       )).0
 
-  pub advance : State n s (suc k) lines (set free p false) ws
+  advance : State n s (suc k) lines (set free p false) ws
   advance = record {
     kept = row lines k ∷ st.kept;
     basis = step n (flag free) (flag (set free p false)) st.kept (row vs) (row ws) (row lines k) p st.basis lp fp apart
@@ -133,7 +133,7 @@ pub closing : (n s k : ℕ) (lines : List (List ℤ)) (free : List Bool) (vs : L
 closing n s k lines free vs st none z h = st.basis.only z (st.among z h) (λ l b f. true_false (flag free l) f (none l b))
 
 -- the start: all coordinates are free, and their rows are the unit rows
-pub opening : (n s : ℕ) (lines : List (List ℤ)) (free : List Bool) (vs : List (List ℤ)) →
+opening : (n s : ℕ) (lines : List (List ℤ)) (free : List Bool) (vs : List (List ℤ)) →
     ((j : ℕ) → j < n → flag free j ≡ true) → ((j : ℕ) → j < n → length (get_or vs j []) ≡ n) →
     ((j : ℕ) → j < n → row vs j j ≡ pos 1) → ((j i : ℕ) → j < n → i < n → i ≢ j → row vs j i ≡ pos 0) → State n s 0 lines free vs
 opening n s lines free vs all long one none = record {

@@ -57,7 +57,8 @@ fn kept_columns(
 ) -> Result<Vec<NumList>, AllocError>
     requires { (k : ℕ) → k < length lines.now → length (slice_index_or lines.now k []) ≡ length lines.now }
     ensures long { IfOk result (λ all. length all.items ≡ length lines.now) }
-    ensures columns { IfOk result (λ all. (i : ℕ) → i < length lines.now → IsKeptColumn lines.now left_out i (slice_index_or all.items i [])) }
+    ensures columns { IfOk result (λ all. (i : ℕ) → i < length lines.now
+        → IsKeptColumn lines.now left_out i (slice_index_or all.items i [])) }
 {
     let mut all = Vec::new(alloc);
     for i in 0..lines.len() {

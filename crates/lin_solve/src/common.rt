@@ -28,7 +28,8 @@ pub fn all_pivots(
     requires nears { IsWithin edge (length lines.now) (nth nears.now) }
     requires edge { HasEdge limit (length lines.now) edge }
     ensures long { IfOk result (λ all. length all.items ≡ length lines.now) }
-    ensures pivots { IfOk result (λ all. ArePivots limit edge lines.now (nth fars.now) (nth nears.now) (length lines.now) all.items) }
+    ensures pivots { IfOk result (λ all.
+        ArePivots limit edge lines.now (nth fars.now) (nth nears.now) (length lines.now) all.items) }
 {
     let mut all = Vec::new(alloc);
     for i in 0..lines.len() {

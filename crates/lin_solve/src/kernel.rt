@@ -22,7 +22,8 @@ fn cleared_row(
     requires left { IsWithin (bound limit (length line.now)) (length line.now) (nth v.now) }
     requires right { IsWithin (bound limit (length line.now)) (length line.now) (nth w.now) }
     requires room { HasRoom limit (length line.now) }
-    requires apart { (p : ℕ) × (p < length v.now) × (nth v.now p ≢ pos 0) × (nth w.now p ≡ pos 0) × (product line.now w.now ≢ pos 0) }
+    requires apart { (p : ℕ) × (p < length v.now) × (nth v.now p ≢ pos 0) × (nth w.now p ≡ pos 0)
+        × (product line.now w.now ≢ pos 0) }
     ensures { IfOk result (λ y. Reduces (product line.now w.now) (product line.now v.now) v.now w.now y) }
 {
     let s = dot(line, w);
@@ -139,7 +140,8 @@ pub fn kernel(
     lines: &[NumList],
 ) -> Result<Option<NumList>, AllocError>
     requires { AreLines limit width lines.now }
-    ensures { IfOk result (λ found. MatchOption found (OnlyZero width lines.now) (λ v. IsKernelRow limit width lines.now v)) }
+    ensures { IfOk result (λ found. MatchOption found (OnlyZero width lines.now)
+        (IsKernelRow limit width lines.now)) }
 {
     let mut basis = units(alloc, width)?;
     let mut free = vec![in alloc; true; width]?;

@@ -27,7 +27,8 @@ impl Square {
         requires entries { length entries.now ≡ size * size }
         ensures square { IfOk result (λ m. IsSquare m) }
         ensures long { IfOk result (λ m. length m ≡ size) }
-        ensures entries { IfOk result (λ m. (k i : ℕ) → k < size → i < size → row m k i ≡ nth entries.now (k * size + i)) }
+        ensures entries { IfOk result (λ m. (k i : ℕ) → k < size → i < size
+            → row m k i ≡ nth entries.now (k * size + i)) }
     {
         let mut lines = Vec::new(alloc);
         for k in 0..size {

@@ -15,7 +15,8 @@ fn pair(far: i128, near: i128) -> Far {
 }
 
 fn are_small(entries: &[i128]) -> bool
-    ensures { IsTrue result → (k : ℕ) → k < length entries.now → (pos 0 ≤ℤ nth entries.now k) × (unsigned_abs (nth entries.now k) ≤ 6) }
+    ensures { IsTrue result → (k : ℕ) → k < length entries.now
+        → (pos 0 ≤ℤ nth entries.now k) × (unsigned_abs (nth entries.now k) ≤ 6) }
 {
     for x in entries {
         if *x < 0 {
