@@ -6,7 +6,7 @@ use Rattle.wide_num.proofs.Ints.{lin, abs_pos, swap_mul}
 use Rattle.far_num.specs.declared.Far.{Far}
 use Rattle.lin_solve.specs.declared.pivots.Pivot.{Pivot}
 use Rattle.lin_solve.specs.Matrix.{row, OnlyZero}
-use Rattle.lin_solve.specs.Bounds.{bound, AreLines, IsBounded}
+use Rattle.lin_solve.specs.Bounds.{bound, IsBounded}
 use Rattle.lin_solve.specs.Clearing.{IsClearing}
 use Rattle.wide_num.specs.Sums.{nth, dot}
 use Rattle.lin_solve.specs.Pivots.{pivot, ArePivots, AreWhole, HaveCommon, IsCommonDen, AreValues}

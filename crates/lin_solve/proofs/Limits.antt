@@ -1,5 +1,5 @@
 -- The conditions of a system of at most six lines with entries up to 6 give the limits.
-use Rattle.std.proofs.Common.{◌≡◌, ℕ, ◌-◌, ◌*◌, ◌^◌, ◌<◌, ◌≤◌, ℤ, pos, ◌*ℤ◌, ◌≤ℤ◌, sym, ap, ◌∙◌, subst, arith, unsigned_abs, List, [], length, slice_index_or}
+use Rattle.std.proofs.Common.{◌≡◌, ℕ, ◌-◌, ◌*◌, ◌^◌, ◌<◌, ◌≤◌, ℤ, pos, ◌≤ℤ◌, sym, ◌∙◌, subst, arith, unsigned_abs, List, [], length, slice_index_or}
 use Rattle.std.proofs.lemmas.Int.{ints}
 use Rattle.std.proofs.Math.Nat.{mul-le-mul, pow-le-pow_right}
 use Rattle.far_num.specs.declared.Far.{Far}
@@ -7,7 +7,7 @@ use Rattle.lin_solve.specs.declared.solved.Solved.{Solved}
 use Rattle.lin_solve.specs.declared.solved.Solved.TheVariants.{One, Dependent}
 use Rattle.lin_solve.specs.Matrix.{row}
 use Rattle.lin_solve.specs.Bounds.{size, bound, IsWithin}
-use Rattle.lin_solve.specs.Solved.{IsSmallSystem, IsWithinLimits, AreParts, IsOnly, IsAnswer, IsSmallAnswer}
+use Rattle.lin_solve.specs.Solved.{IsSmallSystem, IsWithinLimits, AreParts, IsSmallAnswer}
 use Rattle.far_num.specs.Pairs.{far_at, near_at}
 use Rattle.lin_solve.proofs.PivotFacts.{size_small}
 
