@@ -1,19 +1,16 @@
 -- The columns but one have a kernel row, and it clears them.
+use Rattle.std.proofs.Math.Nat.{le_of_eq, le_trans}
 use Rattle.std.proofs.Common.{◌≡◌, ℕ, zero, suc, ◌<◌, ◌≤◌, ℤ, pos, ◌*ℤ◌, refl, sym, ap, ◌∙◌, subst, arith, unsigned_abs, List, [], inl, inr, length, slice_index_or}
 use Rattle.std.proofs.lemmas.Bool.{cases_eq}
-use Rattle.std.proofs.Math.IntN.{*ℤ_comm}
 use Rattle.wide_num.proofs.Ints.{*ℤ-one}
 use Rattle.lin_solve.specs.Matrix.{row, IsCleared, OnlyZero}
 use Rattle.lin_solve.specs.Bounds.{nat_total, size, AreLines, IsBounded}
 use Rattle.lin_solve.specs.Elimination.{IsKernelRow}
 use Rattle.lin_solve.specs.Clearing.{IsKeptColumn, IsClearing}
 use Rattle.wide_num.specs.Sums.{nth, dot}
-use Rattle.wide_num.proofs.Sums.{total-same, dot-zero}
+use Rattle.wide_num.proofs.Sums.{total-same, dot-zero, dot_comm}
 use Rattle.lin_solve.proofs.Siegel.{nat_total-le}
 use Rattle.lin_solve.proofs.Inverse.{Solvable, solvable, unit, unit-same}
-
-pub dot_comm : (n : ℕ) (a v : ℕ → ℤ) → dot n a v ≡ dot n v a
-dot_comm n a v = total-same n (λ (i : ℕ). a i *ℤ v i) (λ (i : ℕ). v i *ℤ a i) (λ i l. *ℤ_comm (a i) (v i))
 
 nat_total-zero : (n : ℕ) (f : ℕ → ℕ) → ((i : ℕ) → i < n → f i ≡ 0) → nat_total n f ≡ 0
 nat_total-zero zero f h = refl
@@ -29,19 +26,13 @@ module _ (limit out : ℕ) (lines all : List (List ℤ)) (b : IsBounded limit li
     sized = λ k l. sized_at k (subst (λ (m : ℕ). k < m) long l);
   }
     where
-      le_of_same : (x y : ℕ) → x ≡ y → x ≤ y
-      le_of_same x y e = omega (arith, e)
-
-      le_two : (x y z : ℕ) → x ≤ y → y ≤ z → x ≤ z
-      le_two x y z a c = omega arith
-
       sized_at : (k : ℕ) → k < length lines → size (length lines) (row all k) ≤ limit
       sized_at k l =
           let c = columns k l in
           elim (cases_eq k out) [
             | inl e ↦ (let z : size (length lines) (row all k) ≡ 0 = nat_total-zero (length lines) (λ (i : ℕ). unsigned_abs (row all k i)) (λ i li. ap unsigned_abs (c.zero e i li)) in omega (arith, z))
-            | inr ne ↦ le_two (size (length lines) (row all k)) (size (length lines) (λ (m : ℕ). row lines m k)) limit
-                (nat_total-le (length lines) (λ (i : ℕ). unsigned_abs (row all k i)) (λ (i : ℕ). unsigned_abs (row lines i k)) (λ i li. le_of_same (unsigned_abs (row all k i)) (unsigned_abs (row lines i k)) (ap unsigned_abs (c.is ne i li))))
+            | inr ne ↦ le_trans {m = size (length lines) (λ (m : ℕ). row lines m k)}
+                (nat_total-le (length lines) (λ (i : ℕ). unsigned_abs (row all k i)) (λ (i : ℕ). unsigned_abs (row lines i k)) (λ i li. le_of_eq (ap unsigned_abs (c.is ne i li))))
                 (b.columns k l)
           ]
 

@@ -6,7 +6,7 @@ use Rattle.std.proofs.lemmas.Nat.Gcd.{mod-eq-zero_of_dvd}
 use Rattle.std.proofs.Math.IntN.{*ℤ_comm, *ℤ-zero}
 use Rattle.std.proofs.Math.Nat.{mul-div_cancel_left, pow-zero, pow-suc, div-add-mod, mod-lt, div-lt_iff_lt-mul}
 use Rattle.wide_num.proofs.Ints.{lin, mul-add, mul-sub, mul-neg, swap_mul, mul_assoc, mul_cancel, *ℤ-one, combined, Combined}
-use Rattle.wide_num.proofs.Sums.{dot-lin, dot-scale, dot-same, total-first, total-same, total-scale}
+use Rattle.wide_num.proofs.Sums.{dot-lin, dot-scale, dot-same, total-first, dot-scale_left}
 use Rattle.wide_num.specs.Sums.{dot}
 use Rattle.lin_solve.proofs.Siegel.{nat_total-le, pos-nat_total, joined_below, joined_same}
 use Rattle.lin_solve.specs.Bounds.{nat_total}
@@ -61,7 +61,7 @@ content (suc n) d p =
       x = w.s *ℤ r.x;
       e = front (w.t *ℤ sign_of (p zero)) (λ (i : ℕ). w.s *ℤ r.e i);
       sum_is = ap (λ (y : ℤ). w.s *ℤ r.x *ℤ pos d +ℤ y) (total-first n (λ (i : ℕ). front (w.t *ℤ sign_of (p zero)) (λ (i : ℕ). w.s *ℤ r.e i) i *ℤ p i)) ∙ sum_of w.s w.t (p zero) (pos (unsigned_abs (p zero))) (sign_of (p zero)) r.x (pos d) (dot n r.e (λ (i : ℕ). p (suc i))) (pos r.g) (pos w.g) (dot n (λ (i : ℕ). w.s *ℤ r.e i) (λ (i : ℕ). p (suc i)))
-          (size_is (p zero)) r.sum_is (scaled n w.s r.e (λ (i : ℕ). p (suc i))) w.sum_is;
+          (size_is (p zero)) r.sum_is (dot-scale_left n w.s r.e (λ (i : ℕ). p (suc i))) w.sum_is;
       part = front (sign_of (p zero) *ℤ pos (unsigned_abs (p zero) / w.g)) (λ (i : ℕ). pos (r.g / w.g) *ℤ r.part i);
       parts = parts_of n w.g r.g p r.part (r.g / w.g) (div_out w.g r.g (mod-eq-zero_of_dvd w.g w.is.0)) (mod-eq-zero_of_dvd w.g w.is.1) r.parts;
     }
@@ -71,9 +71,6 @@ content (suc n) d p =
 
     whole_is : (r q g b d : ℕ) → q * g ≡ b → r * b ≡ d → r * q * g ≡ d
     whole_is r q g b d h k = omega (arith, ap (λ (x : ℕ). r * x) h)
-
-    scaled : (n : ℕ) (s : ℤ) (e p : ℕ → ℤ) → dot n (λ (i : ℕ). s *ℤ e i) p ≡ s *ℤ dot n e p
-    scaled n s e p = total-same n (λ (i : ℕ). s *ℤ e i *ℤ p i) (λ (i : ℕ). s *ℤ (e i *ℤ p i)) (λ i l. mul_assoc s (e i) (p i)) ∙ total-scale n s (λ (i : ℕ). e i *ℤ p i)
 
     sum_of : (s t p0 a0 sg x d y g w sy : ℤ) → a0 ≡ sg *ℤ p0 → x *ℤ d +ℤ y ≡ g → sy ≡ s *ℤ y → s *ℤ g +ℤ t *ℤ a0 ≡ w → s *ℤ x *ℤ d +ℤ (t *ℤ sg *ℤ p0 +ℤ sy) ≡ w
     sum_of s t p0 a0 sg x d y g w sy ha h hs k =

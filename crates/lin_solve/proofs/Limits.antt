@@ -1,7 +1,7 @@
 -- The conditions of a system of at most six lines with entries up to 6 give the limits.
 use Rattle.std.proofs.Common.{◌≡◌, ℕ, ◌-◌, ◌*◌, ◌^◌, ◌<◌, ◌≤◌, ℤ, pos, ◌≤ℤ◌, sym, ◌∙◌, subst, arith, unsigned_abs, List, [], length, slice_index_or}
 use Rattle.std.proofs.lemmas.Int.{ints}
-use Rattle.std.proofs.Math.Nat.{mul-le-mul, pow-le-pow_right}
+use Rattle.std.proofs.Math.Nat.{mul-le-mul, pow-le-pow_right, le_refl, le_trans, lt_of_le_of_lt}
 use Rattle.far_num.specs.declared.Far.{Far}
 use Rattle.lin_solve.specs.declared.solved.Solved.{Solved}
 use Rattle.lin_solve.specs.declared.solved.Solved.TheVariants.{One, Dependent}
@@ -10,15 +10,6 @@ use Rattle.lin_solve.specs.Bounds.{size, bound, IsWithin}
 use Rattle.lin_solve.specs.Solved.{IsSmallSystem, IsWithinLimits, AreParts, IsSmallAnswer}
 use Rattle.far_num.specs.Pairs.{far_at, near_at}
 use Rattle.lin_solve.proofs.PivotFacts.{size_small}
-
-le_two : (x y z : ℕ) → x ≤ y → y ≤ z → x ≤ z
-le_two x y z a b = omega arith
-
-below_two : (x y z : ℕ) → x ≤ y → y < z → x < z
-below_two x y z a b = omega arith
-
-same : (x : ℕ) → x ≤ x
-same x = omega arith
 
 module _ (m : List (List ℤ)) (right : List Far) (ys zs : List ℤ) (long : length right ≡ length m) (sys : IsSmallSystem 6 6 (2 ^ 46) m right)
     (n1 : 1 ≤ length m) (n6 : length m ≤ 6) (square : (k : ℕ) → k < length m → length (slice_index_or m k []) ≡ length m)
@@ -30,16 +21,16 @@ module _ (m : List (List ℤ)) (right : List Far) (ys zs : List ℤ) (long : len
   t_le = let o : 0 < 36 = omega arith in pow-le-pow_right o n6
 
   row_le : (a : ℕ → ℤ) → IsWithin 6 (length m) a → size (length m) a ≤ 36
-  row_le a w = le_two (size (length m) a) (length m * 6) 36 (size_small (length m) 6 a w) (omega (arith, n6))
+  row_le a w = le_trans {m = length m * 6} (size_small (length m) 6 a w) (omega (arith, n6))
 
   part_le : length m * bound 36 (length m) * 2 ^ 46 ≤ 6 * 36 ^ 5 * 2 ^ 46
-  part_le = mul-le-mul (mul-le-mul n6 h_le) (same (2 ^ 46))
+  part_le = mul-le-mul (mul-le-mul n6 h_le) (le_refl (2 ^ 46))
 
   pub first_limits : IsWithinLimits 36 (2 ^ 46) (36 ^ 6) m ys zs
   first_limits = record {
     bounded = record {
       some = omega arith;
-      room = below_two (2 * (36 * (bound 36 (length m) * bound 36 (length m)))) (2 * (36 * (36 ^ 5 * 36 ^ 5))) (2 ^ 120) (mul-le-mul (same 2) (mul-le-mul (same 36) (mul-le-mul h_le h_le))) (omega arith);
+      room = lt_of_le_of_lt {m = 2 * (36 * (36 ^ 5 * 36 ^ 5))} (mul-le-mul (le_refl 2) (mul-le-mul (le_refl 36) (mul-le-mul h_le h_le))) (omega arith);
       wide = square;
       sized = λ k l. row_le (row m k) (λ i li. sys.entries k i l li);
       columns = λ i l. row_le (λ (k : ℕ). row m k i) (λ k lk. sys.entries k i lk l);
@@ -49,10 +40,10 @@ module _ (m : List (List ℤ)) (right : List Far) (ys zs : List ℤ) (long : len
     long_nears = pz.long ∙ long;
     far_sizes = λ k l. subst (λ (x : ℤ). unsigned_abs x ≤ 2 ^ 46) (sym (py.is k (subst (λ (n : ℕ). k < n) (sym long) l))) (sys.fars k l);
     near_sizes = λ k l. subst (λ (x : ℤ). unsigned_abs x ≤ 2 ^ 46) (sym (pz.is k (subst (λ (n : ℕ). k < n) (sym long) l))) (sys.nears k l);
-    reaches = below_two (36 ^ length m * (length m * bound 36 (length m) * 2 ^ 46)) (36 ^ 6 * (6 * 36 ^ 5 * 2 ^ 46)) (2 ^ 119) (mul-le-mul t_le part_le) (omega arith);
+    reaches = lt_of_le_of_lt {m = 36 ^ 6 * (6 * 36 ^ 5 * 2 ^ 46)} (mul-le-mul t_le part_le) (omega arith);
     tops = t_le;
-    cs = below_two (36 ^ 6 * (36 * bound 36 (length m))) (36 ^ 6 * (36 * 36 ^ 5)) (2 ^ 120) (mul-le-mul (same (36 ^ 6)) (mul-le-mul (same 36) h_le)) (omega arith);
-    parts = below_two (36 ^ 6 * (length m * bound 36 (length m) * 2 ^ 46)) (36 ^ 6 * (6 * 36 ^ 5 * 2 ^ 46)) (2 ^ 106) (mul-le-mul (same (36 ^ 6)) part_le) (omega arith);
+    cs = lt_of_le_of_lt {m = 36 ^ 6 * (36 * 36 ^ 5)} (mul-le-mul (le_refl (36 ^ 6)) (mul-le-mul (le_refl 36) h_le)) (omega arith);
+    parts = lt_of_le_of_lt {m = 36 ^ 6 * (6 * 36 ^ 5 * 2 ^ 46)} (mul-le-mul (le_refl (36 ^ 6)) part_le) (omega arith);
   }
 
 -- a wider bound on denominators

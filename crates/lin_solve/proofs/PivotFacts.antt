@@ -1,15 +1,14 @@
 -- The products of a clearing row: their sizes, and what they are.
 use Rattle.std.proofs.Common.{◌≡◌, ℕ, zero, suc, ◌*◌, ◌^◌, ◌<◌, ◌≤◌, ℤ, sym, ap, ◌∙◌, subst, arith, unsigned_abs, List, length}
-use Rattle.std.proofs.Math.Nat.{one-le-pow}
+use Rattle.std.proofs.Math.Nat.{one-le-pow, le_of_eq, le_trans}
 use Rattle.lin_solve.specs.Matrix.{row}
 use Rattle.lin_solve.specs.Bounds.{nat_total, size, reach, IsWithin, bound, IsBounded, HasEdge}
 use Rattle.lin_solve.specs.Elimination.{product}
 use Rattle.lin_solve.specs.Clearing.{IsColumn, IsClearing, IsPivot}
 use Rattle.wide_num.specs.Sums.{nth, dot}
 use Rattle.lin_solve.proofs.Siegel.{nat_total-le}
-use Rattle.wide_num.proofs.Sums.{dot-same}
+use Rattle.wide_num.proofs.Sums.{dot-same, dot_comm}
 use Rattle.lin_solve.proofs.Rooms.{reach_small, product_small, reach_room, bound_some}
-use Rattle.lin_solve.proofs.Clearing.{dot_comm}
 
 nat_total-const : (n h : ℕ) → nat_total n (λ (i : ℕ). h) ≡ n * h
 nat_total-const zero h = omega arith
@@ -17,9 +16,6 @@ nat_total-const (suc n) h = omega (arith, nat_total-const n h)
 
 pub size_small : (n h : ℕ) (v : ℕ → ℤ) → IsWithin h n v → size n v ≤ n * h
 size_small n h v w = omega (arith, nat_total-le n (λ (i : ℕ). unsigned_abs (v i)) (λ (i : ℕ). h) w, nat_total-const n h)
-
-le_of_same : (x y : ℕ) → x ≡ y → x ≤ y
-le_of_same x y e = omega (arith, e)
 
 within_large : (k x m : ℕ) → 1 ≤ k → x ≤ m → k * m < 2 ^ 119 → x < 2 ^ 120
 within_large (suc k) x m one l h = omega (arith, l, h)
@@ -29,12 +25,9 @@ module _ (limit i : ℕ) (lines : List (List ℤ)) (f : List ℤ) (b : IsBounded
   pub column_size : (own : List ℤ) → IsColumn lines i own → size (length own) (nth own) ≤ limit
   column_size own k =
       subst (λ (n : ℕ). size n (nth own) ≤ limit) (sym k.long)
-      (le_two (size (length lines) (nth own)) (size (length lines) (λ (m : ℕ). row lines m i)) limit
-      (nat_total-le (length lines) (λ (m : ℕ). unsigned_abs (nth own m)) (λ (m : ℕ). unsigned_abs (row lines m i)) (λ m l. le_of_same (unsigned_abs (nth own m)) (unsigned_abs (row lines m i)) (ap unsigned_abs (k.is m l))))
+      (le_trans {m = size (length lines) (λ (m : ℕ). row lines m i)}
+      (nat_total-le (length lines) (λ (m : ℕ). unsigned_abs (nth own m)) (λ (m : ℕ). unsigned_abs (row lines m i)) (λ m l. le_of_eq (ap unsigned_abs (k.is m l))))
       (b.columns i li))
-    where
-      le_two : (x y z : ℕ) → x ≤ y → y ≤ z → x ≤ z
-      le_two x y z a d = omega arith
 
   pub row_within : (own : List ℤ) → IsColumn lines i own → IsWithin (bound limit (length lines)) (length own) (nth f)
   row_within own k = subst (λ (n : ℕ). IsWithin (bound limit (length lines)) n (nth f)) (sym k.long) c.small

@@ -7,7 +7,7 @@ use Rattle.std.proofs.Math.Numerals.{one-add}
 use Rattle.wide_num.proofs.Ints.{*ℤ-one}
 use Rattle.std.proofs.lemmas.Nat.{mul-pow}
 use Rattle.std.proofs.Common.{zero-add}
-use Rattle.std.proofs.Math.Nat.{pow-zero, pow-suc, pow-le-pow_left, pow-le-pow_right, one-le-pow, mul-le-mul}
+use Rattle.std.proofs.Math.Nat.{pow-zero, pow-suc, pow-le-pow_left, pow-le-pow_right, one-le-pow, mul-le-mul, le_trans}
 use Rattle.wide_num.proofs.Ints.{lin, mul_assoc, mul_cancel, abs_pos, abs-zero}
 use Rattle.lin_solve.specs.Bounds.{size, nat_total}
 use Rattle.wide_num.proofs.Sums.{dot-scale, dot-same}
@@ -129,16 +129,13 @@ module _ (n : ℕ) (free one_less : ℕ → Bool) (kept : List (ℕ → ℤ)) (v
       (m i l ∙ ap (λ (x : ℤ). x *ℤ v j i) zj ∙ mul_assoc (v j j) (dot n e some.z) (v j i)) in
       factor_le (some.z i) (dot n e some.z) (v j i) (s ^ length kept) (zi i li)
       (λ q0. some.apart (zi some.place some.below ∙ ap (λ (x : ℤ). x *ℤ v j some.place) q0 ∙ zero_times (v j some.place)))
-      (le_trans_by (unsigned_abs (some.z i)) (mask one_less (s ^ length kept) i) (s ^ length kept) (some.within i li) (mask_le (one_less i) (s ^ length kept)))
+      (le_trans {m = mask one_less (s ^ length kept) i} (some.within i li) (mask_le (one_less i) (s ^ length kept)))
     where
       one_times : (x d : ℤ) → d ≡ pos 1 → x ≡ x *ℤ d
       one_times x d h = sym (ap (λ (k : ℤ). x *ℤ k) h ∙ *ℤ-one x)
 
       zero_times : (x : ℤ) → pos 0 *ℤ x ≡ pos 0
       zero_times x = *ℤ_comm (pos 0) x ∙ *ℤ-zero x
-
-      le_trans_by : (a b c : ℕ) → a ≤ b → b ≤ c → a ≤ c
-      le_trans_by a b c h k = omega arith
 
       mask_le : (b : Bool) (h : ℕ) → cond b 0 h ≤ h
       mask_le true h = omega arith

@@ -2,7 +2,7 @@
 use Rattle.std.proofs.Common.{◌≡◌, ◌≢◌, ℕ, zero, suc, ◌-◌, ◌^◌, ◌<◌, ◌≤◌, ℤ, pos, ◌-ℤ◌, ◌*ℤ◌, refl, sym, ap, ◌∙◌, subst, arith, unsigned_abs, List, [], ◌∷◌, inl, inr, length, Bool, true, false, set, get_or, replicate}
 use Rattle.std.proofs.lemmas.Bool.{cases_eq, cases_lt}
 use Rattle.std.proofs.lemmas.List.{get_or-set_same, get_or-set_other, get_or_past, get_or-replicate}
-use Rattle.std.proofs.Math.Nat.{pow-le-pow_right}
+use Rattle.std.proofs.Math.Nat.{pow-le-pow_right, le_trans}
 use Rattle.lin_solve.specs.Matrix.{row, IsCleared}
 use Rattle.lin_solve.specs.Bounds.{size, AreLines, IsWithin, HasRoom, bound}
 use Rattle.lin_solve.specs.Elimination.{flag, IsPrimitive, Reduces, Ready, IsNext, product, IsUnit, IsKernelRow}
@@ -52,13 +52,10 @@ pub rows_small : (n s k : ℕ) (lines : List (List ℤ)) (free : List Bool) (vs 
 rows_small n s k lines free vs one st j l f i li =
     let c : length st.kept ≤ taken n (flag free) = st.basis.count in
     let t : taken n (flag free) < n = taken_below n j (flag free) l f in
-    le_trans_by (unsigned_abs (row vs j i)) (s ^ length st.kept) (s ^ (n - 1))
+    le_trans {m = s ^ length st.kept}
     (small n (flag free) (without (flag free) j) st.kept (row vs) j s st.basis l f (without-same (flag free) j) (without-other (flag free) j)
     (st.primitive j l f).0 (st.primitive j l f).1 one st.sized i li)
     (pow-le-pow_right one (omega (arith, c, t)))
-  where
-    le_trans_by : (a b c : ℕ) → a ≤ b → b ≤ c → a ≤ c
-    le_trans_by a b c h k = omega arith
 
 flag-set : (free : List Bool) (p : ℕ) → p < length free → flag (set free p false) p ≡ false
 flag-set free p l = get_or-set_same free p false false l
