@@ -1,3 +1,4 @@
 pub mod Decimal
 pub mod Ints
 pub mod Signed
+pub mod Sums

@@ -37,7 +37,8 @@ fn negative(size: &[u8]) -> Option<i128>
     }
 }
 
-/// The number below 2^120 of which the text is the decimal digits without sign or leading zero, and None exactly where there is none.
+/// The number below 2^120 that the text spells in decimal digits without sign or leading zero, and None exactly
+/// where there is none.
 pub fn read_natural(text: &[u8]) -> Option<u128>
     ensures found { IfSome result (λ n. (n < 2 ^ 120) × (text.now ≡ decimal n)) }
     ensures none { IfNone result ((n : ℕ) → n < 2 ^ 120 → text.now ≡ decimal n → ⊥) }

@@ -1,0 +1,44 @@
+ghost use Rattle.far_num.specs.declared.Far.{Far};
+ghost use Rattle.std.specs.Prelude.{List, [], if◌then◌else◌, is_ok, ◌++◌, ◌∷◌, ◌≡◌};
+
+use crate::Far;
+use std::alloc::{AllocError, Global};
+use std::marker::Model;
+
+/// A list of pairs.
+#[derive(Debug, Drop)]
+pub struct FarList {
+    pairs: Vec<Far>,
+}
+
+impl Model for FarList {
+    ghost Value = { List Far };
+
+    ghost view = { λ list. list.pairs.items };
+}
+
+impl FarList {
+    /// The empty list. It takes no memory.
+    pub fn new(alloc: Global) -> Self
+        ensures { result ≡ [] }
+    {
+        FarList {
+            pairs: Vec::new(alloc),
+        }
+    }
+
+    /// Appends one pair. For want of memory the list stays as it is.
+    pub fn push(&mut self, pair: Far) -> Result<(), AllocError>
+        ensures { self.new ≡ (if is_ok result then self.old ++ pair ∷ [] else self.old) }
+    {
+        self.pairs.push(pair)?;
+        Ok(())
+    }
+
+    /// The pairs in order.
+    pub fn items(&self) -> &[Far]
+        ensures { result.now ≡ self.now }
+    {
+        self.pairs.as_slice()
+    }
+}

@@ -1,0 +1,49 @@
+-- A row divided by its content is primitive.
+use Rattle.std.proofs.Common.{◌≡◌, ◌≢◌, ℕ, ◌+◌, ◌*◌, ◌<◌, ◌≤◌, ◌^◌, ℤ, pos, ◌-ℤ◌, ◌*ℤ◌, length, List, arith, ◌∙◌, sym, ap, subst, unsigned_abs, Result, Ok, Err, IfOk, Option, Some, None, MatchOption}
+use Rattle.std.proofs.lemmas.Int.{ints, unsigned_abs-mul}
+use Rattle.std.proofs.Math.IntN.{*ℤ_comm, *ℤ-zero}
+use Rattle.wide_num.proofs.Ints.{mul_cancel, *ℤ-one}
+use Rattle.lin_solve.specs.Elimination.{ContentOf, AreQuotients, IsPrimitivePart, IsMix, Reduces}
+use Rattle.wide_num.specs.Sums.{nth, dot}
+use Rattle.wide_num.proofs.Sums.{dot-same, dot-scale}
+
+pub content_apart : (v : List ℤ) (g : ℤ) → ContentOf (length v) (nth v) g → (p : ℕ) → p < length v → nth v p ≢ pos 0 → g ≢ pos 0
+content_apart v g c p l ne e = ne (sym (c.parts p l) ∙ ap (λ (x : ℤ). x *ℤ c.part p) e ∙ *ℤ_comm (pos 0) (c.part p) ∙ *ℤ-zero (c.part p))
+
+pub primitive_part : (v y : List ℤ) (g : ℤ) → g ≢ pos 0 → ContentOf (length v) (nth v) g → AreQuotients g v y → IsPrimitivePart v y
+primitive_part v y g ne c p = record {
+  long = p.long;
+  g = g;
+  apart = ne;
+  is = p.is;
+  primitive = (
+    c.e,
+    mul_cancel g (dot (length v) c.e (nth y)) (pos 1) ne
+        (sym (dot-scale (length v) g c.e (nth y)) ∙ dot-same (length v) c.e (λ (i : ℕ). g *ℤ nth y i) (nth v) p.is ∙ c.sum_is ∙ sym (*ℤ-one g)),
+  );
+}
+
+pub reduces : (s t : ℤ) (v w m y : List ℤ) → IsMix s t v w m → IsPrimitivePart m y → Reduces s t v w y
+reduces s t v w m y h p = record {
+  long = p.long ∙ h.long;
+  g = p.g;
+  apart = p.apart;
+  is = λ i l. p.is i (subst (λ (n : ℕ). i < n) (sym h.long) l) ∙ h.is i l;
+  primitive = (p.primitive.0, subst (λ (n : ℕ). dot n p.primitive.0 (nth y) ≡ pos 1) h.long p.primitive.1);
+}
+
+pub mix_small : (s t x y z : ℤ) → z ≡ s *ℤ x -ℤ t *ℤ y → unsigned_abs s * unsigned_abs x + unsigned_abs t * unsigned_abs y < 2 ^ 120 → unsigned_abs z < 2 ^ 120
+mix_small s t x y z e h =
+    let k : unsigned_abs (s *ℤ x -ℤ t *ℤ y) ≤ unsigned_abs (s *ℤ x) + unsigned_abs (t *ℤ y) = minus_abs (s *ℤ x) (t *ℤ y) in
+    omega (arith, k, ap unsigned_abs e, unsigned_abs-mul s x, unsigned_abs-mul t y, h)
+  where
+    minus_abs : (x y : ℤ) → unsigned_abs (x -ℤ y) ≤ unsigned_abs x + unsigned_abs y
+    minus_abs x y = omega (arith, ints)
+
+pub if_ok : {T E : Type 0} (r : Result T E) (P Q : T → Type 0) → ((x : T) → P x → Q x) → IfOk r P → IfOk r Q
+if_ok (Ok x) P Q f h = f x h
+if_ok (Err e) P Q f h = h
+
+pub match_option : {T : Type 0} (r : Option T) (P P' : Type 0) (Q Q' : T → Type 0) → (P → P') → ((x : T) → Q x → Q' x) → MatchOption r P Q → MatchOption r P' Q'
+match_option None P P' Q Q' f g h = f h
+match_option (Some x) P P' Q Q' f g h = g x h

@@ -1,0 +1,41 @@
+-- Products and combinations of small rows stay in the range.
+use Rattle.std.proofs.Common.{◌≡◌, ◌≢◌, ℕ, zero, suc, ◌+◌, ◌-◌, ◌*◌, ◌^◌, ◌<◌, ◌≤◌, ℤ, pos, ◌-ℤ◌, ◌*ℤ◌, length, List, arith, ap, unsigned_abs}
+use Rattle.std.proofs.Math.Nat.{mul-le-mul, one-le-pow}
+use Rattle.std.proofs.Math.IntN.{*ℤ-zero}
+use Rattle.wide_num.proofs.Ints.{lin, mul-zero_cases}
+use Rattle.lin_solve.specs.Bounds.{size, reach, bound, IsWithin}
+use Rattle.lin_solve.specs.Elimination.{product}
+use Rattle.wide_num.specs.Sums.{nth}
+use Rattle.lin_solve.proofs.Siegel.{nat_total-le, abs_dot}
+use Rattle.lin_solve.proofs.Small.{le_mul, mul_le, nat_total-scale}
+
+pub reach_small : (a v : List ℤ) (s h : ℕ) → size (length a) (nth a) ≤ s → IsWithin h (length a) (nth v) → reach a v ≤ s * h
+reach_small a v s h sized small =
+    omega (
+      arith,
+      nat_total-le (length a) (λ (i : ℕ). unsigned_abs (nth a i) * unsigned_abs (nth v i)) (λ (i : ℕ). unsigned_abs (nth a i) * h) (λ i l. le_mul (unsigned_abs (nth a i)) (unsigned_abs (nth v i)) h (small i l)),
+      nat_total-scale (length a) h (λ (i : ℕ). unsigned_abs (nth a i)),
+      mul_le h (size (length a) (nth a)) s sized,
+    )
+
+pub product_small : (a v : List ℤ) (s h : ℕ) → size (length a) (nth a) ≤ s → IsWithin h (length a) (nth v) → unsigned_abs (product a v) ≤ s * h
+product_small a v s h sized small = omega (arith, abs_dot (length a) (nth a) (nth v), reach_small a v s h sized small)
+
+four : (x y v w s h : ℕ) → x ≤ s * h → y ≤ s * h → v ≤ h → w ≤ h → x * v + y * w ≤ 2 * (s * (h * h))
+four x y v w s h a b c d =
+    let p : x * v ≤ s * h * h = mul-le-mul a c in
+    let q : y * w ≤ s * h * h = mul-le-mul b d in
+    omega (arith, p, q)
+
+pub mixed_room : (x y v w s h : ℕ) → x ≤ s * h → y ≤ s * h → v ≤ h → w ≤ h → 2 * (s * (h * h)) < 2 ^ 120 → x * v + y * w < 2 ^ 120
+mixed_room x y v w s h a b c d r = omega (arith, four x y v w s h a b c d, r)
+
+pub reach_room : (s h r : ℕ) → 1 ≤ h → r ≤ s * h → 2 * (s * (h * h)) < 2 ^ 120 → r < 2 ^ 120
+reach_room s zero r one a b = absurd (omega arith)
+reach_room s (suc h) r one a b = omega (arith, a, b)
+
+pub bound_some : (limit n : ℕ) → 1 ≤ limit → 1 ≤ bound limit n
+bound_some limit n h = one-le-pow (n - 1) limit h
+
+pub apart_left : (s t x y : ℤ) → s ≢ pos 0 → x ≢ pos 0 → y ≡ pos 0 → s *ℤ x -ℤ t *ℤ y ≢ pos 0
+apart_left s t x y ns nx e z = nx (mul-zero_cases s x (omega (arith, lin, ap (λ (d : ℤ). t *ℤ d) e, *ℤ-zero t, z)) ns)

@@ -1,0 +1,69 @@
+-- What the answers of a linear system say.
+use Rattle.std.specs.Prelude.{◌≡◌, ◌≢◌, ℕ, ◌*◌, ◌≤◌, ◌<◌, ◌^◌, ℤ, pos, ◌*ℤ◌, ◌≤ℤ◌, unsigned_abs, List, length}
+use Rattle.far_num.specs.declared.Far.{Far}
+use Rattle.lin_solve.specs.declared.solved.Solved.{Solved}
+use Rattle.lin_solve.specs.declared.solved.Solved.TheVariants.{One, Dependent}
+use Rattle.lin_solve.specs.Matrix.{row, IsCleared}
+use Rattle.lin_solve.specs.Bounds.{bound, IsBounded, IsWithin, HasEdge}
+use Rattle.far_num.specs.Pairs.{far_at, near_at}
+use Rattle.wide_num.specs.Sums.{nth, dot}
+
+-- the matrix times x is d times b
+abbrev pub Satisfies : List (List ℤ) → (ℕ → ℤ) → ℤ → (ℕ → ℤ) → Type 0
+Satisfies m x d b = (k : ℕ) → k < length m → dot (length m) (row m k) x ≡ d *ℤ b k
+
+-- x over d is the only solution: each solution y over e is the same fraction at each place
+pub record IsOnly (m : List (List ℤ)) (x : ℕ → ℤ) (d : ℤ) (b : ℕ → ℤ) : Type 0 where
+  pub solves : Satisfies m x d b
+  pub only : (y : ℕ → ℤ) (e : ℤ) → Satisfies m y e b → (i : ℕ) → i < length m → d *ℤ y i ≡ e *ℤ x i
+
+-- den is at least 1, and the far and the near parts of the values over it are the only solutions for their parts of the right side
+pub record IsOneSolution (m : List (List ℤ)) (fars nears : ℕ → ℤ) (den : ℤ) (values : List Far) : Type 0 where
+  pub positive : pos 1 ≤ℤ den
+  pub long : length values ≡ length m
+  pub far : IsOnly m (far_at values) den fars
+  pub near : IsOnly m (near_at values) den nears
+
+-- v isn't zero, and the matrix sends it to 0
+pub record IsDependence (m : List (List ℤ)) (v : List ℤ) : Type 0 where
+  pub long : length v ≡ length m
+  pub place : ℕ
+  pub below : place < length m
+  pub apart : nth v place ≢ pos 0
+  pub zero : IsCleared (length m) (length m) m (nth v)
+
+-- what an answer says of the matrix and of the two parts of the right side
+abbrev pub IsAnswer : List (List ℤ) → (ℕ → ℤ) → (ℕ → ℤ) → Solved → Type 0
+IsAnswer m fars nears (One den values) = IsOneSolution m fars nears den values
+IsAnswer m fars nears (Dependent combination) = IsDependence m combination
+
+-- the denominator and the numbers of a combination are below the first bound in size, and the parts of the values below the second
+abbrev pub IsSmallAnswer : ℕ → ℕ → Solved → Type 0
+IsSmallAnswer top part (One den values) = (unsigned_abs den < top) × ((i : ℕ) → i < length values → (unsigned_abs (far_at values i) < part) × (unsigned_abs (near_at values i) < part))
+IsSmallAnswer top part (Dependent combination) = (i : ℕ) → i < length combination → unsigned_abs (nth combination i) < top
+
+-- entries from 0 to the top, and parts of the right side up to the edge in size
+pub record IsSmallSystem (size top edge : ℕ) (m : List (List ℤ)) (right : List Far) : Type 0 where
+  pub lines : length m ≤ size
+  pub signs : (k i : ℕ) → k < length m → i < length m → pos 0 ≤ℤ row m k i
+  pub entries : (k i : ℕ) → k < length m → i < length m → unsigned_abs (row m k i) ≤ top
+  pub fars : (k : ℕ) → k < length m → unsigned_abs (far_at right k) ≤ edge
+  pub nears : (k : ℕ) → k < length m → unsigned_abs (near_at right k) ≤ edge
+
+-- y has one part of each pair
+pub record AreParts (n : ℕ) (parts : ℕ → ℤ) (y : List ℤ) : Type 0 where
+  pub long : length y ≡ n
+  pub is : (k : ℕ) → k < n → nth y k ≡ parts k
+
+-- a system within a limit on lines and columns, an edge of the right side, and a top for the denominator
+pub record IsWithinLimits (limit edge top : ℕ) (lines : List (List ℤ)) (fars nears : List ℤ) : Type 0 where
+  pub bounded : IsBounded limit lines
+  pub signs : (k i : ℕ) → k < length lines → i < length lines → pos (unsigned_abs (row lines k i)) ≡ row lines k i
+  pub long_fars : length fars ≡ length lines
+  pub long_nears : length nears ≡ length lines
+  pub far_sizes : IsWithin edge (length lines) (nth fars)
+  pub near_sizes : IsWithin edge (length lines) (nth nears)
+  pub reaches : HasEdge limit (length lines) edge
+  pub tops : limit ^ length lines ≤ top
+  pub cs : top * (limit * bound limit (length lines)) < 2 ^ 120
+  pub parts : top * (length lines * bound limit (length lines) * edge) < 2 ^ 106

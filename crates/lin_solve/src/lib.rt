@@ -1,0 +1,24 @@
+//! Square linear systems of whole numbers, solved exactly.
+//!
+//! The method is fraction-free elimination by kernel rows. A kernel row is a row of whole numbers that a list of lines
+//! sends to 0. It is found by clearing one line after the other, and each row on the way is divided by what its
+//! numbers share. Such rows are small by the pigeonhole lemma of Siegel: few equations in many unknowns have a small
+//! solution other than 0. So no number leaves the range, and there is no right side to carry along: where the matrix
+//! has no kernel row, each value of the solution comes from a row that clears all columns but one.
+//!
+//! `limit`, `edge` and `top` are read by no code. By them the contracts bound the sums of lines and columns, the parts
+//! of the right side and the denominator.
+#![tactic(auto)]
+
+mod columns;
+mod common;
+mod kernel;
+mod pivots;
+mod rows;
+mod solved;
+mod square;
+#[cfg(test)]
+mod tests;
+
+pub use solved::{Solved, solve};
+pub use square::Square;
