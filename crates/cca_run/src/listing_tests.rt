@@ -1,15 +1,16 @@
 // The winning choice beside a plain listing of all choices, and a table without a bidder.
+ghost use Rattle.std.specs.Prelude.{◌≡◌, IsTrue};
+ghost use Rattle.auction_model.specs.Menu.{is_known_after};
+ghost use Rattle.auction_model.specs.Book.{menu_of};
+
 use bid_book::{BidBook, read_book};
 use choices::{Choice, Numbers, fits, known, value};
 use std::alloc::{AllocError, Global};
 use std::test::Fail;
 use value_table::{ValueTable, win};
 
-ghost use Rattle.std.specs.Prelude.{◌≡◌, IsTrue};
-ghost use Rattle.auction_model.specs.Menu.{is_known_after};
-ghost use Rattle.auction_model.specs.Book.{menu_of};
-
-const DAY_CRAMTON: &str = "book 1\nsupply 1 1\nreserve 0 0\nbidder b1\nbid 1 0 28\nbidder b2\nbid 0 1 20\nbidder b3\nbid 1 1 32\nbidder b4\nbid 1 0 14\nbidder b5\nbid 0 1 12\nend\n";
+const DAY_CRAMTON: &str =
+    "book 1\nsupply 1 1\nreserve 0 0\nbidder b1\nbid 1 0 28\nbidder b2\nbid 0 1 20\nbidder b3\nbid 1 1 32\nbidder b4\nbid 1 0 14\nbidder b5\nbid 0 1 12\nend\n";
 
 // How many choices there are.
 fn choices_of(book: &BidBook) -> u64 {

@@ -1,8 +1,8 @@
 // How a run ends.
-use bid_book::LimitKind;
-
 ghost use Rattle.std.specs.Prelude.{◌≡◌};
 ghost use Rattle.cca_run.specs.Code.{code_of};
+
+use bid_book::LimitKind;
 
 /// The part that a file plays. It is printed in lower case.
 #[derive(Clone, Copy, Debug, PartialEq, Eq)]
@@ -25,7 +25,10 @@ pub enum Status {
     /// All was read, written and printed.
     Done,
     /// A certificate fails this test at this place, the first that fails.
-    No { test: u8, place: u64 },
+    No {
+        test: u8,
+        place: u64,
+    },
     /// The words aren't of the plain form.
     Words,
     /// A file isn't of its form. For a book and a certificate the place is the byte where the first faulty line begins.
@@ -35,13 +38,20 @@ pub enum Status {
         entry: u32,
     },
     /// A file couldn't be read.
-    ReadFault { file: FileKind },
+    ReadFault {
+        file: FileKind,
+    },
     /// A file or the output couldn't be written to.
-    WriteFault { file: FileKind },
+    WriteFault {
+        file: FileKind,
+    },
     /// There was no memory.
     Memory,
     /// A quantity exceeds its limit, with its count.
-    Limit { which: LimitKind, count: u64 },
+    Limit {
+        which: LimitKind,
+        count: u64,
+    },
 }
 
 impl Status {

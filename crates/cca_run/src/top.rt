@@ -32,12 +32,7 @@ fn print<O: Sink>(out: &mut O, text: &[u8], status: Status) -> Status
 /// `win BOOK` prints the winners and their net value. All is worked out before anything is printed. A status other than
 /// Done prints its line alone; a fault of the output is WriteFault of Out, whatever came before. Words that aren't of the
 /// plain form are told without taking memory. The condition is that `files` knows each of the words.
-pub fn run<F: Files, O: Sink>(
-    alloc: Global,
-    words: &[String],
-    files: &mut F,
-    out: &mut O,
-) -> Status
+pub fn run<F: Files, O: Sink>(alloc: Global, words: &[String], files: &mut F, out: &mut O) -> Status
     requires { All (λ w. IsTrue ((F.folder files.old).knows w)) (map string_bytes words.now) }
 
     // The words alone decide on Words.
