@@ -1,7 +1,7 @@
 -- A book whose net amounts aren't negative is a lawful market.
 use Rattle.std.specs.Prelude.{◌≡◌, ℕ, zero, suc, ◌+◌, ◌-◌, ◌^◌, ◌≤◌, ◌<◌, pos, ◌≤ℤ◌, nat_le, IsTrue, List, [], ◌∷◌, length, replicate, get_or, set, refl}
 use Rattle.std.proofs.Common.{sym, ◌∙◌, ap, arith}
-use Rattle.std.proofs.lemmas.Bool.{and_parts, and_from, eqb-true, eq-eqb, leb-true, le-leb}
+use Rattle.std.proofs.lemmas.Bool.{and_parts, and_from, eq-eqb, le-leb}
 use Rattle.auction_model.specs.Package.{together, is_within, less}
 use Rattle.auction_model.specs.Menu.{Menu, is_known_after, packages_after, fits_after}
 use Rattle.auction_model.specs.Book.{Book, menu_of, market_of, bids_of, net_of}

@@ -1,12 +1,22 @@
 -- Choices taken bidder by bidder: which are known, which fit, and their sums.
-use Rattle.std.specs.Prelude.{◌≡◌, ◌≢◌, ℕ, suc, ◌+◌, ◌≤◌, ◌<◌, true, false, ◌&&◌, nat_le, IsTrue, List, length, drop, get_or, ℤ, ◌+ℤ◌, refl}
+use Rattle.std.specs.Prelude.{◌≡◌, ◌≢◌, ℕ, zero, suc, ◌+◌, ◌≤◌, ◌<◌, true, false, ◌&&◌, nat_le, IsTrue, List, [], ◌∷◌, length, drop, get_or, ℤ, ◌+ℤ◌, refl}
 use Rattle.std.proofs.Common.{◌∙◌, ap, arith, add-one, drop-cons}
-use Rattle.std.proofs.lemmas.Bool.{and_left, le-leb, lt-leb}
+use Rattle.std.proofs.lemmas.Bool.{and_parts, and_left, eqb-true, leb-true, le-leb, lt-leb}
 use Rattle.auction_model.specs.Package.{is_within, less}
 use Rattle.auction_model.specs.Menu.{Menu, is_known_after, fits_after}
 use Rattle.auction_model.specs.Market.{sum_after}
 use Rattle.auction_model.proofs.MenuLaws.{fits-cons}
-use Rattle.auction_model.proofs.BookMarket.{known-length, known-at}
+
+-- a known choice has one number for each bidder
+pub known-length : (m : Menu) (k : ℕ) (c : List ℕ) → IsTrue (is_known_after m k c) → k + length c ≡ m.bidders
+known-length m k [] t = omega (arith, eqb-true k m.bidders t)
+known-length m k (i ∷ c) t = omega (arith, known-length m (suc k) c (and_parts (nat_le i (m.bids (suc k))) (is_known_after m (suc k) c) t).1)
+
+-- and each is the number of a bid or 0
+pub known-at : (m : Menu) (k : ℕ) (c : List ℕ) (i : ℕ) → IsTrue (is_known_after m k c) → i < length c → get_or c i 0 ≤ m.bids (suc k + i)
+known-at m k [] i t h = absurd (omega arith)
+known-at m k (x ∷ c) zero t h = let same : suc k + 0 ≡ suc k = omega arith in rw same (leb-true x (m.bids (suc k)) (and_parts (nat_le x (m.bids (suc k))) (is_known_after m (suc k) c) t).0)
+known-at m k (x ∷ c) (suc i) t h = let same : suc k + suc i ≡ suc (suc k) + i = omega arith in rw same (known-at m (suc k) c i (and_parts (nat_le x (m.bids (suc k))) (is_known_after m (suc k) c) t).1 (omega arith))
 
 pub known-of : (m : Menu) (c : List ℕ) (k : ℕ) → IsTrue (is_known_after m 0 c) → k < length c → get_or c k 0 ≤ m.bids (k + 1)
 known-of m c k t h = let same : suc 0 + k ≡ k + 1 = omega arith in rw same at (known-at m 0 c k t h)
