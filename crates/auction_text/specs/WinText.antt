@@ -1,7 +1,7 @@
 -- What is printed of a choice of a book: a line for each winner in order, and the net value.
 use Rattle.std.specs.Prelude.{ℕ, zero, suc, List, [], ◌∷◌, ◌++◌, codes, ℤ}
 use Rattle.std.specs.Fmt.{signed_decimal}
-use Rattle.auction_model.specs.Book.{BookBid, Bidder, Book, bidder_of, bid_of, market_of}
+use Rattle.auction_model.specs.Book.{BookBid, Book, bidder_of, bid_of, market_of}
 use Rattle.auction_model.specs.Market.{value_of}
 use Rattle.auction_text.specs.BookLines.{numbers_text}
 

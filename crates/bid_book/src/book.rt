@@ -1,5 +1,5 @@
 // Books, and the calls that read them.
-ghost use Rattle.std.specs.Prelude.{◌≡◌, ℕ, ◌≤◌, ◌<◌, [], ◌∷◌, ◌++◌, OnOk, length};
+ghost use Rattle.std.specs.Prelude.{◌≡◌, ◌≤◌, ◌<◌, [], ◌∷◌, ◌++◌, OnOk, length};
 ghost use Rattle.auction_model.specs.Book.{bidder_of, bids_of, bid_of, lots_of, net_of};
 ghost use Rattle.bid_book.specs.Kept.{IsBidBook};
 

@@ -1,5 +1,5 @@
 // The lines of bidders and of their bids.
-ghost use Rattle.std.specs.Prelude.{IfNone, IfOk, IfSome, IsFalse, IsTrue, List, None, OnOk, Some, codes, length, ℕ, ◌++◌, ◌<◌, ◌↔◌, ◌≡◌, ◌≢◌, ◌≤◌};
+ghost use Rattle.std.specs.Prelude.{IfNone, IfOk, IfSome, IsFalse, IsTrue, None, OnOk, Some, codes, length, ℕ, ◌++◌, ◌<◌, ◌↔◌, ◌≡◌, ◌≢◌};
 ghost use Rattle.std.specs.List.{AllByRecursion};
 ghost use Rattle.auction_model.specs.Book.{Book, BookBid};
 ghost use Rattle.auction_model.specs.Package.{ComesBefore, is_within};

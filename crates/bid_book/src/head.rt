@@ -1,5 +1,5 @@
 // The lines that stand before the bidders.
-ghost use Rattle.std.specs.Prelude.{IfOk, IsTrue, List, None, Some, length, ℕ, ◌^◌, ◌↔◌, ◌≡◌, ◌≤◌, codes};
+ghost use Rattle.std.specs.Prelude.{IfOk, IsTrue, List, None, Some, ℕ, ◌^◌, ◌↔◌, ◌≡◌, ◌≤◌};
 ghost use Rattle.std.specs.List.{AllByRecursion};
 ghost use Rattle.auction_text.specs.BookForm.{IsOffer};
 ghost use Rattle.auction_text.specs.BookLines.{supply_line};

@@ -1,8 +1,6 @@
 //! The program `cca`: runs the command that its words say, and ends with the code of its status.
 #![tactic(auto)]
 
-ghost use Rattle.std.specs.Prelude.{◌≡◌, map, string_bytes, All, IsTrue};
-
 use cca_base::{RealFiles, RealSink};
 use cca_run::run;
 use std::env;

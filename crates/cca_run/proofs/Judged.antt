@@ -1,5 +1,5 @@
 -- What the stops of the readers say of a book file.
-use Rattle.std.proofs.Common.{inl, inr, ◌≡◌, ◌⊎◌, ℕ, ◌≤◌, ◌<◌, Bool, IsTrue, IsSomeAnd, Option, Some, None, List, length, refl, sym, ap, subst, ◌∙◌, arith}
+use Rattle.std.proofs.Common.{inl, inr, ◌≡◌, ◌⊎◌, ℕ, ◌≤◌, ◌<◌, Bool, IsTrue, IsSomeAnd, Option, Some, None, List, length, refl, arith}
 use Rattle.line_text.specs.LineText.{Said, stated, faulty, beyond, Says}
 use Rattle.auction_model.specs.Book.{Book as BookValue}
 use Rattle.auction_text.specs.BookForm.{IsBook}
@@ -12,7 +12,6 @@ use Rattle.bid_book.specs.declared.BookStop.{BookStop}
 use Rattle.bid_book.specs.declared.BookStop.TheVariants.{Form, Limit as Above, Memory as NoMemory}
 use Rattle.cca_run.specs.Outcome.{Outcome, book_bytes, FileSays, WinGives, FileGives, IsStop, StopsBy, stopped}
 use Rattle.cca_run.specs.Stops.{read_status, book_status}
-use Rattle.cca_run.specs.declared.status.Status.{Status}
 use Rattle.cca_run.specs.declared.status.Status.TheVariants.{Memory}
 
 file-says : (bytes : List ℕ) (said : Said BookValue _) → length bytes ≤ book_bytes → Says IsBook lines bytes said → FileSays bytes said

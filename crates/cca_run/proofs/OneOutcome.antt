@@ -1,5 +1,5 @@
 -- The words and the bytes give at most one result.
-use Rattle.std.specs.Prelude.{◌≡◌, ◌⊎◌, ℕ, ◌≤◌, ◌<◌, ◌^◌, Option, Some, None, List, length, pos, ◌≤ℤ◌}
+use Rattle.std.specs.Prelude.{◌≡◌, ℕ, ◌≤◌, ◌<◌, ◌^◌, Option, Some, None, List, length, pos, ◌≤ℤ◌}
 use Rattle.std.proofs.Common.{inl, inr, sym, ◌∙◌, ap, subst, arith}
 use Rattle.std.proofs.lemmas.Bool.{cases_lt}
 use Rattle.line_text.specs.LineText.{Said, stated, faulty, beyond, Says}
@@ -8,7 +8,7 @@ use Rattle.auction_model.specs.Greatest.{IsWinning}
 use Rattle.auction_model.specs.Lawful.{IsMarket}
 use Rattle.auction_model.specs.Book.{Book, bids_of, net_of, market_of}
 use Rattle.auction_text.specs.BookForm.{IsBook}
-use Rattle.auction_text.specs.BookLines.{Excess, lines, IsBookWithinLimits}
+use Rattle.auction_text.specs.BookLines.{Excess, lines}
 use Rattle.auction_text.specs.WinText.{win_text}
 use Rattle.bid_book.proofs.Within.{kept}
 use Rattle.cca_run.specs.Command.{Command, win, command_of}

@@ -1,16 +1,16 @@
 -- What a print leaves, over plain values.
-use Rattle.std.proofs.Common.{inl, inr, ◌≡◌, ◌⊎◌, ℕ, ◌<◌, Bool, IsTrue, Option, Some, None, List, length, refl, sym, ap, subst, ◌∙◌}
+use Rattle.std.proofs.Common.{inl, inr, ◌≡◌, ℕ, ◌<◌, Bool, IsTrue, Option, Some, List, length, refl, sym, ap, subst, ◌∙◌}
 use Rattle.cca_base.specs.Faults.{Rose}
 use Rattle.cca_base.specs.Sink.{Output, Puts}
 use Rattle.cca_base.specs.declared.write.WriteStop.{WriteStop}
 use Rattle.cca_base.specs.declared.write.WriteStop.TheVariants.{Fault}
 use Rattle.cca_run.specs.Command.{Command, win, command_of}
 use Rattle.cca_run.specs.StatusLine.{status_line}
-use Rattle.cca_run.specs.Outcome.{Outcome, FileGives, CommandGives, Gives, IsDecided, IsStop, MayPrint, Prints, StopsBy, stopped, done}
+use Rattle.cca_run.specs.Outcome.{Outcome, FileGives, CommandGives, Gives, IsDecided, IsStop, MayPrint, Prints, StopsBy, stopped}
 use Rattle.cca_run.specs.declared.status.FileKind.{FileKind}
 use Rattle.cca_run.specs.declared.status.FileKind.TheVariants.{Book, Out}
 use Rattle.cca_run.specs.declared.status.Status.{Status}
-use Rattle.cca_run.specs.declared.status.Status.TheVariants.{Done, Words, ReadFault, WriteFault, Memory}
+use Rattle.cca_run.specs.declared.status.Status.TheVariants.{Words, ReadFault, WriteFault, Memory}
 
 pub as_fault : (e : WriteStop) → (n : ℕ) × (e ≡ Fault n)
 as_fault (Fault n) = (n, refl)

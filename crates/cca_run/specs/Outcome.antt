@@ -1,7 +1,6 @@
 -- What a run answers and prints: a function of its words and of the bytes of its files.
 use Rattle.std.specs.Prelude.{◌≡◌, ◌⊎◌, ◌<◌, ◌≤◌, ◌+◌, ℕ, Bool, IsTrue, Option, Some, None, List, length}
 use Rattle.line_text.specs.LineText.{Said, stated, faulty, beyond, Says}
-use Rattle.auction_model.specs.Market.{Market}
 use Rattle.auction_model.specs.Greatest.{IsWinning}
 use Rattle.auction_model.specs.Book.{market_of, Book as BookValue}
 use Rattle.auction_text.specs.BookForm.{IsBook}
@@ -14,7 +13,7 @@ use Rattle.cca_run.specs.Command.{Command, win, command_of}
 use Rattle.cca_run.specs.StatusLine.{status_line}
 use Rattle.cca_run.specs.declared.status.FileKind.TheVariants.{Book, Out}
 use Rattle.cca_run.specs.declared.status.Status.{Status}
-use Rattle.cca_run.specs.declared.status.Status.TheVariants.{Done, No, Words, Refused, ReadFault, WriteFault, Memory, Limit}
+use Rattle.cca_run.specs.declared.status.Status.TheVariants.{Done, Words, Refused, ReadFault, WriteFault, Memory, Limit}
 
 pub record Outcome : Type 0 where
   pub status : Status

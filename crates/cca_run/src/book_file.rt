@@ -1,5 +1,5 @@
 // From the name of a book file to the text of its winners.
-ghost use Rattle.std.specs.Prelude.{◌≡◌, ◌⊎◌, ◌≤◌, ℕ, length, Some, IfOk, IsTrue};
+ghost use Rattle.std.specs.Prelude.{◌≡◌, ◌⊎◌, ◌≤◌, length, Some, IfOk, IsTrue};
 ghost use Rattle.line_text.specs.LineText.{stated};
 ghost use Rattle.cca_base.specs.Files.{KeepsFiles, CountsOnly};
 ghost use Rattle.cca_run.specs.Outcome.{book_bytes, WinGives, FileGives, done, stopped, IsStop, StopsBy};

@@ -1,5 +1,5 @@
 // The winning choice beside a plain listing of all choices, and a table without a bidder.
-ghost use Rattle.std.specs.Prelude.{◌≡◌, IsTrue};
+ghost use Rattle.std.specs.Prelude.{IsTrue};
 ghost use Rattle.auction_model.specs.Menu.{is_known_after};
 ghost use Rattle.auction_model.specs.Book.{menu_of};
 

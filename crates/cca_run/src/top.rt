@@ -1,9 +1,9 @@
 // The top call.
 ghost use Rattle.std.specs.Prelude.{◌≡◌, ◌⊎◌, ◌≤◌, ◌<◌, ℕ, List, length, map, string_bytes, Some, None, All, IsTrue};
 ghost use Rattle.cca_base.specs.Faults.{Rose};
-ghost use Rattle.cca_base.specs.Sink.{Output, Puts};
-ghost use Rattle.cca_base.specs.Files.{Folder, KeepsFiles, CountsOnly};
-ghost use Rattle.cca_run.specs.Command.{Command, win, command_of};
+ghost use Rattle.cca_base.specs.Sink.{Puts};
+ghost use Rattle.cca_base.specs.Files.{KeepsFiles, CountsOnly};
+ghost use Rattle.cca_run.specs.Command.{win, command_of};
 ghost use Rattle.cca_run.specs.StatusLine.{status_line};
 ghost use Rattle.cca_run.specs.Outcome.{Outcome, Gives, IsDecided, MayPrint, Prints};
 

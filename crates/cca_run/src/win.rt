@@ -1,8 +1,7 @@
 // What `win` prints of a book.
-ghost use Rattle.std.specs.Prelude.{◌≡◌, ◌≤◌, ◌<◌, ◌+◌, ℕ, List, [], ◌∷◌, ◌++◌, length, IfOk, OnOk, IsTrue, codes};
-ghost use Rattle.std.specs.Fmt.{decimal, signed_decimal};
+ghost use Rattle.std.specs.Prelude.{◌≡◌, ◌<◌, ◌+◌, ℕ, List, ◌∷◌, ◌++◌, IfOk, OnOk, IsTrue};
+ghost use Rattle.std.specs.Fmt.{decimal};
 ghost use Rattle.auction_model.specs.Menu.{is_known_after};
-ghost use Rattle.auction_model.specs.Market.{value_of};
 ghost use Rattle.auction_model.specs.Greatest.{IsWinning};
 ghost use Rattle.auction_model.specs.Book.{menu_of, market_of};
 ghost use Rattle.auction_text.specs.BookLines.{numbers_text};

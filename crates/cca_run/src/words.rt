@@ -1,5 +1,5 @@
 // The plain form of the words.
-ghost use Rattle.std.specs.Prelude.{◌≡◌, List, map, string_bytes, Some, None, MatchOption, IfSome, Contains};
+ghost use Rattle.std.specs.Prelude.{◌≡◌, map, string_bytes, Some, None, MatchOption, IfSome, Contains};
 ghost use Rattle.cca_run.specs.Command.{win, is_file_word, command_of};
 
 fn can_be_file(word: &str) -> bool

@@ -1,5 +1,5 @@
 // Grids.
-ghost use Rattle.std.specs.Prelude.{◌≡◌, ◌<◌, ◌++◌, ◌∷◌, ℕ, [], map, length, OnOk, OnErr, slice_index_or};
+ghost use Rattle.std.specs.Prelude.{◌≡◌, ◌<◌, ◌++◌, ◌∷◌, [], map, length, OnOk, OnErr, slice_index_or};
 ghost use Rattle.std.specs.Rc.{rc_slice_items};
 ghost use Rattle.auction_model.specs.Table.{entry_at};
 ghost use Rattle.choices.specs.Lines.{width_of};

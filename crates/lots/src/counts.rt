@@ -1,5 +1,5 @@
 // Tests and sums over the counts of a package or a supply.
-ghost use Rattle.std.specs.Prelude.{◌≡◌, ℕ, ◌≤◌, ◌^◌, [], ◌==◌, length, sum, position, All, IfOk, IfErr, None, Some};
+ghost use Rattle.std.specs.Prelude.{◌≡◌, ◌≤◌, ◌^◌, ◌==◌, length, sum, position, All, IfOk, IfErr, None, Some};
 ghost use Rattle.std.specs.List.{list_all};
 ghost use Rattle.auction_model.specs.Package.{is_within, cost_of};
 ghost use Rattle.auction_model.specs.Place.{states_of};

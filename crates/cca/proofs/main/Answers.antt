@@ -1,4 +1,4 @@
-use Rattle.std.proofs.Common.{◌≡◌, ◌∙◌, List, ℕ, string_bytes, sym, map, get_or, ap}
+use Rattle.std.proofs.Common.{◌∙◌, string_bytes, sym, map, get_or, ap}
 use Rattle.std.specs.List.{list_any}
 use Rattle.std.specs.Str.{bytes_eq}
 use Rattle.cca_base.proofs.KnownNames.{each-known}

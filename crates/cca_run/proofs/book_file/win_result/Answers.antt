@@ -1,6 +1,5 @@
 use Rattle.std.proofs.Common.{◌≡◌, ◌∙◌, sym, ap, subst, Err}
 use Rattle.cca_run.specs.Outcome.{StopsBy}
-use Rattle.cca_run.specs.declared.status.Status.{Status}
 use Rattle.cca_run.proofs.Judged.{read-stop}
 use Rattle.cca_run.proofs.book_file.win_result.Goals as goal
 

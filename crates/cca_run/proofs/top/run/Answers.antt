@@ -1,8 +1,6 @@
-use Rattle.std.proofs.Common.{inl, inr, ◌≡◌, ◌∙◌, List, ℕ, Option, Some, None, IsTrue, map, string_bytes, refl, sym, ap, subst}
-use Rattle.cca_base.specs.Sink.{Output}
+use Rattle.std.proofs.Common.{inl, ◌∙◌, Option, map, string_bytes, refl, sym, subst}
 use Rattle.cca_run.specs.Command.{Command}
-use Rattle.cca_run.specs.StatusLine.{status_line}
-use Rattle.cca_run.specs.Outcome.{Outcome, CommandGives, Gives, MayPrint, stopped, done}
+use Rattle.cca_run.specs.Outcome.{CommandGives, Gives, MayPrint, stopped, done}
 use Rattle.cca_run.specs.declared.status.Status.TheVariants.{Done, Words}
 use Rattle.cca_run.proofs.Printed.{answers, front, gives-file, stop-other, stop-may, stop-gives, not-words, was-decided}
 use Rattle.cca_run.proofs.top.run.Goals as goal

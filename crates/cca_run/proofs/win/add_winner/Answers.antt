@@ -1,4 +1,4 @@
-use Rattle.std.proofs.Common.{◌≡◌, sym, ◌∙◌, ap, ◌++◌, ◌∷◌, [], List, ℕ, codes}
+use Rattle.std.proofs.Common.{◌≡◌, ◌∙◌, ap, ◌++◌, ◌∷◌, [], List, ℕ, codes}
 use Rattle.std.specs.Fmt.{decimal}
 use Rattle.auction_text.specs.BookLines.{numbers_text}
 use Rattle.auction_text.proofs.TextLaws.{winner-added}

@@ -1,4 +1,4 @@
-use Rattle.std.proofs.Common.{◌≡◌, ◌<◌, ◌≤◌, ◌+◌, ◌-◌, ◌++◌, ℕ, List, suc, zero, length, drop, get_or, sym, ◌∙◌, ap, arith}
+use Rattle.std.proofs.Common.{◌≡◌, ◌<◌, ◌≤◌, ◌+◌, ◌-◌, ◌++◌, ℕ, List, suc, length, get_or, sym, ◌∙◌, ap, arith}
 use Rattle.auction_model.specs.Book.{BookBid, menu_of, bids_of, bid_of, lots_of}
 use Rattle.auction_text.specs.WinText.{winner_line}
 use Rattle.auction_model.specs.Market.{number_of}
