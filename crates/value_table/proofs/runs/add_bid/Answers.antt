@@ -1,4 +1,4 @@
-use Rattle.std.proofs.Common.{◌∙◌, ap, rules, get_or, take, pos}
+use Rattle.std.proofs.Common.{◌≡◌, ◌∙◌, ap, rules, get_or, take, pos}
 use Rattle.std.proofs.lemmas.Int.{to_z-of_z}
 use Rattle.auction_model.specs.Steps.{raised}
 use Rattle.auction_model.proofs.TrimLaws.{raised-trim}
@@ -14,7 +14,7 @@ returns c =
     let worth_fits : SFits w128 c.args.worth = search rules in
     λ s h.
     let old = get_or c.args.line.now s (pos 0) in
-    (rw (to_z-of_z w128 c.args.worth worth_fits) at (c.raise_block.ensures s h))
-    ∙ ap (λ l. raised l below (take used counts) c.args.worth s old) c.counts-radices.ensures.counts
-    ∙ raised-trim used c.args.supply.now counts below c.args.worth s old c.used_categories-used.ensures.rest
-    ∙ ap (λ l. raised c.args.supply.now below l c.args.worth s old) c.counts-counts.ensures
+    let made : get_or c.raise_block.new.line s (pos 0) ≡ raised c.counts-radices.result.now below (take used counts) c.args.worth s old = rw (to_z-of_z w128 c.args.worth worth_fits) at (c.raise_block.ensures s h) in
+    let supply : raised c.counts-radices.result.now below (take used counts) c.args.worth s old ≡ raised c.args.supply.now below (take used counts) c.args.worth s old = ap (λ l. raised l below (take used counts) c.args.worth s old) c.counts-radices.ensures.counts in
+    let whole = raised-trim used c.args.supply.now counts below c.args.worth s old c.used_categories-used.ensures.rest in
+    made ∙ supply ∙ whole ∙ ap (λ l. raised c.args.supply.now below l c.args.worth s old) c.counts-counts.ensures
