@@ -1,0 +1,85 @@
+-- Worked cases, each by computation.
+use Rattle.std.proofs.Common.{◌≡◌, List, [], ◌∷◌, refl}
+use Rattle.auction_model.specs.Book.{Book}
+use Rattle.auction_rules.specs.declared.Event.{Event}
+use Rattle.auction_rules.specs.declared.Event.TheVariants.{Bid, Draft, Drop, Submit, Close}
+use Rattle.auction_rules.specs.declared.Reply.TheVariants as reply
+use Rattle.auction_rules.specs.Terms.{Terms}
+use Rattle.auction_rules.specs.Step.{ticks_of, stepped}
+use Rattle.auction_rules.specs.Replies.{reply_to}
+use Rattle.auction_rules.specs.View.{bids_in_book}
+
+-- two bidders, three lots of one category, and a step of a fifth
+abbrev sample : Terms
+sample = record {
+  supply = 3 ∷ [];
+  points = 1 ∷ [];
+  reserves = 10 ∷ [];
+  tick = 1;
+  thresholds = (1, 200) ∷ [];
+  rules = [];
+  bidders = record { name = []; eligibility = 3; holding = 0 ∷ [] } ∷ record { name = []; eligibility = 2; holding = 0 ∷ [] } ∷ [];
+}
+
+raises_by_the_tick : stepped 1 ((1, 50) ∷ []) 10 3 ≡ 11
+unfolding ticks_of
+raises_by_the_tick = refl
+
+raises_by_the_greatest_threshold : stepped 7 ((1, 50) ∷ (5, 200) ∷ []) 1000 5 ≡ 1203
+unfolding ticks_of
+raises_by_the_greatest_threshold = refl
+
+-- the clock stops after two rounds, the second at 12
+abbrev two_rounds : List Event
+two_rounds = Close ∷ Bid 2 (2 ∷ []) ∷ Bid 1 (1 ∷ []) ∷ Close ∷ Bid 2 (2 ∷ []) ∷ Bid 1 (3 ∷ []) ∷ []
+
+abbrev with_drafts : List Event
+with_drafts = Draft 1 (3 ∷ []) 45 ∷ Draft 1 (1 ∷ []) 20 ∷ two_rounds
+
+refuses_an_amount_above_its_cap : reply_to sample with_drafts (Submit 1) ≡ reply.RelativeCap 2 44
+unfolding reply_to ticks_of
+refuses_an_amount_above_its_cap = refl
+
+abbrev complete : List Event
+complete = Close ∷ Submit 1 ∷ Draft 1 (3 ∷ []) 44 ∷ Submit 1 ∷ with_drafts
+
+takes_the_greatest_amounts_into_the_book : bids_in_book sample complete 1 ≡ record { lots = 1 ∷ []; amount = 20 } ∷ record { lots = 3 ∷ []; amount = 44 } ∷ []
+unfolding ticks_of
+takes_the_greatest_amounts_into_the_book = refl
+
+takes_the_clock_bids_into_the_book : bids_in_book sample complete 2 ≡ record { lots = 2 ∷ []; amount = 24 } ∷ []
+unfolding ticks_of
+takes_the_clock_bids_into_the_book = refl
+
+keeps_the_clock_bid_of_a_dropped_draft
+    : bids_in_book sample (Close ∷ Submit 1 ∷ Drop 1 (3 ∷ []) ∷ Submit 1 ∷ with_drafts) 1 ≡ record { lots = 1 ∷ []; amount = 20 } ∷ record { lots = 3 ∷ []; amount = 30 } ∷ []
+unfolding ticks_of
+keeps_the_clock_bid_of_a_dropped_draft = refl
+
+refuses_a_stranger : reply_to sample [] (Bid 0 (1 ∷ [])) ≡ reply.Unknown
+unfolding reply_to
+refuses_a_stranger = refl
+
+refuses_more_than_the_supply : reply_to sample [] (Bid 1 (4 ∷ [])) ≡ reply.Supply 1
+unfolding reply_to
+refuses_more_than_the_supply = refl
+
+refuses_more_than_the_eligibility : reply_to sample [] (Bid 2 (3 ∷ [])) ≡ reply.Points 2
+unfolding reply_to
+refuses_more_than_the_eligibility = refl
+
+refuses_a_draft_in_the_clock : reply_to sample [] (Draft 1 (1 ∷ []) 20) ≡ reply.Stage
+unfolding reply_to
+refuses_a_draft_in_the_clock = refl
+
+refuses_an_amount_below_its_clock_bid : reply_to sample two_rounds (Draft 1 (1 ∷ []) 11) ≡ reply.BelowClock 12
+unfolding reply_to ticks_of
+refuses_an_amount_below_its_clock_bid = refl
+
+refuses_to_drop_what_is_no_draft : reply_to sample two_rounds (Drop 1 (2 ∷ [])) ≡ reply.NoDraft
+unfolding reply_to ticks_of
+refuses_to_drop_what_is_no_draft = refl
+
+refuses_an_amount_above_the_top : reply_to sample two_rounds (Draft 1 (1 ∷ []) 4398046511105) ≡ reply.AmountTop 4398046511104
+unfolding reply_to ticks_of
+refuses_an_amount_above_the_top = refl
