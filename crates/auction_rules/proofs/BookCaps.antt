@@ -1,5 +1,5 @@
 -- The bids of a book are within their caps over themselves.
-use Rattle.std.proofs.Common.{◌≡◌, ℕ, suc, ◌+◌, ◌-◌, ◌<◌, ◌≤◌, min, max, Bool, true, false, not, ◌||◌, List, [], ◌∷◌, ◌++◌, Option, Some, None, refl, sym, ◌∙◌, ap, inl, inr, arith, map}
+use Rattle.std.proofs.Common.{◌≡◌, ℕ, suc, ◌+◌, ◌-◌, ◌<◌, ◌≤◌, max, Bool, true, false, not, ◌||◌, List, [], ◌∷◌, ◌++◌, Option, Some, None, refl, sym, ◌∙◌, ap, inl, inr, arith, map}
 use Rattle.std.specs.Prelude.{if◌then◌else◌, filter, nat_le, ◌==◌}
 use Rattle.std.proofs.lemmas.Bool.{cases_Bool, cond-true, cond-false, leb-true, leb-false, le-leb, eqb-true, and_parts}
 use Rattle.auction_model.specs.Book.{BookBid}
@@ -9,8 +9,8 @@ use Rattle.auction_rules.specs.Step.{last_or}
 use Rattle.auction_rules.specs.Rounds.{OwnRound}
 use Rattle.auction_rules.specs.Caps.{no_round, last_round, enough, constraining, clock_bid, greatest, highest, cap_by, cap_of, excess_cap, excess_or, first_excess, list_fault}
 use Rattle.auction_rules.specs.Lines.{placed, in_order, priced}
-use Rattle.auction_rules.specs.View.{bid_lots, best_bids}
-use Rattle.auction_rules.proofs.Drafts.{is_same-true, is_same-refl}
+use Rattle.auction_rules.specs.BookOfLog.{bid_lots, best_bids}
+use Rattle.auction_rules.proofs.PackageLaws.{is_same-true, is_same-refl}
 use Rattle.auction_rules.proofs.Agree.{Some-injective}
 
 pub greatest-append : (lots : List ℕ) (xs ys : List BookBid) → greatest lots (xs ++ ys) ≡ max (greatest lots xs) (greatest lots ys)

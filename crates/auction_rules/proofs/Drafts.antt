@@ -1,88 +1,14 @@
 -- What one more line changes of a draft list.
-use Rattle.std.proofs.Common.{◌≡◌, ℕ, ◌<◌, true, false, ◌&&◌, List, [], ◌∷◌, Option, Some, None, refl, sym, ◌∙◌, ap, inl, inr, arith}
-use Rattle.std.specs.Prelude.{if◌then◌else◌, filter_map, nat_lt, ◌==◌}
-use Rattle.std.proofs.lemmas.Bool.{cases_Bool, eqb-true, eq-eqb, ne_eqb, ltb-true, lt-ltb, and_parts, or_cases, or_parts, cases_order, cond-true, cond-false, and_from, or_left, or_right}
+use Rattle.std.proofs.Common.{◌≡◌, ℕ, true, false, List, [], ◌∷◌, Option, Some, None, refl, sym, ◌∙◌, ap, inl, inr}
+use Rattle.std.specs.Prelude.{if◌then◌else◌, filter_map, ◌==◌}
+use Rattle.std.proofs.lemmas.Bool.{cases_Bool, cond-true, cond-false}
 use Rattle.auction_model.specs.Book.{BookBid}
 use Rattle.auction_rules.specs.declared.Event.{Event}
 use Rattle.auction_rules.specs.declared.Event.TheVariants.{Bid, Draft, Drop, Submit, Close}
-use Rattle.auction_rules.specs.PackageTests.{is_same, is_before}
+use Rattle.auction_rules.specs.PackageTests.{is_same, is_before, AllAfter, InOrder}
+use Rattle.auction_rules.proofs.PackageLaws.{is_same-true, is_same-refl, is_before-not_same, is_before-trans, is_before-total}
 use Rattle.auction_rules.specs.Lines.{draft_word, drafted, draft_of, placed, in_order, entry_before, priced, draft_list, submitted_list, is_submit, with_entry, without_entry, drafts_after}
 use Rattle.auction_rules.specs.Replies.{is_of}
-
--- the order of packages
-pub is_same-true : (p q : List ℕ) → is_same p q ≡ true → p ≡ q
-is_same-true [] [] h = refl
-is_same-true [] (b ∷ q) h = cc
-is_same-true (a ∷ p) [] h = cc
-is_same-true (a ∷ p) (b ∷ q) h =
-    let both : ((a == b) ≡ true) × (is_same p q ≡ true) = and_parts (a == b) (is_same p q) h in
-    rw (eqb-true a b both.0, is_same-true p q both.1) refl
-
-pub is_same-refl : (p : List ℕ) → is_same p p ≡ true
-is_same-refl [] = refl
-is_same-refl (a ∷ p) = and_from (a == a) (is_same p p) (eq-eqb a a refl) (is_same-refl p)
-
-pub is_before-not_same : (p q : List ℕ) → is_before p q ≡ true → is_same p q ≡ false
-is_before-not_same [] [] h = cc
-is_before-not_same [] (b ∷ q) h = refl
-is_before-not_same (a ∷ p) [] h = cc
-is_before-not_same (a ∷ p) (b ∷ q) h =
-    elim (or_cases (nat_lt a b) ((a == b) && is_before p q) h) [
-      | inl less ↦ let lt : a < b = ltb-true a b less in rw (ne_eqb a b (λ e. absurd (omega arith))) refl
-      | inr later ↦ let both : ((a == b) ≡ true) × (is_before p q ≡ true) = and_parts (a == b) (is_before p q) later in rw (both.0, is_before-not_same p q both.1) refl
-    ]
-
-pub is_before-trans : (p q r : List ℕ) → is_before p q ≡ true → is_before q r ≡ true → is_before p r ≡ true
-is_before-trans [] [] r h k = cc
-is_before-trans [] (b ∷ q) [] h k = cc
-is_before-trans [] (b ∷ q) (c ∷ r) h k = refl
-is_before-trans (a ∷ p) [] r h k = cc
-is_before-trans (a ∷ p) (b ∷ q) [] h k = cc
-is_before-trans (a ∷ p) (b ∷ q) (c ∷ r) h k =
-    elim (or_cases (nat_lt a b) ((a == b) && is_before p q) h) [
-      | inl less ↦ let lt : a < b = ltb-true a b less in
-          elim (or_cases (nat_lt b c) ((b == c) && is_before q r) k) [
-            | inl less' ↦ let lt' : b < c = ltb-true b c less' in or_left (nat_lt a c) ((a == c) && is_before p r) (lt-ltb a c (omega arith))
-            | inr later ↦ let both : ((b == c) ≡ true) × (is_before q r ≡ true) = and_parts (b == c) (is_before q r) later in
-                let same : b ≡ c = eqb-true b c both.0 in or_left (nat_lt a c) ((a == c) && is_before p r) (lt-ltb a c (omega arith))
-          ]
-      | inr later ↦ let both : ((a == b) ≡ true) × (is_before p q ≡ true) = and_parts (a == b) (is_before p q) later in
-          let same : a ≡ b = eqb-true a b both.0 in
-          elim (or_cases (nat_lt b c) ((b == c) && is_before q r) k) [
-            | inl less' ↦ let lt' : b < c = ltb-true b c less' in or_left (nat_lt a c) ((a == c) && is_before p r) (lt-ltb a c (omega arith))
-            | inr later' ↦ let both' : ((b == c) ≡ true) × (is_before q r ≡ true) = and_parts (b == c) (is_before q r) later' in
-                let same' : b ≡ c = eqb-true b c both'.0 in
-                or_right (nat_lt a c) ((a == c) && is_before p r) (and_from (a == c) (is_before p r) (eq-eqb a c (same ∙ same')) (is_before-trans p q r both.1 both'.1))
-          ]
-    ]
-
-pub is_before-total : (p q : List ℕ) → is_same p q ≡ false → is_before p q ≡ false → is_before q p ≡ true
-is_before-total [] [] h k = cc
-is_before-total [] (b ∷ q) h k = cc
-is_before-total (a ∷ p) [] h k = refl
-is_before-total (a ∷ p) (b ∷ q) h k =
-    let parts : (nat_lt a b ≡ false) × (((a == b) && is_before p q) ≡ false) = or_parts (nat_lt a b) ((a == b) && is_before p q) k in
-    elim (cases_order a b) [
-      | inl same ↦
-          let same_test : (a == b) ≡ true = eq-eqb a b same in
-          let h' : is_same p q ≡ false = rw same_test at h in
-          let k' : is_before p q ≡ false = rw same_test at parts.1 in
-          or_right (nat_lt b a) ((b == a) && is_before q p) (and_from (b == a) (is_before q p) (eq-eqb b a (sym same)) (is_before-total p q h' k'))
-      | inr other ↦ elim other [
-        | inl less ↦ let no : false ≡ true = sym parts.0 ∙ lt-ltb a b less in cc
-        | inr more ↦ or_left (nat_lt b a) ((b == a) && is_before q p) (lt-ltb b a more)
-      ]
-    ]
-
--- each of the packages comes after p
-abbrev pub AllAfter : List ℕ → List (List ℕ) → Type 0
-AllAfter p [] = Unit {0}
-AllAfter p (q ∷ rest) = (is_before p q ≡ true) × AllAfter p rest
-
--- the packages are in order, each once
-abbrev pub InOrder : List (List ℕ) → Type 0
-InOrder [] = Unit {0}
-InOrder (p ∷ rest) = AllAfter p rest × InOrder rest
 
 AllAfter-trans : (p q : List ℕ) (ps : List (List ℕ)) → is_before p q ≡ true → AllAfter q ps → AllAfter p ps
 AllAfter-trans p q [] h after = tt

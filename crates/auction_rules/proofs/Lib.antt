@@ -1,3 +1,4 @@
+pub mod PackageLaws
 pub mod Held
 pub mod Agree
 pub mod Drafts
@@ -8,6 +9,7 @@ pub mod States
 pub mod Closing
 pub mod BookCaps
 pub mod Sound
+pub mod BookLaws
 pub mod Stands
 pub mod Constraining
 pub mod WorkedCases

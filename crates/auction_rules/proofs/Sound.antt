@@ -17,27 +17,28 @@ use Rattle.auction_rules.specs.Rounds.{first_of, closed_after, final_round, stag
 use Rattle.auction_rules.specs.Caps.{list_fault}
 use Rattle.auction_rules.specs.Lines.{is_close, is_submit, closes, held_in}
 use Rattle.auction_rules.specs.Replies.{Standing, is_clock, is_sealed, is_ok_reply, first_reply, when, supply_reply, rule_reply, cap_reply, own_reply, reply_after, admitted, standing}
-use Rattle.auction_rules.specs.View.{posted, bids_in_book}
+use Rattle.auction_rules.specs.View.{posted}
+use Rattle.auction_rules.specs.BookOfLog.{bids_in_book}
 use Rattle.auction_rules.proofs.Standings.{after_own, after_close, own_now, stage_stopped, standing-own, standing-other, standing-close}
 use Rattle.auction_rules.proofs.Views.{a_close, an_own, another, cases_line, with_line-ok, with_line-refused, reply_after-own, is_of-parts}
 use Rattle.auction_rules.proofs.BookCaps.{RisesTo, rises, RisesToEach, AreRising, AreEligible, list_fault-best_bids}
 
 -- prices never fall
-cost_of-raised : (tick : ℕ) (thresholds : List (ℕ × ℕ)) (prices d supply lots : List ℕ) → cost_of prices lots ≤ cost_of (raised_prices tick thresholds prices d supply) lots
-cost_of-raised tick thresholds [] d supply lots = omega arith
-cost_of-raised tick thresholds (p ∷ prices) [] supply lots = omega arith
-cost_of-raised tick thresholds (p ∷ prices) (n ∷ d) [] lots = omega arith
-cost_of-raised tick thresholds (p ∷ prices) (n ∷ d) (s ∷ supply) [] = omega arith
-cost_of-raised tick thresholds (p ∷ prices) (n ∷ d) (s ∷ supply) (a ∷ lots) =
+cost_of-raised_prices : (tick : ℕ) (thresholds : List (ℕ × ℕ)) (prices d supply lots : List ℕ) → cost_of prices lots ≤ cost_of (raised_prices tick thresholds prices d supply) lots
+cost_of-raised_prices tick thresholds [] d supply lots = omega arith
+cost_of-raised_prices tick thresholds (p ∷ prices) [] supply lots = omega arith
+cost_of-raised_prices tick thresholds (p ∷ prices) (n ∷ d) [] lots = omega arith
+cost_of-raised_prices tick thresholds (p ∷ prices) (n ∷ d) (s ∷ supply) [] = omega arith
+cost_of-raised_prices tick thresholds (p ∷ prices) (n ∷ d) (s ∷ supply) (a ∷ lots) =
     elim (cases_Bool (nat_le n s)) [
-      | inl within ↦ rw within (omega (arith, cost_of-raised tick thresholds prices d supply lots))
+      | inl within ↦ rw within (omega (arith, cost_of-raised_prices tick thresholds prices d supply lots))
       | inr over ↦
           let up : a * p ≤ a * stepped tick thresholds p (n - s) = mul-le-mul_left a (omega arith) in
-          rw over (omega (arith, up, cost_of-raised tick thresholds prices d supply lots))
+          rw over (omega (arith, up, cost_of-raised_prices tick thresholds prices d supply lots))
     ]
 
 pub prices_after-rises : (terms : Terms) (held : ℕ → ℕ → List ℕ) (n : ℕ) (lots : List ℕ) → cost_of (prices_after terms held n) lots ≤ cost_of (prices_after terms held (suc n)) lots
-prices_after-rises terms held n lots = cost_of-raised terms.tick terms.thresholds (prices_after terms held n) (demand terms held (suc n)) terms.supply lots
+prices_after-rises terms held n lots = cost_of-raised_prices terms.tick terms.thresholds (prices_after terms held n) (demand terms held (suc n)) terms.supply lots
 
 RisesToEach-append : (r : OwnRound) (rounds : List OwnRound) (q : OwnRound) → RisesToEach r rounds → RisesTo r q → RisesToEach r (rounds ++ q ∷ [])
 RisesToEach-append r [] q each last = (last, tt)

@@ -67,12 +67,12 @@ after_own j s e = record {
 }
 
 -- lines of others
-pub bid_of-other : (j : ℕ) (e : Event) → is_close e ≡ false → is_of j e ≡ false → bid_by j e ≡ None
-bid_of-other j (Bid k lots) c h = rw h refl
-bid_of-other j (Draft k lots amount) c h = refl
-bid_of-other j (Drop k lots) c h = refl
-bid_of-other j (Submit k) c h = refl
-bid_of-other j Close c h = refl
+pub bid_by-other : (j : ℕ) (e : Event) → is_close e ≡ false → is_of j e ≡ false → bid_by j e ≡ None
+bid_by-other j (Bid k lots) c h = rw h refl
+bid_by-other j (Draft k lots amount) c h = refl
+bid_by-other j (Drop k lots) c h = refl
+bid_by-other j (Submit k) c h = refl
+bid_by-other j Close c h = refl
 
 -- the standing after a line that is no close, by the rounds before it
 pub standing-line : (terms : Terms) (j : ℕ) (e : Event) (lines : List Event) → is_close e ≡ false
@@ -91,7 +91,7 @@ standing-other terms j e lines c h =
     ∙ ap (λ (drafts : List BookBid). standing_at terms (held_in terms (e ∷ lines)) (closes lines) final j drafts (submitted_list j (e ∷ lines))) (draft_list-other j e lines h)
     ∙ ap (λ (submitted : List BookBid). standing_at terms (held_in terms (e ∷ lines)) (closes lines) final j (draft_list j lines) submitted) (submitted_list-other j e lines h)
     ∙ standing_at-same terms (held_in terms (e ∷ lines)) (held_in terms lines) (closes lines) final j (draft_list j lines) (submitted_list j lines) f (Agree-line terms e lines)
-    (held_in-no_bid terms (round_by (closes lines) final) j e lines (bid_of-other j e c h))
+    (held_in-no_bid terms (round_by (closes lines) final) j e lines (bid_by-other j e c h))
 
 -- what the bidder holds in the posted round after a line of its own
 held-own : (terms : Terms) (j : ℕ) (e : Event) (lines : List Event) (final : Option ℕ) (word : Option (List ℕ)) → IsFinal (closes lines) final → bid_by j e ≡ word

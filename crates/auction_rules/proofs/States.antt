@@ -49,7 +49,7 @@ listing-set f g (suc n) k h others =
           ∙ sym (set-append_left (listing g n) (g (suc n) ∷ []) k (f (suc k)) less)
     ]
 
-at-bidder : {A : Type 0} (f : ℕ → A) (n k : ℕ) (d : A) → k < n → get_or (listing f n) (suc k - 1) d ≡ f (suc k)
+pub at-bidder : {A : Type 0} (f : ℕ → A) (n k : ℕ) (d : A) → k < n → get_or (listing f n) (suc k - 1) d ≡ f (suc k)
 at-bidder f n k d h = let e : suc k - 1 ≡ k = omega arith in ap (λ (i : ℕ). get_or (listing f n) i d) e ∙ get_or-listing f n k d h
 
 abbrev same_rounds : OwnRound → OwnRound → Type 0

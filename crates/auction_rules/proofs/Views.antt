@@ -8,7 +8,8 @@ use Rattle.auction_rules.specs.declared.Reply.{Reply}
 use Rattle.auction_rules.specs.Terms.{Terms}
 use Rattle.auction_rules.specs.Lines.{is_close, line_bidder}
 use Rattle.auction_rules.specs.Replies.{Standing, is_of, is_ok_reply, own_reply, reply_after, reply_to, with_line, admitted, standing}
-use Rattle.auction_rules.specs.View.{Seen, own, closing, posted, seen, view, own_replies, book_bids, bids_in_book}
+use Rattle.auction_rules.specs.View.{Seen, own, closing, posted, seen, view, own_replies}
+use Rattle.auction_rules.specs.BookOfLog.{book_bids, bids_in_book}
 use Rattle.auction_rules.proofs.Standings.{after_own, after_close, standing-other, standing-own, standing-close}
 
 -- the standing after one more thing is seen

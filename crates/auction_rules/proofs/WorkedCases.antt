@@ -1,13 +1,12 @@
 -- Worked cases, each by computation.
 use Rattle.std.proofs.Common.{◌≡◌, List, [], ◌∷◌, refl}
-use Rattle.auction_model.specs.Book.{Book}
 use Rattle.auction_rules.specs.declared.Event.{Event}
 use Rattle.auction_rules.specs.declared.Event.TheVariants.{Bid, Draft, Drop, Submit, Close}
 use Rattle.auction_rules.specs.declared.Reply.TheVariants as reply
 use Rattle.auction_rules.specs.Terms.{Terms}
 use Rattle.auction_rules.specs.Step.{ticks_of, stepped}
 use Rattle.auction_rules.specs.Replies.{reply_to}
-use Rattle.auction_rules.specs.View.{bids_in_book}
+use Rattle.auction_rules.specs.BookOfLog.{bids_in_book}
 
 -- two bidders, three lots of one category, and a step of a fifth
 abbrev sample : Terms

@@ -7,3 +7,4 @@ pub mod Lines
 pub mod Replies
 pub mod View
 pub mod State
+pub mod BookOfLog

@@ -1,5 +1,5 @@
 -- Tests of packages. The laws of PackageLaws tie them to the words of auction_model.
-use Rattle.std.specs.Prelude.{ℕ, suc, Bool, true, false, ◌&&◌, ◌||◌, nat_le, nat_lt, ◌==◌, List, [], ◌∷◌, Option, Some, None, if◌then◌else◌}
+use Rattle.std.specs.Prelude.{◌≡◌, ℕ, suc, Bool, true, false, ◌&&◌, ◌||◌, nat_le, nat_lt, ◌==◌, List, [], ◌∷◌, Option, Some, None, if◌then◌else◌}
 use Rattle.auction_model.specs.Package.{is_within}
 
 -- no lot at all
@@ -25,3 +25,13 @@ is_before [] [] = false
 is_before [] (b ∷ q) = true
 is_before (a ∷ p) [] = false
 is_before (a ∷ p) (b ∷ q) = nat_lt a b || ((a == b) && is_before p q)
+
+-- each of the packages comes after p
+abbrev pub AllAfter : List ℕ → List (List ℕ) → Type 0
+AllAfter p [] = Unit {0}
+AllAfter p (q ∷ rest) = (is_before p q ≡ true) × AllAfter p rest
+
+-- the packages are in order, each once
+abbrev pub InOrder : List (List ℕ) → Type 0
+InOrder [] = Unit {0}
+InOrder (p ∷ rest) = AllAfter p rest × InOrder rest

@@ -1,14 +1,11 @@
 -- What one bidder sees of a log: its own lines and the closes, each close with its reply and the prices that it posts.
-use Rattle.std.specs.Prelude.{ℕ, suc, not, List, [], ◌∷◌, ◌++◌, Option, Some, None, filter, map, if◌then◌else◌}
+use Rattle.std.specs.Prelude.{ℕ, suc, List, [], ◌∷◌, ◌++◌, Option, Some, None, if◌then◌else◌}
 use Rattle.auction_rules.specs.declared.Event.{Event}
 use Rattle.auction_rules.specs.declared.Reply.{Reply}
-use Rattle.auction_model.specs.Book.{BookBid}
-use Rattle.auction_rules.specs.PackageTests.{is_empty}
 use Rattle.auction_rules.specs.Terms.{Terms}
 use Rattle.auction_rules.specs.Rounds.{prices_after, stage_after}
-use Rattle.auction_rules.specs.Caps.{clock_bid, greatest}
-use Rattle.auction_rules.specs.Lines.{is_close, closes, held_in, in_order, priced}
-use Rattle.auction_rules.specs.Replies.{Standing, is_of, is_clock, is_ok_reply, reply_after, admitted, standing}
+use Rattle.auction_rules.specs.Lines.{is_close, closes, held_in}
+use Rattle.auction_rules.specs.Replies.{is_of, is_clock, is_ok_reply, reply_after, admitted}
 
 pub data Seen : Type 0 where
   own : Event → Seen
@@ -35,18 +32,3 @@ view terms j (e ∷ log) = seen terms j (admitted terms log) e ++ view terms j l
 abbrev pub own_replies : Terms → ℕ → List Event → List Reply
 own_replies terms j [] = []
 own_replies terms j (e ∷ log) = (if is_of j e then reply_after terms (admitted terms log) e ∷ [] else []) ++ own_replies terms j log
-
-abbrev pub bid_lots : BookBid → List ℕ
-bid_lots b = b.lots
-
--- the packages of the bids that are not empty, in order, each with its greatest amount
-abbrev pub best_bids : List BookBid → List BookBid
-best_bids bids = priced (λ lots. Some (greatest lots bids)) (in_order (filter (λ lots. not (is_empty lots)) (map bid_lots bids)))
-
--- the bids of a bidder in the book: of its clock bids and its submitted list
-abbrev pub book_bids : Standing → List BookBid
-book_bids s = best_bids (map clock_bid s.rounds ++ s.submitted)
-
--- the bids of bidder j in the book of a log
-abbrev pub bids_in_book : Terms → List Event → ℕ → List BookBid
-bids_in_book terms log j = book_bids (standing terms (admitted terms log) j)
