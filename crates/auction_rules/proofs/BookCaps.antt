@@ -146,7 +146,8 @@ own_none points r lots eligible short =
       | inr apart ↦ rw apart refl
     ]
 
--- a clock bid for the package is at most its price in the last of the rounds that are enough for its points; d is a round before these
+-- a clock bid for the package is at most its price in the last of the rounds that are enough for its points; d is a round
+-- before these
 floors : (points lots : List ℕ) (d : OwnRound) (rounds : List OwnRound) → RisesToEach d rounds → AreRising rounds → AreEligible points rounds
     → (cost_of d.prices lots ≤ cost_of (last_or d (enough (cost_of points lots) rounds)).prices lots)
     × (greatest lots (map clock_bid rounds) ≤ cost_of (last_or d (enough (cost_of points lots) rounds)).prices lots)

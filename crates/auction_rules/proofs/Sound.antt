@@ -81,7 +81,8 @@ cost_of-zeros [] supply = refl
 cost_of-zeros (p ∷ prices) [] = refl
 cost_of-zeros (p ∷ prices) (s ∷ supply) = omega (arith, cost_of-zeros prices supply)
 
--- The bidder was eligible for what it held in each closed round and is for what it holds now, its submitted list is valid, and in the clock it has none.
+-- The bidder was eligible for what it held in each closed round and is for what it holds now, its submitted list is valid, and
+-- in the clock it has none.
 pub record IsSound (terms : Terms) (s : Standing) : Type 0 where
   pub eligible : AreEligible terms.points s.rounds
   pub now : cost_of terms.points s.held ≤ s.eligibility

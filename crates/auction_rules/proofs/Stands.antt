@@ -171,7 +171,8 @@ pub reply_in-state_of : (terms : Terms) (log : List Event) (e : Event) → reply
 unfolding state_of reply_to
 reply_in-state_of terms log e = reply_in-state_after terms (admitted terms log) e
 
--- a desk that stands for a log, and whose reply and new state are those of its state, answers by the rules and stands for the log with the line
+-- a desk that stands for a log, and whose reply and new state are those of its state, answers by the rules and stands for the
+-- log with the line
 pub stands : (st new : DeskState) (terms : Terms) (log : List Event) (e : Event) (r : Reply) → st ≡ state_of terms log → r ≡ reply_in st e → new ≡ state_with st e
     → (r ≡ reply_to terms log e) × (new ≡ state_of terms (e ∷ log))
 stands st new terms log e r is replied moved =

@@ -1,4 +1,5 @@
--- The book of a log: what is sold, the reserves, and for each bidder of the award its clock bids and its submitted list, the greatest amount for each package.
+-- The book of a log: what is sold, the reserves, and for each bidder of the award its clock bids and its submitted list, the
+-- greatest amount for each package.
 use Rattle.std.specs.Prelude.{ℕ, Bool, not, List, Some, ◌++◌, filter, map, length}
 use Rattle.auction_rules.specs.declared.Event.{Event}
 use Rattle.auction_model.specs.Book.{BookBid, Bidder, Book}

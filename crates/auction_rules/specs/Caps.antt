@@ -70,7 +70,8 @@ abbrev pub excess_or : ℕ → Option ℕ → Option (ℕ × ℕ) → Option (�
 excess_or entry None later = later
 excess_or entry (Some cap) later = Some (entry, cap)
 
--- the first entry of the bids that is above its cap: its number, counted from the given one, and the cap. The caps are those of the whole list
+-- the first entry of the bids that is above its cap: its number, counted from the given one, and the cap. The caps are those of
+-- the whole list
 abbrev pub first_excess : (List ℕ → Option ℕ) → ℕ → List BookBid → Option (ℕ × ℕ)
 first_excess cap entry [] = None
 first_excess cap entry (b ∷ bids) = excess_or entry (excess_cap (cap b.lots) b.amount) (first_excess cap (suc entry) bids)

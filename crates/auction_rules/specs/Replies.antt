@@ -1,4 +1,5 @@
--- The reply to a line. A list of lines has the newest line first; a line is admitted when its reply, after the lines before it, is Ok.
+-- The reply to a line. A list of lines has the newest line first; a line is admitted when its reply, after the lines before it,
+-- is Ok.
 use Rattle.std.specs.Prelude.{ℕ, suc, ◌-◌, ◌^◌, Bool, true, false, not, ◌&&◌, ◌||◌, List, [], ◌∷◌, Option, Some, None, map, length, nat_le, nat_lt, ◌==◌, if◌then◌else◌}
 use Rattle.auction_rules.specs.declared.Event.{Event}
 use Rattle.auction_rules.specs.declared.Event.TheVariants.{Bid, Draft, Drop, Submit, Close}
@@ -14,8 +15,9 @@ use Rattle.auction_rules.specs.Rounds.{OwnRound, prices_after, eligibility_after
 use Rattle.auction_rules.specs.Caps.{clock_bid, greatest, list_fault}
 use Rattle.auction_rules.specs.Lines.{is_close, line_bidder, closes, held_in, draft_list, submitted_list}
 
--- What the lines of one bidder are answered by: the stage, the closed clock rounds as the bidder has them, the posted prices, the bidder's eligibility
--- and package in the posted round, its draft list and its submitted list. Once the clock has stopped the posted round is the final one.
+-- What the lines of one bidder are answered by: the stage, the closed clock rounds as the bidder has them, the posted prices,
+-- the bidder's eligibility and package in the posted round, its draft list and its submitted list. Once the clock has stopped
+-- the posted round is the final one.
 pub record Standing : Type 0 where
   pub stage : Stage
   pub rounds : List OwnRound

@@ -1,4 +1,5 @@
--- The clock rounds, as functions of what each bidder holds in each round: `held r j` is the package of bidder j in round r, both numbered from 1.
+-- The clock rounds, as functions of what each bidder holds in each round: `held r j` is the package of bidder j in round r,
+-- both numbered from 1.
 use Rattle.std.specs.Prelude.{ℕ, zero, suc, ◌-◌, List, [], ◌∷◌, ◌++◌, Option, Some, None, length, nat_le, ◌==◌, if◌then◌else◌}
 use Rattle.auction_rules.specs.declared.Stage.{Stage}
 use Rattle.auction_rules.specs.declared.Stage.TheVariants.{Clock, Sealed, Closed}
@@ -69,7 +70,8 @@ round_after terms held n = round_by n (final_round terms held n)
 abbrev pub closed_after : Terms → (ℕ → ℕ → List ℕ) → ℕ → ℕ
 closed_after terms held n = closed_by n (final_round terms held n)
 
--- one clock round as one bidder has it: the prices, the bidder's eligibility at its start, and the package that the bidder holds in it
+-- one clock round as one bidder has it: the prices, the bidder's eligibility at its start, and the package that the bidder
+-- holds in it
 pub record OwnRound : Type 0 where
   pub prices : List ℕ
   pub eligibility : ℕ

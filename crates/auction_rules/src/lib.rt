@@ -1,10 +1,13 @@
-//! The rules of a combinatorial clock auction up to its book: the lines of a log, the replies to them, and in `specs/` what they mean.
+//! The rules of a combinatorial clock auction up to its book: the lines of a log, the replies to them, and in `specs/` what
+//! they mean.
 //!
-//! The form of the auction is that of the Wireless Telegraphy (Licence Award) Regulations 2012, SI 2012/2817: clock rounds with eligibility points at
-//! posted prices, then one sealed list of each bidder under relative caps. (Ausubel, Cramton and Milgrom, The clock-proxy auction, in Combinatorial
-//! Auctions, 2006, on clock rounds before package bids.) The number rules are this project's.
+//! The form of the auction is that of the Wireless Telegraphy (Licence Award) Regulations 2012, SI 2012/2817: clock rounds with
+//! eligibility points at posted prices, then one sealed list of each bidder under relative caps. (Ausubel, Cramton and Milgrom,
+//! The clock-proxy auction, in Combinatorial Auctions, 2006, on clock rounds before package bids.) The number rules are this
+//! project's.
 //!
-//! Each function here is a law: it does nothing, and its contract is what holds of every award and every log. A list of lines has its newest line first.
+//! Each function here is a law: it does nothing, and its contract is what holds of every award and every log. A list of lines
+//! has its newest line first.
 #![tactic(auto)]
 
 ghost use Rattle.std.specs.Prelude.{◌≡◌, ℕ, suc, ◌+◌, ◌*◌, ◌≤◌, List, ◌∷◌, None, IsTrue, true, length, map};
@@ -49,13 +52,14 @@ pub enum Event {
     Close,
 }
 
-/// What a line is answered by: the first reply after `Ok` whose condition holds among those that are tested for the line's kind, and `Ok` where none holds.
-/// Categories, spectrum caps and entries are numbered from 1.
+/// What a line is answered by: the first reply after `Ok` whose condition holds among those that are tested for the line's
+/// kind, and `Ok` where none holds. Categories, spectrum caps and entries are numbered from 1.
 #[derive(Clone, Copy, Debug, PartialEq, Eq)]
 pub enum Reply {
     /// The line is admitted.
     Ok,
-    /// Its kind isn't of this stage: a clock bid belongs to the clock, a draft, a drop and a submission to the sealed round, a close to both.
+    /// Its kind isn't of this stage: a clock bid belongs to the clock, a draft, a drop and a submission to the sealed round, a
+    /// close to both.
     Stage,
     /// The bidder isn't in the award.
     Unknown,
@@ -96,8 +100,9 @@ pub enum Stage {
     Closed,
 }
 
-/// The tests of packages say what the words of packages say: being the same is equality; the test of order is the order of packages, among packages
-/// with equally many categories; and no category is over exactly where the package is within the supply.
+/// The tests of packages say what the words of packages say: being the same is equality; the test of order is the order of
+/// packages, among packages with equally many categories; and no category is over exactly where the package is within the
+/// supply.
 pub fn package_tests()
     ensures same { (p q : List ℕ) → is_same p q ≡ true → p ≡ q }
     ensures is_same { (p : List ℕ) → is_same p p ≡ true }
@@ -107,7 +112,8 @@ pub fn package_tests()
     ensures none_over { (category : ℕ) (lots supply : List ℕ) → first_over category lots supply ≡ None → is_within lots supply ≡ true }
 {}
 
-/// A raise is the least multiple of the tick that is at least the tick and at least so many thousandths of the price, and there is no other.
+/// A raise is the least multiple of the tick that is at least the tick and at least so many thousandths of the price, and there
+/// is no other.
 pub fn raise_is_least()
     ensures least { (tick price permille : ℕ) → 1 ≤ tick → IsRaise tick price permille (ticks_of tick price permille * tick) }
     ensures one { (tick price permille u v : ℕ) → IsRaise tick price permille u → IsRaise tick price permille v → u ≡ v }
@@ -118,13 +124,14 @@ pub fn prices_never_fall()
     ensures { (terms : Terms) (held : ℕ → ℕ → List ℕ) (n : ℕ) (lots : List ℕ) → cost_of (prices_after terms held n) lots ≤ cost_of (prices_after terms held (suc n)) lots }
 {}
 
-/// The constraining round for some points is the round of its number: the last one in which the bidder's eligibility was enough for them.
+/// The constraining round for some points is the round of its number: the last one in which the bidder's eligibility was enough
+/// for them.
 pub fn constraining_round()
     ensures { (points : ℕ) (rounds : List OwnRound) → constraining points rounds ≡ round_at rounds (constraining_number points rounds) }
 {}
 
-/// After any log a bidder is eligible for the package that it holds, and its submitted list is valid: each amount in it, but that for the package of the
-/// final round, is at most its cap over that list.
+/// After any log a bidder is eligible for the package that it holds, and its submitted list is valid: each amount in it, but
+/// that for the package of the final round, is at most its cap over that list.
 pub fn sound_standings()
     ensures eligible { (terms : Terms) (log : List Event) (j : ℕ)
         → cost_of terms.points (standing terms (admitted terms log) j).held ≤ (standing terms (admitted terms log) j).eligibility }
@@ -132,9 +139,9 @@ pub fn sound_standings()
         → list_fault terms.points (standing terms (admitted terms log) j).rounds (standing terms (admitted terms log) j).submitted ≡ None }
 {}
 
-/// However the lines of bidders are interleaved, a bidder is treated by what it sees: its own lines and the closes, each close with its reply and the
-/// prices that it posts. Where it has the same view of two logs on one award, its next line gets the same reply, its lines got the same replies, and it
-/// has the same bids in the book.
+/// However the lines of bidders are interleaved, a bidder is treated by what it sees: its own lines and the closes, each close
+/// with its reply and the prices that it posts. Where it has the same view of two logs on one award, its next line gets the
+/// same reply, its lines got the same replies, and it has the same bids in the book.
 pub fn interleaving()
     ensures next { (terms : Terms) (j : ℕ) (log other : List Event) (line : Event) → IsTrue (is_of j line)
         → view terms j log ≡ view terms j other → reply_to terms log line ≡ reply_to terms other line }
@@ -144,8 +151,8 @@ pub fn interleaving()
         → view terms j log ≡ view terms j other → bids_in_book terms log j ≡ bids_in_book terms other j }
 {}
 
-/// A state is enough for a desk. From the state after a log, the reply to a line is that of the rules, which look through the whole log; and what the line
-/// makes of the state is the state after the log with the line.
+/// A state is enough for a desk. From the state after a log, the reply to a line is that of the rules, which look through the
+/// whole log; and what the line makes of the state is the state after the log with the line.
 pub fn desk_step()
     ensures reply { (terms : Terms) (log : List Event) (line : Event) → reply_in (state_of terms log) line ≡ reply_to terms log line }
     ensures state { (terms : Terms) (log : List Event) (line : Event) → state_with (state_of terms log) line ≡ state_of terms (line ∷ log) }
@@ -168,8 +175,8 @@ pub fn book_in_order()
     ensures { (terms : Terms) (log : List Event) (j : ℕ) → InOrder (map bid_lots (bids_in_book terms log j)) }
 {}
 
-/// After any log the bids that a bidder has in the book are a valid list: each, but that for the package of the final round, is at most its cap over the
-/// book's own bids.
+/// After any log the bids that a bidder has in the book are a valid list: each, but that for the package of the final round, is
+/// at most its cap over the book's own bids.
 pub fn book_within_caps()
     ensures { (terms : Terms) (log : List Event) (j : ℕ)
         → list_fault terms.points (standing terms (admitted terms log) j).rounds (bids_in_book terms log j) ≡ None }
