@@ -10,6 +10,7 @@ pub mod Closing
 pub mod BookCaps
 pub mod Sound
 pub mod BookLaws
+pub mod LawfulBids
 pub mod Stands
 pub mod Constraining
 pub mod WorkedCases

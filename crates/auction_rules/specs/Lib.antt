@@ -8,3 +8,4 @@ pub mod Replies
 pub mod View
 pub mod State
 pub mod BookOfLog
+pub mod Lawful

@@ -11,6 +11,7 @@
 #![tactic(auto)]
 
 ghost use Rattle.std.specs.Prelude.{◌≡◌, ℕ, suc, ◌+◌, ◌*◌, ◌≤◌, List, ◌∷◌, None, IsTrue, true, length, map};
+ghost use Rattle.std.specs.List.{AllByRecursion};
 ghost use Rattle.auction_model.specs.Book.{bidder_of};
 ghost use Rattle.auction_model.specs.Package.{ComesBefore, is_within, cost_of};
 ghost use Rattle.auction_rules.specs.PackageTests.{first_over, is_same, is_before, InOrder};
@@ -21,6 +22,7 @@ ghost use Rattle.auction_rules.specs.Caps.{list_fault, constraining, constrainin
 ghost use Rattle.auction_rules.specs.Replies.{is_of, reply_to, admitted, standing};
 ghost use Rattle.auction_rules.specs.State.{state_of, reply_in, state_with};
 ghost use Rattle.auction_rules.specs.View.{view, own_replies};
+ghost use Rattle.auction_rules.specs.Lawful.{AreLimited, HasCategories, IsLawfulBid};
 ghost use Rattle.auction_rules.specs.BookOfLog.{bid_lots, bids_in_book, book_bidder, book_of_log, book_in};
 
 use lots::Package;
@@ -173,6 +175,13 @@ pub fn bidders_of_book()
 /// The bids of a bidder in the book are in the order of their packages, each package once.
 pub fn book_in_order()
     ensures { (terms : Terms) (log : List Event) (j : ℕ) → InOrder (map bid_lots (bids_in_book terms log j)) }
+{}
+
+/// After a log whose packages have the award's number of categories, each bid of the book is within the supply, at least its price
+/// at the reserves and at most the greatest amount, where the award keeps its limits of lots and of reserves.
+pub fn lawful_bids()
+    ensures { (terms : Terms) (log : List Event) (j : ℕ) → AreLimited terms → AllByRecursion (HasCategories terms) log
+        → AllByRecursion (IsLawfulBid terms) (bids_in_book terms log j) }
 {}
 
 /// After any log the bids that a bidder has in the book are a valid list: each, but that for the package of the final round, is
