@@ -82,3 +82,49 @@ refuses_to_drop_what_is_no_draft = refl
 refuses_an_amount_above_the_top : reply_to sample two_rounds (Draft 1 (1 ∷ []) 4398046511105) ≡ reply.AmountTop 4398046511104
 unfolding reply_to ticks_of
 refuses_an_amount_above_the_top = refl
+
+-- a spectrum cap of four, each lot weighing two
+abbrev capped : Terms
+capped = record sample { rules = record { weights = 2 ∷ []; limit = 4 } ∷ [] }
+
+refuses_more_than_a_spectrum_cap : reply_to capped [] (Bid 1 (3 ∷ [])) ≡ reply.SpectrumCap 1 4
+unfolding reply_to
+refuses_more_than_a_spectrum_cap = refl
+
+names_the_supply_before_a_spectrum_cap : reply_to capped [] (Bid 1 (4 ∷ [])) ≡ reply.Supply 1
+unfolding reply_to
+names_the_supply_before_a_spectrum_cap = refl
+
+refuses_the_empty_draft : reply_to sample two_rounds (Draft 1 (0 ∷ []) 5) ≡ reply.Empty
+unfolding reply_to ticks_of
+refuses_the_empty_draft = refl
+
+refuses_an_amount_below_its_reserve : reply_to sample two_rounds (Draft 2 (1 ∷ []) 9) ≡ reply.BelowReserve 10
+unfolding reply_to ticks_of
+refuses_an_amount_below_its_reserve = refl
+
+-- both ask for two lots in round 1
+abbrev asked_less : List Event
+asked_less = Close ∷ Bid 2 (2 ∷ []) ∷ Bid 1 (2 ∷ []) ∷ []
+
+refuses_more_points_than_were_held_before : reply_to sample asked_less (Bid 1 (3 ∷ [])) ≡ reply.Points 2
+unfolding reply_to ticks_of
+refuses_more_points_than_were_held_before = refl
+
+drafts_up_to_the_eligibility_of_round_1 : reply_to sample (Close ∷ Bid 2 (2 ∷ []) ∷ Bid 1 (1 ∷ []) ∷ asked_less) (Draft 1 (3 ∷ []) 50) ≡ reply.Ok
+unfolding reply_to ticks_of
+drafts_up_to_the_eligibility_of_round_1 = refl
+
+takes_a_later_submission : bids_in_book sample (Close ∷ Submit 1 ∷ Draft 1 (1 ∷ []) 15 ∷ Submit 1 ∷ Draft 1 (1 ∷ []) 20 ∷ two_rounds) 1
+    ≡ record { lots = 1 ∷ []; amount = 15 } ∷ record { lots = 3 ∷ []; amount = 30 } ∷ []
+unfolding ticks_of
+takes_a_later_submission = refl
+
+leaves_out_what_was_not_submitted : bids_in_book sample (Close ∷ Draft 1 (1 ∷ []) 20 ∷ two_rounds) 1
+    ≡ record { lots = 1 ∷ []; amount = 12 } ∷ record { lots = 3 ∷ []; amount = 30 } ∷ []
+unfolding ticks_of
+leaves_out_what_was_not_submitted = refl
+
+refuses_a_close_after_the_last : reply_to sample complete Close ≡ reply.Stage
+unfolding reply_to ticks_of
+refuses_a_close_after_the_last = refl
