@@ -1,12 +1,14 @@
 -- Worked cases, each by computation.
-use Rattle.std.proofs.Common.{◌≡◌, List, [], ◌∷◌, refl}
+use Rattle.std.proofs.Common.{◌≡◌, true, false, List, [], ◌∷◌, Some, refl}
 use Rattle.auction_rules.specs.declared.Event.{Event}
 use Rattle.auction_rules.specs.declared.Event.TheVariants.{Bid, Draft, Drop, Submit, Close}
 use Rattle.auction_rules.specs.declared.Reply.TheVariants as reply
 use Rattle.auction_rules.specs.Terms.{Terms}
 use Rattle.auction_rules.specs.Step.{ticks_of, stepped}
-use Rattle.auction_rules.specs.Replies.{reply_to}
-use Rattle.auction_rules.specs.BookOfLog.{bids_in_book}
+use Rattle.auction_rules.specs.Replies.{reply_to, price_top}
+use Rattle.auction_rules.specs.BookOfLog.{bids_in_book, book_of_log, is_complete}
+use Rattle.auction_rules.specs.Rounds.{raised_prices}
+use Rattle.auction_rules.specs.State.{state_of}
 
 -- two bidders, three lots of one category, and a step of a fifth
 abbrev sample : Terms
@@ -27,6 +29,13 @@ raises_by_the_tick = refl
 raises_by_the_greatest_threshold : stepped 7 ((1, 50) ∷ (5, 200) ∷ []) 1000 5 ≡ 1203
 unfolding ticks_of
 raises_by_the_greatest_threshold = refl
+
+keeps_a_price_at_demand_equal_to_supply : raised_prices 1 ((1, 200) ∷ []) (10 ∷ 20 ∷ []) (3 ∷ 4 ∷ []) (3 ∷ 3 ∷ []) ≡ 10 ∷ 24 ∷ []
+unfolding ticks_of
+keeps_a_price_at_demand_equal_to_supply = refl
+
+refuses_a_price_above_the_top : price_top 1 (68719476736 ∷ 68719476737 ∷ []) ≡ Some (reply.PriceTop 2 68719476737)
+refuses_a_price_above_the_top = refl
 
 -- the clock stops after two rounds, the second at 12
 abbrev two_rounds : List Event
@@ -128,3 +137,19 @@ leaves_out_what_was_not_submitted = refl
 refuses_a_close_after_the_last : reply_to sample complete Close ≡ reply.Stage
 unfolding reply_to ticks_of
 refuses_a_close_after_the_last = refl
+
+leaves_the_empty_package_out_of_the_book : bids_in_book sample (Close ∷ Close ∷ []) 1 ≡ []
+leaves_the_empty_package_out_of_the_book = refl
+
+keeps_a_bidder_without_bids_in_the_book : book_of_log sample (Close ∷ Close ∷ [])
+    ≡ record { supply = 3 ∷ []; reserves = 10 ∷ []; bidders = record { name = []; bids = [] } ∷ record { name = []; bids = [] } ∷ [] }
+unfolding book_of_log
+keeps_a_bidder_without_bids_in_the_book = refl
+
+calls_a_log_complete_after_the_last_close : is_complete sample complete ≡ true
+unfolding state_of ticks_of
+calls_a_log_complete_after_the_last_close = refl
+
+calls_no_log_complete_before_it : is_complete sample with_drafts ≡ false
+unfolding state_of ticks_of
+calls_no_log_complete_before_it = refl

@@ -106,6 +106,7 @@ abbrev pub drafts_full : List BookBid → List ℕ → Option Reply
 drafts_full drafts lots = when (not (has_entry lots drafts) && nat_le 300 (length drafts)) (reply.Full 300)
 
 -- the first of the prices that is above the top, where the first of them is that of the given category
+-- (prices that were not raised are not above it, where the reserves are not)
 abbrev pub price_top : ℕ → List ℕ → Option Reply
 price_top category [] = None
 price_top category (p ∷ prices) = if nat_le p (2 ^ 36) then price_top (suc category) prices else Some (reply.PriceTop category p)

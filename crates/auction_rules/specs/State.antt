@@ -1,4 +1,4 @@
--- The state of a desk after a log: what it keeps for all bidders at once.
+-- The state of a desk, which takes the lines of a log one by one: what it keeps for all bidders at once.
 use Rattle.std.specs.Prelude.{ℕ, zero, suc, ◌-◌, Bool, not, ◌&&◌, List, [], ◌∷◌, ◌++◌, None, map, length, slice_index, slice_index_or, slice_set, nat_le, if◌then◌else◌}
 use Rattle.auction_rules.specs.declared.Event.{Event}
 use Rattle.auction_rules.specs.declared.Event.TheVariants.{Bid, Draft, Drop, Submit, Close}
