@@ -1,0 +1,16 @@
+pub mod PackageLaws
+pub mod Held
+pub mod Agree
+pub mod Drafts
+pub mod Standings
+pub mod Views
+pub mod Steps
+pub mod States
+pub mod Closing
+pub mod BookCaps
+pub mod Sound
+pub mod BookLaws
+pub mod LawfulBids
+pub mod Stands
+pub mod Constraining
+pub mod WorkedCases

@@ -1,0 +1,11 @@
+pub mod PackageTests
+pub mod Terms
+pub mod Step
+pub mod Rounds
+pub mod Caps
+pub mod Lines
+pub mod Replies
+pub mod View
+pub mod State
+pub mod BookOfLog
+pub mod Lawful

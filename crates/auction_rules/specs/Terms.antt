@@ -1,0 +1,40 @@
+-- The terms of an award.
+use Rattle.std.specs.Prelude.{ℕ, suc, ◌-◌, List, [], ◌∷◌, map, slice_index_or, Option, Some, None, nat_le, if◌then◌else◌}
+use Rattle.auction_model.specs.Package.{together, cost_of}
+
+-- the weighted lots of a bidder, with its holding, are at most the limit
+pub record SpectrumRule : Type 0 where
+  pub weights : List ℕ
+  pub limit : ℕ
+
+pub record Entrant : Type 0 where
+  pub name : List ℕ
+  pub eligibility : ℕ
+  pub holding : List ℕ
+
+pub record Terms : Type 0 where
+  pub supply : List ℕ
+  pub points : List ℕ
+  pub reserves : List ℕ
+  pub tick : ℕ
+  -- each an excess, and the thousandths by which a price rises from this excess on
+  pub thresholds : List (ℕ × ℕ)
+  pub rules : List SpectrumRule
+  pub bidders : List Entrant
+
+-- bidder j; bidders are numbered from 1
+abbrev pub entrant : Terms → ℕ → Entrant
+entrant terms j = slice_index_or terms.bidders (j - 1) (record { name = []; eligibility = 0; holding = [] })
+
+-- the number and the limit of the first rule that the lots are above, where the first of these rules has the given number
+abbrev pub first_broken : ℕ → List SpectrumRule → List ℕ → Option (ℕ × ℕ)
+first_broken number [] lots = None
+first_broken number (r ∷ rules) lots = if nat_le (cost_of r.weights lots) r.limit then first_broken (suc number) rules lots else Some (number, r.limit)
+
+-- the rule that the package breaks with the bidder's holding
+abbrev pub broken_rule : Terms → ℕ → List ℕ → Option (ℕ × ℕ)
+broken_rule terms j lots = first_broken 1 terms.rules (together lots (entrant terms j).holding)
+
+-- the empty package of the award: no lot of each category
+abbrev pub no_lots : Terms → List ℕ
+no_lots terms = map (λ n. 0) terms.supply

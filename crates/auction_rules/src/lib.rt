@@ -1,0 +1,192 @@
+//! The rules of a combinatorial clock auction up to its book: the lines of a log, the replies to them, and in `specs/` what
+//! they mean.
+//!
+//! The form of the auction is that of the Wireless Telegraphy (Licence Award) Regulations 2012, SI 2012/2817: clock rounds with
+//! eligibility points at posted prices, then one sealed list of each bidder under relative caps. (Ausubel, Cramton and Milgrom,
+//! The clock-proxy auction, in Combinatorial Auctions, 2006, on clock rounds before package bids.) The number rules are this
+//! project's.
+//!
+//! Each function here is a law: it does nothing, and its contract is what holds of every award and every log. A list of lines
+//! has its newest line first.
+#![tactic(auto)]
+
+ghost use Rattle.std.specs.Prelude.{◌≡◌, ℕ, suc, ◌+◌, ◌*◌, ◌≤◌, List, ◌∷◌, None, IsTrue, true, length, map};
+ghost use Rattle.std.specs.List.{AllByRecursion};
+ghost use Rattle.auction_model.specs.Book.{bidder_of};
+ghost use Rattle.auction_model.specs.Package.{ComesBefore, is_within, cost_of};
+ghost use Rattle.auction_rules.specs.PackageTests.{first_over, is_same, is_before, InOrder};
+ghost use Rattle.auction_rules.specs.Terms.{Terms};
+ghost use Rattle.auction_rules.specs.Step.{ticks_of, IsRaise};
+ghost use Rattle.auction_rules.specs.Rounds.{OwnRound, prices_after};
+ghost use Rattle.auction_rules.specs.Caps.{list_fault, constraining, constraining_number, round_at};
+ghost use Rattle.auction_rules.specs.Replies.{is_of, reply_to, admitted, standing};
+ghost use Rattle.auction_rules.specs.State.{state_of, reply_in, state_with};
+ghost use Rattle.auction_rules.specs.View.{view, own_replies};
+ghost use Rattle.auction_rules.specs.Lawful.{AreLimited, HasCategories, IsLawfulBid};
+ghost use Rattle.auction_rules.specs.BookOfLog.{bid_lots, bids_in_book, book_bidder, book_of_log, book_in};
+
+use lots::Package;
+
+/// One line of a log. Bidders are numbered from 1, and a number that no bidder has, 0 too, is a stranger's.
+#[derive(Drop)]
+pub enum Event {
+    /// A clock bid: the package that the bidder asks for in the posted round. A later one in the round replaces it.
+    Bid {
+        bidder: u16,
+        package: Package,
+    },
+    /// An entry of the bidder's draft list: a package with an amount, reserve included. A later one for the package replaces it.
+    Draft {
+        bidder: u16,
+        package: Package,
+        amount: u64,
+    },
+    /// The bidder takes the entry for the package out of its draft list.
+    Drop {
+        bidder: u16,
+        package: Package,
+    },
+    /// The bidder's draft list becomes its submitted list.
+    Submit {
+        bidder: u16,
+    },
+    /// The posted round is closed, or the sealed round.
+    Close,
+}
+
+/// What a line is answered by: the first reply after `Ok` whose condition holds among those that are tested for the line's
+/// kind, and `Ok` where none holds. Categories, spectrum caps and entries are numbered from 1.
+#[derive(Clone, Copy, Debug, PartialEq, Eq)]
+pub enum Reply {
+    /// The line is admitted.
+    Ok,
+    /// Its kind isn't of this stage: a clock bid belongs to the clock, a draft, a drop and a submission to the sealed round, a
+    /// close to both.
+    Stage,
+    /// The bidder isn't in the award.
+    Unknown,
+    /// The package asks for more than the supply in this category, the first such one.
+    Supply(u16),
+    /// With what the bidder holds already, the package is above the limit of the spectrum cap of this number, the first such one.
+    SpectrumCap { number: u32, limit: u64 },
+    /// The points of the package are above this eligibility: of the posted round for a clock bid, of round 1 for a draft.
+    Points(u64),
+    /// A draft of the empty package.
+    Empty,
+    /// The amount of a draft is below the price of its package at the reserves, which is this.
+    BelowReserve(u64),
+    /// The amount of a draft is below the bidder's greatest clock bid for the package, which is this.
+    BelowClock(u64),
+    /// A drop of a package that has no draft.
+    NoDraft,
+    /// This entry of the draft list that is to be submitted is above its relative cap, the first such one, with its cap.
+    RelativeCap { entry: u32, limit: u64 },
+    /// There are so many drafts already and the package has none, or so many rounds and there still is excess demand.
+    Full(u64),
+    /// The amount of a draft is above the greatest amount, which is this.
+    AmountTop(u64),
+    /// A close would raise the price of this category to this, which is above the greatest price; the first such category.
+    PriceTop { category: u16, price: u64 },
+    /// There was no memory. The rules never give this reply; it may come in place of theirs.
+    Memory,
+}
+
+/// How far an auction is.
+#[derive(Clone, Copy, Debug, PartialEq, Eq)]
+pub enum Stage {
+    /// Rounds are posted, one after the other, until demand is within the supply.
+    Clock,
+    /// Bidders draft and submit their lists.
+    Sealed,
+    /// No line is admitted any more.
+    Closed,
+}
+
+/// The tests of packages say what the words of packages say: being the same is equality; the test of order is the order of
+/// packages, among packages with equally many categories; and no category is over exactly where the package is within the
+/// supply.
+pub fn package_tests()
+    ensures same { (p q : List ℕ) → is_same p q ≡ true → p ≡ q }
+    ensures is_same { (p : List ℕ) → is_same p p ≡ true }
+    ensures before { (p q : List ℕ) → length p ≡ length q → is_before p q ≡ true → ComesBefore p q }
+    ensures comes { (p q : List ℕ) → ComesBefore p q → is_before p q ≡ true }
+    ensures within { (category : ℕ) (lots supply : List ℕ) → is_within lots supply ≡ true → first_over category lots supply ≡ None }
+    ensures none_over { (category : ℕ) (lots supply : List ℕ) → first_over category lots supply ≡ None → is_within lots supply ≡ true }
+{}
+
+/// A raise is the least multiple of the tick that is at least the tick and at least so many thousandths of the price, and there
+/// is no other.
+pub fn raise_is_least()
+    ensures least { (tick price permille : ℕ) → 1 ≤ tick → IsRaise tick price permille (ticks_of tick price permille * tick) }
+    ensures one { (tick price permille u v : ℕ) → IsRaise tick price permille u → IsRaise tick price permille v → u ≡ v }
+{}
+
+/// The price of a package never falls from round to round, whatever is held.
+pub fn prices_never_fall()
+    ensures { (terms : Terms) (held : ℕ → ℕ → List ℕ) (n : ℕ) (lots : List ℕ) → cost_of (prices_after terms held n) lots ≤ cost_of (prices_after terms held (suc n)) lots }
+{}
+
+/// The constraining round for some points is the round of its number: the last one in which the bidder's eligibility was enough
+/// for them.
+pub fn constraining_round()
+    ensures { (points : ℕ) (rounds : List OwnRound) → constraining points rounds ≡ round_at rounds (constraining_number points rounds) }
+{}
+
+/// After any log a bidder is eligible for the package that it holds, and its submitted list is valid: each amount in it, but
+/// that for the package of the final round, is at most its cap over that list.
+pub fn sound_standings()
+    ensures eligible { (terms : Terms) (log : List Event) (j : ℕ)
+        → cost_of terms.points (standing terms (admitted terms log) j).held ≤ (standing terms (admitted terms log) j).eligibility }
+    ensures valid { (terms : Terms) (log : List Event) (j : ℕ)
+        → list_fault terms.points (standing terms (admitted terms log) j).rounds (standing terms (admitted terms log) j).submitted ≡ None }
+{}
+
+/// However the lines of bidders are interleaved, a bidder is treated by what it sees: its own lines and the closes, each close
+/// with its reply and the prices that it posts. Where it has the same view of two logs on one award, its next line gets the
+/// same reply, its lines got the same replies, and it has the same bids in the book.
+pub fn interleaving()
+    ensures next { (terms : Terms) (j : ℕ) (log other : List Event) (line : Event) → IsTrue (is_of j line)
+        → view terms j log ≡ view terms j other → reply_to terms log line ≡ reply_to terms other line }
+    ensures replies { (terms : Terms) (j : ℕ) (log other : List Event)
+        → view terms j log ≡ view terms j other → own_replies terms j log ≡ own_replies terms j other }
+    ensures bids { (terms : Terms) (j : ℕ) (log other : List Event)
+        → view terms j log ≡ view terms j other → bids_in_book terms log j ≡ bids_in_book terms other j }
+{}
+
+/// A state is enough for a desk. From the state after a log, the reply to a line is that of the rules, which look through the
+/// whole log; and what the line makes of the state is the state after the log with the line.
+pub fn desk_step()
+    ensures reply { (terms : Terms) (log : List Event) (line : Event) → reply_in (state_of terms log) line ≡ reply_to terms log line }
+    ensures state { (terms : Terms) (log : List Event) (line : Event) → state_with (state_of terms log) line ≡ state_of terms (line ∷ log) }
+{}
+
+/// The state after a log is enough for the book of the log.
+pub fn desk_book()
+    ensures { (terms : Terms) (log : List Event) → book_in (state_of terms log) ≡ book_of_log terms log }
+{}
+
+/// Each bidder of the award stands in the book of a log at its place, with its name and its bids, also one without bids.
+pub fn bidders_of_book()
+    ensures count { (terms : Terms) (log : List Event) → length (book_of_log terms log).bidders ≡ length terms.bidders }
+    ensures each { (terms : Terms) (log : List Event) (j : ℕ) → 1 ≤ j → j ≤ length terms.bidders
+        → bidder_of (book_of_log terms log) j ≡ book_bidder terms (bids_in_book terms log) j }
+{}
+
+/// The bids of a bidder in the book are in the order of their packages, each package once.
+pub fn book_in_order()
+    ensures { (terms : Terms) (log : List Event) (j : ℕ) → InOrder (map bid_lots (bids_in_book terms log j)) }
+{}
+
+/// After a log whose packages have the award's number of categories, each bid of the book is within the supply, at least its price
+/// at the reserves and at most the greatest amount, where the award keeps its limits of lots and of reserves.
+pub fn lawful_bids()
+    ensures { (terms : Terms) (log : List Event) (j : ℕ) → AreLimited terms → AllByRecursion (HasCategories terms) log
+        → AllByRecursion (IsLawfulBid terms) (bids_in_book terms log j) }
+{}
+
+/// After any log the bids that a bidder has in the book are a valid list: each, but that for the package of the final round, is
+/// at most its cap over the book's own bids.
+pub fn book_within_caps()
+    ensures { (terms : Terms) (log : List Event) (j : ℕ)
+        → list_fault terms.points (standing terms (admitted terms log) j).rounds (bids_in_book terms log j) ≡ None }
+{}
