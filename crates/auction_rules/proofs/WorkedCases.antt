@@ -1,11 +1,12 @@
 -- Worked cases, each by computation.
-use Rattle.std.proofs.Common.{◌≡◌, true, false, List, [], ◌∷◌, Some, refl}
+use Rattle.std.proofs.Common.{◌≡◌, ℕ, true, false, List, [], ◌∷◌, None, Some, replicate, refl}
 use Rattle.auction_rules.specs.declared.Event.{Event}
 use Rattle.auction_rules.specs.declared.Event.TheVariants.{Bid, Draft, Drop, Submit, Close}
 use Rattle.auction_rules.specs.declared.Reply.TheVariants as reply
 use Rattle.auction_rules.specs.Terms.{Terms}
 use Rattle.auction_rules.specs.Step.{ticks_of, stepped}
-use Rattle.auction_rules.specs.Replies.{reply_to, price_top}
+use Rattle.auction_model.specs.Book.{BookBid}
+use Rattle.auction_rules.specs.Replies.{reply_to, price_top, drafts_full, close_reply}
 use Rattle.auction_rules.specs.BookOfLog.{bids_in_book, book_of_log, is_complete}
 use Rattle.auction_rules.specs.Rounds.{raised_prices}
 use Rattle.auction_rules.specs.State.{state_of}
@@ -153,3 +154,38 @@ calls_a_log_complete_after_the_last_close = refl
 calls_no_log_complete_before_it : is_complete sample with_drafts ≡ false
 unfolding state_of ticks_of
 calls_no_log_complete_before_it = refl
+
+abbrev a_draft : BookBid
+a_draft = record { lots = 1 ∷ []; amount = 20 }
+
+refuses_a_new_package_beside_300_drafts : drafts_full (replicate 300 a_draft) (2 ∷ []) ≡ Some (reply.Full 300)
+refuses_a_new_package_beside_300_drafts = refl
+
+takes_a_new_package_beside_299_drafts : drafts_full (replicate 299 a_draft) (2 ∷ []) ≡ None
+takes_a_new_package_beside_299_drafts = refl
+
+replaces_an_amount_beside_300_drafts : drafts_full (replicate 300 a_draft) (1 ∷ []) ≡ None
+replaces_an_amount_beside_300_drafts = refl
+
+-- prices rise by the tick, and each bidder always asks for two of three lots
+abbrev slow : Terms
+slow = record {
+  supply = 3 ∷ [];
+  points = 1 ∷ [];
+  reserves = 10 ∷ [];
+  tick = 1;
+  thresholds = [];
+  rules = [];
+  bidders = record { name = []; eligibility = 3; holding = 0 ∷ [] } ∷ record { name = []; eligibility = 2; holding = 0 ∷ [] } ∷ [];
+}
+
+abbrev always_two : ℕ → ℕ → List ℕ
+always_two r j = 2 ∷ []
+
+refuses_to_close_round_300_with_excess_demand : close_reply slow always_two 299 ≡ reply.Full 300
+unfolding ticks_of
+refuses_to_close_round_300_with_excess_demand = refl
+
+closes_round_299_with_excess_demand : close_reply slow always_two 298 ≡ reply.Ok
+unfolding ticks_of
+closes_round_299_with_excess_demand = refl

@@ -16,7 +16,7 @@ sum_of none packages (suc n) = together (sum_of none packages n) (packages (suc 
 abbrev pub demand : Terms → (ℕ → ℕ → List ℕ) → ℕ → List ℕ
 demand terms held r = sum_of (no_lots terms) (held r) (length terms.bidders)
 
--- each price is raised_prices where the demand is above the supply
+-- the next prices: each is raised by the step where the demand is above the supply
 abbrev pub raised_prices : ℕ → List (ℕ × ℕ) → List ℕ → List ℕ → List ℕ → List ℕ
 raised_prices tick thresholds [] d supply = []
 raised_prices tick thresholds (p ∷ prices) [] supply = p ∷ prices
