@@ -1,5 +1,5 @@
 -- The system of the forced rows, and the point that its solution gives.
-use Rattle.std.proofs.Common.{◌≡◌, ◌≢◌, ℕ, ◌^◌, ◌<◌, ◌≤◌, refl, sym, arith, ap, ◌∙◌, subst, List, length, unsigned_abs, to_z, of_z}
+use Rattle.std.proofs.Common.{◌≡◌, ℕ, ◌^◌, ◌<◌, sym, arith, ap, ◌∙◌, subst, List, length, to_z, of_z}
 use Rattle.std.specs.Int.{w128}
 use Rattle.std.specs.Prelude.{ℤ, pos, ◌+ℤ◌, ◌-ℤ◌, ◌*ℤ◌, ◌<ℤ◌}
 use Rattle.std.proofs.lemmas.Int.{ints}
@@ -15,13 +15,12 @@ use Rattle.wide_num.proofs.Sums.{dot-same, total-same}
 use Rattle.nearest_point.specs.declared.settle.Held.{Held}
 use Rattle.nearest_point.specs.declared.settle.Multipliers.{Multipliers}
 use Rattle.nearest_point.specs.Numbers.{AreBelow, at_t, large, place}
-use Rattle.nearest_point.specs.Problem.{AreOnes, IsProblem, bounds, coefficients, weight_at}
-use Rattle.nearest_point.specs.Search.{ByParts, Independent, Near, Solved, gram}
+use Rattle.nearest_point.specs.Problem.{bounds, coefficients, weight_at}
+use Rattle.nearest_point.specs.Search.{ByParts, Independent, Solved, gram}
 use Rattle.nearest_point.specs.Found.{AreMultipliers, AreWithin, HasParts, IsLowered, IsNear, IsPart, Solves, common, row_of}
 use Rattle.nearest_point.proofs.Parts.{dot-at_t, settled, solved-at_t}
 use Rattle.nearest_point.proofs.Steps.{near_start}
 use Rattle.nearest_point.proofs.Vectors.{never_dependent}
-use Rattle.nearest_point.proofs.Whole.{have_weights}
 
 pub gram_is : (m : ℕ) (a b : ℕ → ℤ) (weights : List ℕ) (lowered : List ℤ) → IsLowered weights lowered → length lowered ≡ m
     → common m a b (nth lowered) ≡ total m (λ j. a j *ℤ (weight_at weights j *ℤ b j))

@@ -1,5 +1,5 @@
 -- The clauses of `nearest` from what the search found.
-use Rattle.std.proofs.Common.{◌≡◌, ℕ, ◌^◌, ◌<◌, ◌≤◌, arith, refl, sym, ap, ◌∙◌, List, [], length, unsigned_abs}
+use Rattle.std.proofs.Common.{◌≡◌, ℕ, ◌^◌, ◌<◌, ◌≤◌, arith, ap, ◌∙◌, List, [], length, unsigned_abs}
 use Rattle.std.specs.Prelude.{ℤ, pos, ◌*ℤ◌, ◌≤ℤ◌, ◌<ℤ◌}
 use Rattle.std.proofs.lemmas.Int.{ints}
 use Rattle.far_num.specs.Members.{holds}

@@ -1,4 +1,4 @@
-use Rattle.std.proofs.Common.{◌≡◌, ℕ, ◌^◌, ◌<◌, ◌*ℤ◌, ◌+ℤ◌, length, arith, ap, ◌∙◌, to_z, of_z, unsigned_abs}
+use Rattle.std.proofs.Common.{◌≡◌, ◌^◌, ◌<◌, ◌*ℤ◌, ◌+ℤ◌, length, arith, ap, ◌∙◌, to_z, of_z, unsigned_abs}
 use Rattle.std.specs.Prelude.{ℤ}
 use Rattle.std.specs.Int.{w128}
 use Rattle.std.proofs.lemmas.Int.{ints}

@@ -1,6 +1,5 @@
-use Rattle.std.proofs.Common.{◌≡◌, ℕ, length, arith, rules, ap, refl, ◌∙◌, List, to_z, of_z}
+use Rattle.std.proofs.Common.{length, arith, refl, ◌∙◌, to_z, of_z}
 use Rattle.std.specs.Int.{w128}
-use Rattle.nearest_point.specs.declared.settle.Held.{Held}
 use Rattle.nearest_point.specs.Found.{row_of}
 use Rattle.nearest_point.specs.Problem.{weight_at}
 use Rattle.nearest_point.proofs.Leaves.{target_small}

@@ -1,4 +1,4 @@
-use Rattle.std.proofs.Common.{◌≡◌, ℕ, length, arith, rules, ap, ◌∙◌, List, to_z, of_z}
+use Rattle.std.proofs.Common.{◌≡◌, length, arith, rules, ap, ◌∙◌, List, to_z, of_z}
 use Rattle.std.specs.Int.{w128}
 use Rattle.far_num.specs.Pairs.{far_at, near_at}
 use Rattle.far_num.specs.declared.Far.{Far}

@@ -1,4 +1,4 @@
-use Rattle.std.proofs.Common.{◌≡◌, arith, length, ◌∙◌, to_z, of_z}
+use Rattle.std.proofs.Common.{◌≡◌, arith, length, to_z, of_z}
 use Rattle.std.specs.Prelude.{pos, ◌-ℤ◌}
 use Rattle.std.specs.Int.{w128}
 use Rattle.std.specs.Int.Bits.{bit_and}
