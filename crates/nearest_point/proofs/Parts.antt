@@ -68,21 +68,6 @@ far_nonneg t far near tp h k = by_lt_z far (pos 0)
 pub near_nonneg : (t far near : ℤ) → far ≡ pos 0 → pos 0 ≤ℤ (far *ℤ t +ℤ near) → pos 0 ≤ℤ near
 near_nonneg t far near e k = let p : far *ℤ t ≡ pos 0 *ℤ t = ap (λ (z : ℤ). z *ℤ t) e in omega (arith, ints)
 
--- the test of the search: the sum over a row, far and near, is below den * b in the order of Far
-pub below_at_t : (t far near low : ℤ) → (pos 0 -ℤ t) <ℤ (low -ℤ near) → (far <ℤ pos 0) ⊎ ((far ≡ pos 0) × (near <ℤ low)) → pos 0 <ℤ t → (far *ℤ t +ℤ near) <ℤ low
-below_at_t t far near low gap (inr (e, lt)) tp = let p : far *ℤ t ≡ pos 0 *ℤ t = ap (λ (z : ℤ). z *ℤ t) e in omega (arith, ints)
-below_at_t t far near low gap (inl lt) tp =
-    let p = mul_nonneg (negsuc 0 -ℤ far) t (omega (arith, ints)) (omega (arith, ints)) in
-    let e : (negsuc 0 -ℤ far) *ℤ t ≡ (pos 0 -ℤ t) -ℤ far *ℤ t = ring (far ∷ t ∷ []) (mul (sub (con (negsuc 0)) (var 0)) (var 1)) (sub (sub (con (pos 0)) (var 1)) (mul (var 0) (var 1))) refl in
-    omega (arith, ints)
-
-pub above_at_t : (t far near low : ℤ) → (low -ℤ near) <ℤ t → (pos 0 <ℤ far) ⊎ ((far ≡ pos 0) × (low ≤ℤ near)) → pos 0 <ℤ t → low ≤ℤ (far *ℤ t +ℤ near)
-above_at_t t far near low gap (inr (e, le)) tp = let p : far *ℤ t ≡ pos 0 *ℤ t = ap (λ (z : ℤ). z *ℤ t) e in omega (arith, ints)
-above_at_t t far near low gap (inl lt) tp =
-    let p = mul_nonneg (far -ℤ pos 1) t (omega (arith, ints)) (omega (arith, ints)) in
-    let e : (far -ℤ pos 1) *ℤ t ≡ far *ℤ t -ℤ t = ring (far ∷ t ∷ []) (mul (sub (var 0) (con (pos 1))) (var 1)) (sub (mul (var 0) (var 1)) (var 1)) refl in
-    omega (arith, ints)
-
 -- no coordinate has a far part: far parts are at least 0, each row that made the point is tight and its bound has no far part, and each coordinate lies in one
 pub plain : (m n : ℕ) (a : ℕ → ℕ → ℤ) (den : ℤ) (far first weight : ℕ → ℤ) → ((j : ℕ) → j < m → pos 0 <ℤ weight j)
     → Solved m n a den far first (λ j. pos 0 -ℤ weight j) weight
