@@ -1,0 +1,14 @@
+pub mod Answer
+pub mod Bits
+pub mod Forced
+pub mod Grams
+pub mod Leaves
+pub mod Parts
+pub mod Places
+pub mod SetStep
+pub mod Settling
+pub mod Sizes
+pub mod Steps
+pub mod Taking
+pub mod Vectors
+pub mod Whole

@@ -1,0 +1,6 @@
+-- Where a number stands beside another.
+use Rattle.std.proofs.Common.{◌≡◌, ℕ, suc, ◌<◌, arith, ◌⊎◌, inl, inr}
+use Rattle.std.proofs.lemmas.Bool.{cases_eq}
+
+pub lt_or : (k n : ℕ) → k < suc n → (k < n) ⊎ (k ≡ n)
+lt_or k n h = elim (cases_eq k n) [ inl e ↦ inr e | inr ne ↦ inl (omega arith) ]

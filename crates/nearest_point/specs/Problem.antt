@@ -1,0 +1,50 @@
+-- What the search for the nearest point is given: targets, weights, and rows as sets of bits with bounds.
+use Rattle.far_num.specs.Members.{holds}
+use Rattle.far_num.specs.declared.Row.{Row}
+use Rattle.std.specs.Prelude.{List, length, pos, slice_index_or, ℕ, ℤ, ◌<◌, ◌^◌, ◌≡◌, ◌≤ℤ◌, ◌≤◌}
+use Rattle.wide_num.specs.Sums.{nth, total}
+
+-- the weight of a coordinate
+abbrev pub weight_at : List ℕ → ℕ → ℤ
+weight_at weights j = pos (slice_index_or weights j 0)
+
+-- the row at a place, and past the end a row without members
+abbrev pub row_at : List Row → ℕ → Row
+row_at rows i = slice_index_or rows i (record { members = 0; bound = pos 0 })
+
+-- 1 where the row at place i has the member j, and else 0
+abbrev pub coefficients : List Row → ℕ → ℕ → ℤ
+coefficients rows i = holds (row_at rows i).members
+
+abbrev pub bounds : List Row → ℕ → ℤ
+bounds rows i = (row_at rows i).bound
+
+-- one weight of 1 for each of m coordinates
+pub record AreOnes (m : ℕ) (weights : List ℕ) : Type 0 where
+  pub long : length weights ≡ m
+  pub one : (j : ℕ) → j < m → slice_index_or weights j 0 ≡ 1
+
+-- no target is negative, and their sum is at most 2^46
+pub record AreTargets (target : List ℤ) : Type 0 where
+  pub not_negative : (j : ℕ) → j < length target → pos 0 ≤ℤ nth target j
+  pub sum : total (length target) (nth target) ≤ℤ pos (2 ^ 46)
+
+-- no bound is negative, and each is at most 2^46
+pub record AreBounds (rows : List Row) : Type 0 where
+  pub not_negative : (i : ℕ) → i < length rows → pos 0 ≤ℤ bounds rows i
+  pub small : (i : ℕ) → i < length rows → bounds rows i ≤ℤ pos (2 ^ 46)
+
+-- each row has a member, and none is past the coordinates
+abbrev pub HasMembers : ℕ → List Row → Type 0
+HasMembers m rows = (i : ℕ) → i < length rows → (0 < (row_at rows i).members) × ((row_at rows i).members < 2 ^ m)
+
+-- each single coordinate is a row
+abbrev pub HasSingles : ℕ → List Row → Type 0
+HasSingles m rows = (j : ℕ) → j < m → (i : ℕ) × (i < length rows) × ((row_at rows i).members ≡ 2 ^ j)
+
+-- what the search needs of all this
+pub record IsProblem (target : List ℤ) (weights : List ℕ) (rows : List Row) : Type 0 where
+  pub few : length target ≤ 6
+  pub ones : AreOnes (length target) weights
+  pub targets : AreTargets target
+  pub row_bounds : AreBounds rows

@@ -1,0 +1,74 @@
+//! The point of least sum that meets all rows and is nearest to a target among these, with its multipliers.
+//!
+//! The target is lowered by `t` times the weight in each coordinate, where `t` is above every number. The point nearest
+//! to the lowered target has the least sum, and is the nearest to the target among the points of that sum. Its multipliers
+//! are pairs: the far part is the first multiplier, the near part the second.
+#![tactic(auto)]
+
+ghost use Rattle.nearest_point.specs.Problem.{AreBounds, AreOnes, AreTargets, HasMembers, HasSingles, bounds, coefficients, weight_at};
+ghost use Rattle.nearest_point.specs.Numbers.{AreBelow, pairs_used};
+ghost use Rattle.point_laws.specs.Multipliers.{AreFirst, AreSecond, SumsTo};
+ghost use Rattle.point_laws.specs.Points.{HasLeastSum, IsNearestTo, MeetsRows};
+ghost use Rattle.std.specs.Prelude.{IfOk, length, pos, ◌<ℤ◌, ◌^◌, ◌≡◌, ◌≤◌};
+ghost use Rattle.wide_num.specs.Sums.{nth};
+
+use far_num::Row;
+use std::alloc::{AllocError, Global};
+use wide_num::NumList;
+
+mod found;
+mod members;
+mod search;
+mod settle;
+mod spread;
+mod system;
+#[cfg(test)]
+mod tests;
+
+pub use found::Nearest;
+use search::search_from;
+use spread::spread_out;
+
+/// The point of least sum that meets all rows, and of these the nearest to the target by squares, with one first and one
+/// second multiplier for each row.
+///
+/// `target` and `weights` have one number for each of 1 to 6 coordinates, and each weight is 1. Bit `j` of the members of
+/// a row stands for coordinate `j`. Each row has a member, and each single coordinate is a row, so a point exists. No
+/// target and no bound is negative, and neither the sum of the targets nor a bound is above 2^46. The only error is want
+/// of memory.
+///
+/// The rule is that of Day and Cramton (Quadratic core-selecting payment rules for combinatorial auctions, Operations
+/// Research 60, 2012).
+pub fn nearest(
+    alloc: Global,
+    target: &[i128],
+    weights: &[u32],
+    rows: &[Row],
+) -> Result<Nearest, AllocError>
+    requires coordinates { (1 ≤ length target.now) × (length target.now ≤ 6) }
+    requires weights { AreOnes (length target.now) weights.now }
+    requires members { HasMembers (length target.now) rows.now }
+    requires singles { HasSingles (length target.now) rows.now }
+    requires targets { AreTargets target.now }
+    requires bounds { AreBounds rows.now }
+    ensures lengths { IfOk result (λ p. (length p.at ≡ length target.now) × (length p.first ≡ length rows.now) × (length p.second ≡ length rows.now)) }
+    ensures meets { IfOk result (λ p. MeetsRows (length target.now) (length rows.now) (coefficients rows.now) (bounds rows.now) p.den (nth p.at)) }
+    ensures first { IfOk result (λ p. AreFirst (length target.now) (length rows.now) (coefficients rows.now) (bounds rows.now) p.den (nth p.at) (nth p.first)) }
+    ensures first_sums { IfOk result (λ p. SumsTo (length target.now) (length rows.now) (coefficients rows.now) p.den (nth p.first)) }
+    ensures second { IfOk result (λ p. AreSecond (length target.now) (length rows.now) (coefficients rows.now) (bounds rows.now) p.den (nth p.at) (nth p.first) (nth p.second) (nth target.now) (weight_at weights.now)) }
+    ensures few { IfOk result (λ p. pairs_used (length rows.now) (nth p.first) (nth p.second) ≤ length target.now) }
+    ensures least { IfOk result (λ p. HasLeastSum (length target.now) (MeetsRows (length target.now) (length rows.now) (coefficients rows.now) (bounds rows.now)) p.den (nth p.at)) }
+    ensures nearest { IfOk result (λ p. IsNearestTo (length target.now) (λ j. pos 1) (nth target.now) (MeetsRows (length target.now) (length rows.now) (coefficients rows.now) (bounds rows.now)) p.den (nth p.at)) }
+    ensures denominator { IfOk result (λ p. p.den <ℤ pos (2 ^ 32)) }
+    ensures small { IfOk result (λ p. AreBelow (2 ^ 109) p.at × AreBelow (2 ^ 109) p.first × AreBelow (2 ^ 109) p.second) }
+{
+    let held = search_from(alloc, target, weights, rows, &[], 0)?;
+    let first = spread_out(alloc, rows.len(), &held.rows, &held.first)?;
+    let second = spread_out(alloc, rows.len(), &held.rows, &held.second)?;
+    Ok(Nearest {
+        den: held.den,
+        at: NumList::from_vec(held.near),
+        first: NumList::from_vec(first),
+        second: NumList::from_vec(second),
+    })
+}

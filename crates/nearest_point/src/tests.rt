@@ -1,0 +1,188 @@
+ghost use Rattle.nearest_point.specs.Problem.{AreBounds, AreTargets, HasMembers, HasSingles, row_at};
+ghost use Rattle.std.specs.Prelude.{IfSome, IsTrue, length, slice_index_or, ℕ, ◌<◌, ◌^◌, ◌≡◌};
+
+use super::{Nearest, nearest};
+use far_num::Row;
+use std::alloc::{AllocError, Global};
+use std::process::Abort;
+use std::test::Fail;
+
+const MOST: i128 = 1 << 46;
+
+fn row(members: u16, bound: i128) -> Row {
+    Row { members, bound }
+}
+
+fn are_ones(weights: &[u32]) -> bool
+    ensures { IsTrue result → (j : ℕ) → j < length weights.now → slice_index_or weights.now j 0 ≡ 1 }
+{
+    for weight in weights {
+        if *weight != 1 {
+            return false;
+        }
+    }
+    true
+}
+
+fn are_targets(target: &[i128]) -> bool
+    ensures { IsTrue result → AreTargets target.now }
+{
+    let mut sum: i128 = 0;
+    for x in target {
+        if *x < 0 {
+            return false;
+        }
+        if *x > MOST - sum {
+            return false;
+        }
+        sum += *x;
+    }
+    true
+}
+
+fn are_bounds(rows: &[Row]) -> bool
+    ensures { IsTrue result → AreBounds rows.now }
+{
+    for row in rows {
+        if row.bound < 0 {
+            return false;
+        }
+        if row.bound > MOST {
+            return false;
+        }
+    }
+    true
+}
+
+fn have_members(end: u16, rows: &[Row]) -> bool
+    ensures { IsTrue result → (i : ℕ) → i < length rows.now → (0 < (row_at rows.now i).members) × ((row_at rows.now i).members < end) }
+{
+    for row in rows {
+        if row.members == 0 {
+            return false;
+        }
+        if row.members >= end {
+            return false;
+        }
+    }
+    true
+}
+
+fn find_row(members: u16, rows: &[Row]) -> Option<usize>
+    ensures { IfSome result (λ i. (i < length rows.now) × ((row_at rows.now i).members ≡ members)) }
+{
+    for (i, row) in rows.iter().enumerate() {
+        if row.members == members {
+            return Some(i);
+        }
+    }
+    None
+}
+
+fn have_singles(size: usize, rows: &[Row]) -> bool
+    requires { size < 16 }
+    ensures { IsTrue result → HasSingles size rows.now }
+{
+    for j in 0..size {
+        if find_row(1 << j, rows).is_none() {
+            return false;
+        }
+    }
+    true
+}
+
+// Tests the conditions of `nearest`, and calls it.
+fn answer(
+    rt: &impl Abort,
+    alloc: Global,
+    target: &[i128],
+    rows: &[Row],
+) -> Result<Nearest, AllocError> {
+    let weights = vec![in alloc; 1u32; target.len()]?;
+    assert!(rt; target.len() >= 1);
+    assert!(rt; target.len() <= 6);
+    assert!(rt; are_ones(&weights));
+    assert!(rt; are_targets(target));
+    assert!(rt; are_bounds(rows));
+    assert!(rt; have_members(1 << target.len(), rows));
+    assert!(rt; have_singles(target.len(), rows));
+    nearest(alloc, target, &weights, rows)
+}
+
+// The fractions of the point are `numbers` over `den`.
+fn assert_point(rt: &impl Abort, point: &Nearest, den: i128, numbers: &[i128]) {
+    assert!(rt; point.den >= 1);
+    assert_eq!(rt; point.at.items().len(), numbers.len());
+    for (x, y) in point.at.items().iter().zip(numbers) {
+        assert_eq!(rt;
+            x.checked_mul(den).expect(rt, "a small product"),
+            y.checked_mul(point.den).expect(rt, "a small product")
+        );
+    }
+}
+
+#[test]
+fn points(rt: HostRuntime) -> Result<(), Fail> {
+    let table: [(&[i128], &[Row], i128, &[i128]); 12] = [
+        (&[3], &[row(1, 4)], 1, &[4]),
+        (&[9], &[row(1, 4)], 1, &[4]),
+        (&[0, 0], &[row(1, 0), row(2, 0), row(3, 6)], 1, &[3, 3]),
+        (
+            &[0, 0],
+            &[row(1, 0), row(3, 6), row(2, 0), row(3, 6)],
+            1,
+            &[3, 3],
+        ),
+        (&[0, 0], &[row(1, 5), row(2, 5), row(3, 6)], 1, &[5, 5]),
+        (&[5, 7], &[row(1, 1), row(2, 1), row(3, 4)], 1, &[1, 3]),
+        (&[10, 0], &[row(1, 0), row(2, 0), row(3, 6)], 1, &[6, 0]),
+        (&[1, 0], &[row(1, 1), row(2, 0), row(3, 6)], 2, &[7, 5]),
+        (
+            &[0, 0, 0],
+            &[row(1, 0), row(2, 0), row(4, 0), row(7, 11)],
+            3,
+            &[11, 11, 11],
+        ),
+        (
+            &[0, 0, 0],
+            &[row(1, 0), row(2, 0), row(4, 0), row(3, 5), row(6, 4)],
+            1,
+            &[1, 4, 0],
+        ),
+        (
+            &[0, 0, 0],
+            &[
+                row(7, 9),
+                row(3, 6),
+                row(5, 8),
+                row(6, 6),
+                row(4, 0),
+                row(2, 0),
+                row(1, 0),
+            ],
+            1,
+            &[4, 2, 4],
+        ),
+        (
+            &[0, 0, 0, 0, 0, 0],
+            &[
+                row(1, 0),
+                row(2, 0),
+                row(4, 0),
+                row(8, 0),
+                row(16, 0),
+                row(32, 0),
+                row(63, MOST),
+            ],
+            6,
+            &[MOST, MOST, MOST, MOST, MOST, MOST],
+        ),
+    ];
+    for (target, rows, den, numbers) in table {
+        let point = answer(&rt, rt.alloc(), target, rows)?;
+        assert_eq!(rt; point.first.items().len(), rows.len());
+        assert_eq!(rt; point.second.items().len(), rows.len());
+        assert_point(&rt, &point, den, numbers);
+    }
+    Ok(())
+}

@@ -1,0 +1,4 @@
+pub mod Order
+pub mod PointLaws
+pub mod Ring
+pub mod Sums
