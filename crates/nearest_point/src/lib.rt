@@ -6,10 +6,11 @@
 #![tactic(auto)]
 
 ghost use Rattle.nearest_point.specs.Problem.{AreBounds, AreOnes, AreTargets, HasMembers, HasSingles, bounds, coefficients, weight_at};
+ghost use Rattle.nearest_point.specs.Found.{HasParts, IsNear};
 ghost use Rattle.nearest_point.specs.Numbers.{AreBelow, pairs_used};
 ghost use Rattle.point_laws.specs.Multipliers.{AreFirst, AreSecond, SumsTo};
 ghost use Rattle.point_laws.specs.Points.{HasLeastSum, IsNearestTo, MeetsRows};
-ghost use Rattle.std.specs.Prelude.{IfOk, length, pos, ◌<ℤ◌, ◌^◌, ◌≡◌, ◌≤◌};
+ghost use Rattle.std.specs.Prelude.{IfOk, [], length, pos, ◌<ℤ◌, ◌^◌, ◌≡◌, ◌≤◌};
 ghost use Rattle.wide_num.specs.Sums.{nth};
 
 use far_num::Row;
@@ -27,6 +28,7 @@ mod tests;
 
 pub use found::Nearest;
 use search::search_from;
+use settle::Held;
 use spread::spread_out;
 
 /// The point of least sum that meets all rows, and of these the nearest to the target by squares, with one first and one
@@ -62,7 +64,7 @@ pub fn nearest(
     ensures denominator { IfOk result (λ p. p.den <ℤ pos (2 ^ 32)) }
     ensures small { IfOk result (λ p. AreBelow (2 ^ 109) p.at × AreBelow (2 ^ 109) p.first × AreBelow (2 ^ 109) p.second) }
 {
-    let held = search_from(alloc, target, weights, rows, &[], 0)?;
+    let held = search_all(alloc, target, weights, rows, &mut 0)?;
     let first = spread_out(alloc, rows.len(), &held.rows, &held.first)?;
     let second = spread_out(alloc, rows.len(), &held.rows, &held.second)?;
     Ok(Nearest {
@@ -71,4 +73,23 @@ pub fn nearest(
         first: NumList::from_vec(first),
         second: NumList::from_vec(second),
     })
+}
+
+// The point by parts. `systems` counts the systems that are solved.
+fn search_all(
+    alloc: Global,
+    target: &[i128],
+    weights: &[u32],
+    rows: &[Row],
+    systems: &mut u32,
+) -> Result<Held, AllocError>
+    requires coordinates { (1 ≤ length target.now) × (length target.now ≤ 6) }
+    requires weights { AreOnes (length target.now) weights.now }
+    requires members { HasMembers (length target.now) rows.now }
+    requires targets { AreTargets target.now }
+    requires bounds { AreBounds rows.now }
+    ensures near { IfOk result (λ h. IsNear target.now weights.now rows.now [] 0 h) }
+    ensures parts { IfOk result (λ h. HasParts target.now weights.now rows.now h) }
+{
+    search_from(alloc, target, weights, rows, &[], 0, systems)
 }

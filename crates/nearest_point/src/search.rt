@@ -9,7 +9,7 @@ use std::alloc::{AllocError, Global};
 /// The nearest point with equality in the forced rows that meets the rows from `from` on.
 ///
 /// The rows are taken from the last one down. One that the point violates is forced, and the rows after it are taken
-/// again beside it.
+/// again beside it. `systems` counts the systems that are solved.
 #[cycle(search)]
 pub(crate) fn search_from(
     alloc: Global,
@@ -18,6 +18,7 @@ pub(crate) fn search_from(
     rows: &[Row],
     forced: &[usize],
     from: usize,
+    systems: &mut u32,
 ) -> Result<Held, AllocError>
     requires problem { IsProblem target.now weights.now rows.now }
     requires owed { IsOwed target.now rows.now forced.now from }
@@ -26,12 +27,13 @@ pub(crate) fn search_from(
     ensures near { IfOk result (λ h. IsNear target.now weights.now rows.now forced.now from h) }
     ensures parts { IfOk result (λ h. HasParts target.now weights.now rows.now h) }
 {
+    *systems = systems.saturating_add(1);
     let mut best = settle(alloc, target, weights, rows, forced)?;
     let mut k = rows.len();
     while k > from {
         k -= 1;
         if is_violated(&best, rows, k) {
-            best = force(alloc, target, weights, rows, forced, k)?;
+            best = force(alloc, target, weights, rows, forced, k, systems)?;
         }
     }
     Ok(best)
@@ -46,6 +48,7 @@ fn force(
     rows: &[Row],
     forced: &[usize],
     k: usize,
+    systems: &mut u32,
 ) -> Result<Held, AllocError>
     requires problem { IsProblem target.now weights.now rows.now }
     requires k { k < length rows.now }
@@ -56,5 +59,5 @@ fn force(
 {
     let mut longer = Vec::from_slice(alloc, forced)?;
     longer.push(k)?;
-    search_from(alloc, target, weights, rows, &longer, k + 1)
+    search_from(alloc, target, weights, rows, &longer, k + 1, systems)
 }

@@ -1,7 +1,7 @@
 ghost use Rattle.nearest_point.specs.Problem.{AreBounds, AreTargets, HasMembers, HasSingles, row_at};
 ghost use Rattle.std.specs.Prelude.{IfSome, IsTrue, length, slice_index_or, ℕ, ◌<◌, ◌^◌, ◌≡◌};
 
-use super::{Nearest, nearest};
+use super::{Nearest, nearest, search_all};
 use far_num::Row;
 use std::alloc::{AllocError, Global};
 use std::process::Abort;
@@ -183,6 +183,54 @@ fn points(rt: HostRuntime) -> Result<(), Fail> {
         assert_eq!(rt; point.first.items().len(), rows.len());
         assert_eq!(rt; point.second.items().len(), rows.len());
         assert_point(&rt, &point, den, numbers);
+    }
+    Ok(())
+}
+
+// The number of systems that the search solves.
+fn systems_solved(
+    rt: &impl Abort,
+    alloc: Global,
+    target: &[i128],
+    rows: &[Row],
+) -> Result<u32, AllocError> {
+    let weights = vec![in alloc; 1u32; target.len()]?;
+    assert!(rt; target.len() >= 1);
+    assert!(rt; target.len() <= 6);
+    assert!(rt; are_ones(&weights));
+    assert!(rt; are_targets(target));
+    assert!(rt; are_bounds(rows));
+    assert!(rt; have_members(1 << target.len(), rows));
+    let mut systems = 0;
+    search_all(alloc, target, &weights, rows, &mut systems)?;
+    Ok(systems)
+}
+
+// A row for each set of six coordinates, sets of fewer members first. Its bound is that of its number of members.
+fn all_rows(alloc: Global, bounds: [i128; 7]) -> Result<Vec<Row>, AllocError> {
+    let mut rows = Vec::new(alloc);
+    for size in 1u32..7 {
+        for members in 1u16..64 {
+            if members.count_ones() == size {
+                rows.push(row(members, bounds[size as usize]))?;
+            }
+        }
+    }
+    Ok(rows)
+}
+
+// Counted by a plain search over fractions in another language.
+#[test]
+fn systems(rt: HostRuntime) -> Result<(), Fail> {
+    let rows = all_rows(rt.alloc(), [0, 1, 4, 9, 16, 25, 36])?;
+    assert_eq!(&rt; rows.len(), 63);
+    let table: [([i128; 6], u32); 3] = [
+        ([0, 0, 0, 0, 0, 0], 2),
+        ([5, 1, 9, 2, 7, 3], 2),
+        ([10, 20, 30, 40, 50, 60], 512),
+    ];
+    for (target, count) in table {
+        assert_eq!(&rt; systems_solved(&rt, rt.alloc(), &target, &rows)?, count);
     }
     Ok(())
 }

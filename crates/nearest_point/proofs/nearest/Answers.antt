@@ -6,11 +6,8 @@ use Rattle.wide_num.specs.Sums.{nth}
 use Rattle.nearest_point.specs.Problem.{weight_at, coefficients, bounds}
 use Rattle.nearest_point.specs.Numbers.{place, spread}
 use Rattle.nearest_point.proofs.Answer.{Answer, answer_same}
-use Rattle.nearest_point.proofs.Whole.{owed_top, answer_of, few_rows, spread_same, has_least_sum, is_nearest}
+use Rattle.nearest_point.proofs.Whole.{answer_of, few_rows, spread_same, has_least_sum, is_nearest}
 use Rattle.nearest_point.proofs.nearest.Goals as goal
-
-pub search_from-requires-clause-owed : goal.search_from-requires-clause-owed
-search_from-requires-clause-owed c = owed_top c.args.target.now c.args.rows.now c.requires.members c.requires.bounds
 
 pub spread_out-requires-clause-few : goal.spread_out-requires-clause-few
 spread_out-requires-clause-few c =
