@@ -121,9 +121,25 @@ fn assert_point(rt: &impl Abort, point: &Nearest, den: i128, numbers: &[i128]) {
     }
 }
 
+// The point of these rows has these fractions, and a multiplier of each family for each row.
+fn assert_nearest(
+    rt: &impl Abort,
+    alloc: Global,
+    target: &[i128],
+    rows: &[Row],
+    den: i128,
+    numbers: &[i128],
+) -> Result<(), AllocError> {
+    let point = answer(rt, alloc, target, rows)?;
+    assert_eq!(rt; point.first.items().len(), rows.len());
+    assert_eq!(rt; point.second.items().len(), rows.len());
+    assert_point(rt, &point, den, numbers);
+    Ok(())
+}
+
 #[test]
-fn points(rt: HostRuntime) -> Result<(), Fail> {
-    let table: [(&[i128], &[Row], i128, &[i128]); 12] = [
+fn points_of_two_coordinates(rt: HostRuntime) -> Result<(), Fail> {
+    let table: [(&[i128], &[Row], i128, &[i128]); 8] = [
         (&[3], &[row(1, 4)], 1, &[4]),
         (&[9], &[row(1, 4)], 1, &[4]),
         (&[0, 0], &[row(1, 0), row(2, 0), row(3, 6)], 1, &[3, 3]),
@@ -137,6 +153,16 @@ fn points(rt: HostRuntime) -> Result<(), Fail> {
         (&[5, 7], &[row(1, 1), row(2, 1), row(3, 4)], 1, &[1, 3]),
         (&[10, 0], &[row(1, 0), row(2, 0), row(3, 6)], 1, &[6, 0]),
         (&[1, 0], &[row(1, 1), row(2, 0), row(3, 6)], 2, &[7, 5]),
+    ];
+    for (target, rows, den, numbers) in table {
+        assert_nearest(&rt, rt.alloc(), target, rows, den, numbers)?;
+    }
+    Ok(())
+}
+
+#[test]
+fn points_of_three_coordinates(rt: HostRuntime) -> Result<(), Fail> {
+    let table: [(&[i128], &[Row], i128, &[i128]); 3] = [
         (
             &[0, 0, 0],
             &[row(1, 0), row(2, 0), row(4, 0), row(7, 11)],
@@ -163,27 +189,25 @@ fn points(rt: HostRuntime) -> Result<(), Fail> {
             1,
             &[4, 2, 4],
         ),
-        (
-            &[0, 0, 0, 0, 0, 0],
-            &[
-                row(1, 0),
-                row(2, 0),
-                row(4, 0),
-                row(8, 0),
-                row(16, 0),
-                row(32, 0),
-                row(63, MOST),
-            ],
-            6,
-            &[MOST, MOST, MOST, MOST, MOST, MOST],
-        ),
     ];
     for (target, rows, den, numbers) in table {
-        let point = answer(&rt, rt.alloc(), target, rows)?;
-        assert_eq!(rt; point.first.items().len(), rows.len());
-        assert_eq!(rt; point.second.items().len(), rows.len());
-        assert_point(&rt, &point, den, numbers);
+        assert_nearest(&rt, rt.alloc(), target, rows, den, numbers)?;
     }
+    Ok(())
+}
+
+#[test]
+fn point_of_six_coordinates(rt: HostRuntime) -> Result<(), Fail> {
+    let rows = [
+        row(1, 0),
+        row(2, 0),
+        row(4, 0),
+        row(8, 0),
+        row(16, 0),
+        row(32, 0),
+        row(63, MOST),
+    ];
+    assert_nearest(&rt, rt.alloc(), &[0; 6], &rows, 6, &[MOST; 6])?;
     Ok(())
 }
 
