@@ -12,6 +12,7 @@ mod stop;
 
 pub use auction_text::LimitKind;
 pub use book::BidBook;
+pub use fields::is_name;
 pub use laws::{one_book, one_text};
 pub use name::Name;
 pub use read::read_book;

@@ -103,3 +103,17 @@ pub fn cost_among(prices: &[u64], counts: &[u16]) -> u64
     }
     cost
 }
+
+/// The sum of points times count.
+pub fn points_among(points: &[u32], counts: &[u16]) -> u64
+    requires categories { length counts.now ≤ 6 }
+    requires points { length points.now ≡ length counts.now }
+    requires most { All (λ p. p ≤ 10000) points.now }
+    ensures { result ≡ cost_of points.now counts.now }
+{
+    let mut sum = 0u64;
+    for i in 0..counts.len() {
+        sum += points[i] as u64 * counts[i] as u64;
+    }
+    sum
+}

@@ -3,9 +3,9 @@ ghost use Rattle.std.specs.Prelude.{◌≡◌, ◌⊎◌, ℕ, ◌≤◌, ◌<�
 ghost use Rattle.auction_model.specs.Package.{is_within, cost_of};
 ghost use Rattle.lots.specs.Limits.{categories_stop, IsPackage};
 
-use crate::counts::{are_within, check_categories, cost_among, have_none};
+use crate::counts::{are_within, check_categories, cost_among, have_none, points_among};
 use crate::{LotStop, Supply};
-use std::alloc::Global;
+use std::alloc::{AllocError, Global};
 use std::marker::Model;
 
 /// A count of lots for each of 1 to 6 categories.
@@ -43,6 +43,30 @@ impl Package {
         Ok(Package { counts })
     }
 
+    /// The package that keeps these counts.
+    pub(crate) fn of_counts(counts: Vec<u16>) -> Package
+        requires { IsPackage counts.items }
+        ensures { result ≡ counts.items }
+    {
+        Package { counts }
+    }
+
+    /// The same package once more.
+    pub fn copied(&self, alloc: Global) -> Result<Package, AllocError>
+        ensures { IfOk result (λ p. p ≡ self.now) }
+    {
+        let counts = Vec::from_slice(alloc, &self.counts)?;
+        Ok(Package { counts })
+    }
+
+    /// Takes over the counts of another package of as many categories. It takes no memory.
+    pub fn copy_from(&mut self, other: &Package)
+        requires { length self.old ≡ length other.now }
+        ensures { self.new ≡ other.now }
+    {
+        self.counts.copy_from_slice(&other.counts);
+    }
+
     /// How many categories there are.
     pub fn categories(&self) -> usize
         ensures count { result ≡ length self.now }
@@ -71,6 +95,15 @@ impl Package {
         ensures { result ≡ is_within self.now [] }
     {
         have_none(&self.counts)
+    }
+
+    /// The eligibility points of the package: the sum of points times count.
+    pub fn points(&self, points: &[u32]) -> u64
+        requires categories { length points.now ≡ length self.now }
+        requires most { All (λ p. p ≤ 10000) points.now }
+        ensures { result ≡ cost_of points.now self.now }
+    {
+        points_among(points, &self.counts)
     }
 
     /// The price of the package: the sum of price times count.

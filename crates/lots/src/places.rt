@@ -71,3 +71,27 @@ pub fn widths_among(alloc: Global, supply: &[u16], states: usize) -> Result<Vec<
     }
     Ok(widths)
 }
+
+/// The counts of the remaining supply of a place.
+pub fn counts_at(
+    alloc: Global,
+    supply: &[u16],
+    states: usize,
+    place: usize,
+) -> Result<Vec<u16>, AllocError>
+    requires states { states ≡ states_of supply.now }
+    requires most { states ≤ 4096 }
+    requires place { place < states }
+    ensures items { IfOk result (λ v. v.items ≡ left_at supply.now place) }
+    ensures categories { IfOk result (λ v. length v.items ≡ length supply.now) }
+{
+    let mut counts = Vec::with_capacity(alloc, supply.len())?;
+    let mut weight = states;
+    let mut rest = place;
+    for i in 0..supply.len() {
+        weight /= supply[i] as usize + 1;
+        counts.push((rest / weight) as u16)?;
+        rest %= weight;
+    }
+    Ok(counts)
+}

@@ -5,9 +5,9 @@ ghost use Rattle.auction_model.specs.Place.{states_of, place_of, left_at, widths
 ghost use Rattle.lots.specs.Limits.{supply_stop, IsSupply};
 
 use crate::counts::check_supply;
-use crate::places::{place_among, place_less, widths_among};
+use crate::places::{counts_at, place_among, place_less, widths_among};
 use crate::{LotStop, Package};
-use std::alloc::Global;
+use std::alloc::{AllocError, Global};
 use std::marker::Model;
 
 /// What is sold: a count of lots for each of 1 to 6 categories, at most 40 lots and 4,096 states in all. Each state is one
@@ -94,6 +94,17 @@ impl Supply {
         ensures below { result < states_of self.now }
     {
         place_among(&self.counts, package.counts())
+    }
+
+    /// The package of a place: its remaining supply.
+    pub fn package_at(&self, alloc: Global, place: usize) -> Result<Package, AllocError>
+        requires { place < states_of self.now }
+        ensures package { IfOk result (λ p. p ≡ left_at self.now place) }
+        ensures fits { IfOk result (λ p. IsTrue (is_within p self.now)) }
+        ensures place { IfOk result (λ p. place_of self.now p ≡ place) }
+    {
+        let counts = counts_at(alloc, &self.counts, self.states, place)?;
+        Ok(Package::of_counts(counts))
     }
 
     /// The place of what the package leaves of the supply of a place, or None where the package exceeds that.

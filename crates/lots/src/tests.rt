@@ -38,6 +38,10 @@ fn places_count_in_mixed_radix(rt: HostRuntime) -> Result<(), LotStop> {
     assert_eq!(rt; supply.place(&package), 6);
     assert_eq!(rt; supply.minus(11, &package), Some(5));
     assert_eq!(rt; supply.minus(3, &package), None);
+    let left = supply.package_at(rt.alloc(), 6)?;
+    assert!(rt; left.counts() == [1, 2].as_slice());
+    let whole = supply.package_at(rt.alloc(), 11)?;
+    assert!(rt; whole.counts() == supply.counts());
     Ok(())
 }
 
@@ -54,8 +58,13 @@ fn packages_tell_what_they_hold(rt: HostRuntime) -> Result<(), LotStop> {
     assert_eq!(rt; package.categories(), 2);
     assert_eq!(rt; package.units(0), 1);
     assert_eq!(rt; package.cost(&[100, 7]), 114);
+    assert_eq!(rt; package.points(&[10, 1]), 12);
     assert!(rt; package.counts() == [1, 2].as_slice());
     let supply = Supply::new(rt.alloc(), &[1, 1])?;
     assert!(rt; !package.fits(&supply));
+    let mut copy = none.copied(rt.alloc())?;
+    assert!(rt; copy.counts() == [0, 0].as_slice());
+    copy.copy_from(&package);
+    assert!(rt; copy.counts() == [1, 2].as_slice());
     Ok(())
 }
