@@ -1,0 +1,3 @@
+pub mod Winners
+pub mod Surplus
+pub mod Rows
