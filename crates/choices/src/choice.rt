@@ -1,8 +1,9 @@
 // Choices.
-ghost use Rattle.std.specs.Prelude.{◌≡◌, ◌≤◌, ◌<◌, length};
+ghost use Rattle.std.specs.Prelude.{◌≡◌, ◌≤◌, ◌<◌, length, IfOk};
 ghost use Rattle.auction_model.specs.Market.{number_of};
 
 use crate::Numbers;
+use std::alloc::{AllocError, Global};
 use std::marker::Model;
 
 /// A choice names for each bidder, in order, the number of one of its bids, or 0 for none. Bidders and bids are numbered
@@ -35,6 +36,14 @@ impl Choice {
     {
         let numbers = self.numbers();
         numbers[j as usize - 1]
+    }
+
+    /// The same choice once more.
+    pub fn copied(&self, alloc: Global) -> Result<Choice, AllocError>
+        ensures { IfOk result (λ choice. choice ≡ self.now) }
+    {
+        let numbers = self.numbers.copied(alloc)?;
+        Ok(Choice { numbers })
     }
 
     /// How many numbers there are.

@@ -9,7 +9,7 @@ use std::marker::Model;
 use std::rc::RcSlice;
 use wide_num::NumList;
 
-/// Lines of equally many numbers. Lines and places in a line are counted from 0.
+/// Lines of equally many numbers. Grids may share lines. Lines and places in a line are counted from 0.
 #[derive(Drop)]
 pub struct Grid {
     lines: Vec<RcSlice<i128>>,
@@ -59,6 +59,19 @@ impl Grid {
     {
         let line = RcSlice::from_vec(line.into_vec())?;
         self.lines.push(line)?;
+        Ok(())
+    }
+
+    /// Adds a line of another grid at the end, which both then share: its numbers are not copied. It is as long as the others.
+    /// For want of memory the grid stays as it is.
+    pub fn push_shared(&mut self, from: &Grid, line: usize) -> Result<(), AllocError>
+        requires line { line < length from.now }
+        requires width { 0 < length self.old → width_of from.now ≡ width_of self.old }
+        ensures pushed { OnOk result (self.new ≡ self.old ++ slice_index_or from.now line [] ∷ []) }
+        ensures unchanged { OnErr result (self.new ≡ self.old) }
+    {
+        let shared = from.lines[line].clone()?;
+        self.lines.push(shared)?;
         Ok(())
     }
 

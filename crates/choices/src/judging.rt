@@ -90,7 +90,7 @@ fn value_among(book: &BidBook, numbers: &[u16]) -> i128
 }
 
 /// The net amount of bid `i` of bidder `j`, and 0 for number 0.
-fn worth(book: &BidBook, j: u16, i: u16) -> i128
+pub fn worth(book: &BidBook, j: u16, i: u16) -> i128
     requires bidder { (0 < j) × (j ≤ length book.now.bidders) }
     requires bid { i ≤ length (bids_of book.now j) }
     ensures worth { result ≡ net_of book.now j i }

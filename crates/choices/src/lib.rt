@@ -1,14 +1,18 @@
-//! Choices of bids, and grids of numbers.
+//! Choices of bids, grids of numbers, and choosers: auctions that can be priced.
 #![tactic(auto)]
 
 mod choice;
+mod chooser;
 mod grid;
 mod judging;
+mod listing;
 mod numbers;
 #[cfg(test)]
 mod tests;
 
 pub use choice::Choice;
+pub use chooser::{Chooser, Found, Single};
 pub use grid::Grid;
 pub use judging::{fits, known, place_after, value};
+pub use listing::first_by_listing;
 pub use numbers::Numbers;

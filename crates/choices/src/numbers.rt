@@ -1,5 +1,5 @@
 // Lists of numbers of bids.
-ghost use Rattle.std.specs.Prelude.{◌≡◌, [], ◌∷◌, ◌++◌, OnOk, OnErr};
+ghost use Rattle.std.specs.Prelude.{◌≡◌, [], ◌∷◌, ◌++◌, OnOk, OnErr, IfOk};
 
 use std::alloc::{AllocError, Global};
 use std::marker::Model;
@@ -28,12 +28,29 @@ impl Numbers {
         }
     }
 
+    /// The same list once more.
+    pub fn copied(&self, alloc: Global) -> Result<Numbers, AllocError>
+        ensures { IfOk result (λ list. list ≡ self.now) }
+    {
+        let numbers = Vec::from_slice(alloc, &self.numbers)?;
+        Ok(Numbers { numbers })
+    }
+
     /// Appends one number. For want of memory the list stays as it is.
     pub fn push(&mut self, item: u16) -> Result<(), AllocError>
         ensures pushed { OnOk result (self.new ≡ self.old ++ item ∷ []) }
         ensures unchanged { OnErr result (self.new ≡ self.old) }
     {
         self.numbers.push(item)?;
+        Ok(())
+    }
+
+    /// Puts one number in front. For want of memory the list stays as it is.
+    pub fn push_front(&mut self, item: u16) -> Result<(), AllocError>
+        ensures pushed { OnOk result (self.new ≡ item ∷ self.old) }
+        ensures unchanged { OnErr result (self.new ≡ self.old) }
+    {
+        self.numbers.insert(0, item)?;
         Ok(())
     }
 
