@@ -1,10 +1,14 @@
 //! Exact tables of a book, and the winning choice.
 #![tactic(auto)]
 
+mod book_chooser;
 mod lines;
 mod lowering;
 mod runs;
 mod table;
+#[cfg(test)]
+mod tests;
 mod tracing;
 
+pub use book_chooser::BookChooser;
 pub use table::{ValueTable, plain_table, win};

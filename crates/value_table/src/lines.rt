@@ -2,6 +2,7 @@
 // count with what the place leaves.
 ghost use Rattle.std.specs.Prelude.{◌≡◌, ℕ, suc, ◌-◌, ◌^◌, ◌≤◌, ◌<◌, length, IfOk, slice_index_or, pos, ◌+ℤ◌, unsigned_abs, map};
 ghost use Rattle.auction_model.specs.Table.{IsEntry};
+ghost use Rattle.value_table.specs.BookTable.{IsBookTable};
 ghost use Rattle.value_table.specs.Counted.{counted_bids, counted, IsCountedLine, AreCountedLines, IsCountedTable};
 
 use crate::lowering::Lowering;
@@ -118,6 +119,25 @@ pub fn all_lines(alloc: Global, lowering: &Lowering) -> Result<Grid, AllocError>
     let top = lowering.book.bidders();
     let lines = lines_down(alloc, lowering, top, last)?;
     let grid = grid_of(alloc, lowering, top + 1, lines)?;
+    Ok(grid)
+}
+
+/// The exact table without bidder `skip`, from that of all bids for the same worths. A bidder that isn't there counts nothing,
+/// so the lines from `skip` on are those of all bids, and are shared.
+pub fn lines_without(alloc: Global, lowering: &Lowering, whole: &Grid) -> Result<Grid, AllocError>
+    requires bidder { (0 < lowering.now.skip) × (lowering.now.skip ≤ length lowering.now.book.now.bidders) }
+    requires idle { counted lowering.now lowering.now.skip 0 ≡ pos 0 }
+    requires whole { IsBookTable lowering.now.book.now 0 lowering.now.den lowering.now.surplus.now whole.now }
+    ensures { IfOk result (λ g. IsCountedTable lowering.now g) }
+{
+    let _bidders = lowering.book.bidders();
+    let skip = lowering.skip as usize;
+    let first = Vec::from_slice(alloc, whole.line(skip))?;
+    let lines = lines_down(alloc, lowering, skip - 1, first)?;
+    let mut grid = grid_of(alloc, lowering, skip, lines)?;
+    for k in skip..whole.lines() {
+        grid.push_shared(whole, k)?;
+    }
     Ok(grid)
 }
 

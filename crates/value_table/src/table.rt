@@ -7,9 +7,9 @@ ghost use Rattle.auction_model.specs.Book.{net_of, market_of};
 ghost use Rattle.auction_model.specs.Lowered.{lowered};
 ghost use Rattle.auction_model.specs.Table.{entry_at, IsEntry};
 ghost use Rattle.value_table.specs.BookTable.{menu_without, IsInRange};
-ghost use Rattle.value_table.specs.TableValue.{IsTableOf, IsPlain};
+ghost use Rattle.value_table.specs.TableValue.{IsTableOf, IsPlain, IsPlainWithout};
 
-use crate::lines::{all_lines, last_entry};
+use crate::lines::{all_lines, last_entry, lines_without};
 use crate::lowering::Lowering;
 use crate::tracing::trace_lines;
 use bid_book::BidBook;
@@ -62,6 +62,32 @@ impl ValueTable {
         Ok(ValueTable {
             skip,
             den,
+            surplus,
+            grid,
+        })
+    }
+
+    /// The exact table of the net amounts without bidder `j`, from that of all bids, as `build` gives it. The lines from `j` on
+    /// are shared with this table, and only those below are worked out.
+    pub fn without(&self, alloc: Global, book: &BidBook, j: u16) -> Result<ValueTable, AllocError>
+        requires bidder { (0 < j) × (j ≤ length book.now.bidders) }
+        requires whole { IsTableOf book.now self.now }
+        requires plain { IsPlain self.now }
+        ensures plain { IfOk result (λ t. IsPlainWithout j t) }
+        ensures exact { IfOk result (λ t. IsTableOf book.now t) }
+    {
+        let _bidders = book.bidders();
+        let surplus = Vec::from_slice(alloc, &self.surplus)?;
+        let lowering = Lowering {
+            book,
+            skip: j,
+            den: 1,
+            surplus: &surplus,
+        };
+        let grid = lines_without(alloc, &lowering, &self.grid)?;
+        Ok(ValueTable {
+            skip: j,
+            den: 1,
             surplus,
             grid,
         })
