@@ -1,0 +1,76 @@
+use Rattle.std.proofs.Common.{◌∙◌, ap, rules, pos, ◌-ℤ◌}
+use Rattle.std.proofs.lemmas.Int.{to_z-of_z, fits_signed_from_abs}
+use Rattle.auction_model.specs.Book.{net_of, market_of}
+use Rattle.auction_model.specs.Lowered.{lowered}
+use Rattle.auction_model.specs.Market.{sum_after}
+use Rattle.auction_model.specs.Menu.{fits_after}
+use Rattle.auction_model.specs.Greatest.{IsFirstGreatest}
+use Rattle.auction_model.specs.Prices.{IsVickreyPrice}
+use Rattle.auction_model.specs.Table.{IsEntry}
+use Rattle.value_table.specs.BookTable.{menu_without}
+use Rattle.vickrey.proofs.VickreyLaws.{greatest-without, greatest-all, first-without, some-used, price-is, winner-known, own-small, left-size, price-size, table-without}
+use mir.Val.{SFits}
+use mir.Syntax.{w128}
+use Rattle.vickrey.proofs.pricing.without_winner.Goals as goal
+
+pub net-own-requires-clause-bid : goal.net-own-requires-clause-bid
+net-own-requires-clause-bid c =
+    let z = c.args.winners.now in
+    let known = winner-known c.args.book.now z c.args.j c.requires.winners c.requires.bidder.0 c.requires.bidder.1 in
+    rw c.number.ensures (some-used z c.args.j c.requires.used, known)
+
+pub overflow_sub-single : goal.overflow_sub-single
+overflow_sub-single c =
+    let all = c.most-all.result in
+    let own = c.net-own.result in
+    let own_small = own-small c.args.book.now c.args.winners.now c.args.j own c.bidders-bidders.ensures.kept c.requires.winners c.requires.bidder.0 c.requires.bidder.1 (c.net-own.ensures ∙ ap (net_of c.args.book.now c.args.j) c.number.ensures) in
+    let all_fits : SFits w128 all = search rules in
+    let own_fits : SFits w128 own = search rules in
+    let left_fits : SFits w128 (all -ℤ own) = fits_signed_from_abs w128 (all -ℤ own) (left-size all own c.most-all.ensures.size own_small) in
+    simp to_z-of_z left_fits
+
+pub overflow_sub-single-2 : goal.overflow_sub-single-2
+overflow_sub-single-2 c =
+    let others = c.most-others.result in
+    let all = c.most-all.result in
+    let own = c.net-own.result in
+    let own_small = own-small c.args.book.now c.args.winners.now c.args.j own c.bidders-bidders.ensures.kept c.requires.winners c.requires.bidder.0 c.requires.bidder.1 (c.net-own.ensures ∙ ap (net_of c.args.book.now c.args.j) c.number.ensures) in
+    let others_fits : SFits w128 others = search rules in
+    let all_fits : SFits w128 all = search rules in
+    let own_fits : SFits w128 own = search rules in
+    let left_fits : SFits w128 (all -ℤ own) = fits_signed_from_abs w128 (all -ℤ own) (left-size all own c.most-all.ensures.size own_small) in
+    let price_fits : SFits w128 (others -ℤ (all -ℤ own)) = fits_signed_from_abs w128 (others -ℤ (all -ℤ own)) (price-size others all own c.most-others.ensures.size c.most-all.ensures.size own_small) in
+    simp to_z-of_z price_fits
+
+pub returns-clause-single : goal.returns-clause-single
+returns-clause-single c =
+    let book = c.args.book.now in
+    let z = c.args.winners.now in
+    let j = c.args.j in
+    let whole = c.args.whole.now in
+    let table = c.in_ok-table.table in
+    let plain = c.in_ok-table.ensures.plain in
+    let others = c.most-others.result in
+    let all = c.most-all.result in
+    let own = c.net-own.result in
+    let is = c.net-own.ensures ∙ ap (net_of book j) c.number.ensures in
+    let own_small = own-small book z j own c.bidders-bidders.ensures.kept c.requires.winners c.requires.bidder.0 c.requires.bidder.1 is in
+    let others_fits : SFits w128 others = search rules in
+    let all_fits : SFits w128 all = search rules in
+    let own_fits : SFits w128 own = search rules in
+    let left_fits : SFits w128 (all -ℤ own) = fits_signed_from_abs w128 (all -ℤ own) (left-size all own c.most-all.ensures.size own_small) in
+    let price_fits : SFits w128 (others -ℤ (all -ℤ own)) = fits_signed_from_abs w128 (others -ℤ (all -ℤ own)) (price-size others all own c.most-others.ensures.size c.most-all.ensures.size own_small) in
+    let e : IsEntry (menu_without book j) (lowered (pos 1) (net_of book) table.surplus) 0 book.supply others = rw (plain.skip, plain.den) at c.most-others.ensures.most in
+    let w : IsEntry (menu_without book 0) (lowered (pos 1) (net_of book) whole.surplus) 0 book.supply all = rw (c.requires.plain.skip, c.requires.plain.den) at c.most-all.ensures.most in
+    let g : IsFirstGreatest (fits_after (menu_without book j) 0 book.supply) (sum_after (lowered (pos 1) (net_of book) table.surplus) 0) c.in_ok-choice.choice = rw (plain.skip, plain.den) at c.in_ok-choice.ensures in
+    let price : IsVickreyPrice (market_of book) z j (others -ℤ (all -ℤ own)) =
+    price-is book z j others all own c.requires.winners c.requires.used is
+    (greatest-all book whole.surplus c.requires.plain.zeros all w) (greatest-without book table.surplus plain.zeros j others c.requires.bidder.0 e) in
+    record {
+      used = c.requires.used;
+      price = simp to_z-of_z price;
+      choice = first-without book table.surplus plain.zeros j c.in_ok-choice.choice c.requires.bidder.0 g;
+    }
+
+pub returns-clause-table : goal.returns-clause-table
+returns-clause-table c = table-without c.args.book.now c.args.j c.in_ok-table.table c.in_ok-table.ensures.exact c.in_ok-table.ensures.plain

@@ -1,0 +1,10 @@
+//! Vickrey prices: the winners of a book, each alone.
+#![tactic(auto)]
+
+mod pricing;
+#[cfg(test)]
+mod tests;
+mod winners;
+
+pub use pricing::vickrey;
+pub use winners::Vickrey;
