@@ -1,0 +1,4 @@
+mod Parts
+mod Sizes
+mod Taking
+mod OneOfTwo
