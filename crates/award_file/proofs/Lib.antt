@@ -1,0 +1,11 @@
+pub mod CapLaws
+pub mod Names
+pub mod StepLaws
+mod FieldLaws
+mod StepOrder
+mod ListLaws
+mod FaultLaws
+mod AwardLaws
+mod LimitLaws
+mod PartLaws
+mod ReadingLaws

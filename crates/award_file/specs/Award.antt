@@ -1,0 +1,108 @@
+-- What each award keeps, and who a name is in it.
+use Rattle.std.specs.Prelude.{◌≡◌, ℕ, ◌+◌, ◌-◌, ◌^◌, ◌≤◌, ◌<◌, Bool, not, List, [], ◌∷◌, length, map, Option, Some, None, position, slice_index_or}
+use Rattle.std.specs.List.{All, IsDistinct, list_any}
+use Rattle.std.specs.Str.{bytes_eq}
+use Rattle.auction_rules.specs.Terms.{SpectrumRule, Entrant, Terms}
+use Rattle.auction_text.specs.BookForm.{IsName}
+use Rattle.lots.specs.Limits.{IsSupply}
+
+-- how prices rise: the tick, and the thresholds, each an excess with its permille
+pub record Steps : Type 0 where
+  pub tick : ℕ
+  pub thresholds : List (ℕ × ℕ)
+
+abbrev pub steps_with : ℕ → List (ℕ × ℕ) → Steps
+steps_with tick thresholds = record { tick = tick; thresholds = thresholds }
+
+abbrev pub steps_of : Terms → Steps
+steps_of terms = steps_with terms.tick terms.thresholds
+
+-- each threshold has an excess above the one before and at most 1,000, and a permille of 1 to 1,000
+abbrev pub RiseAbove : ℕ → List (ℕ × ℕ) → Type 0
+RiseAbove low [] = Unit {0}
+RiseAbove low (t ∷ ts) = (low < t.0) × (t.0 ≤ 1000) × (1 ≤ t.1) × (t.1 ≤ 1000) × RiseAbove t.0 ts
+
+-- there is a threshold, and the first has the excess 1
+abbrev pub AreThresholds : List (ℕ × ℕ) → Type 0
+AreThresholds [] = ⊥
+AreThresholds (t ∷ ts) = (t.0 ≡ 1) × RiseAbove 0 (t ∷ ts)
+
+-- what a step table keeps
+pub record IsSteps (steps : Steps) : Type 0 where
+  pub some_tick : 1 ≤ steps.tick
+  pub tick_top : steps.tick ≤ 2 ^ 36
+  pub few : length steps.thresholds ≤ 20
+  pub thresholds : AreThresholds steps.thresholds
+
+-- a bidder of an award with so many categories
+pub record IsEntrant (categories : ℕ) (e : Entrant) : Type 0 where
+  pub name : IsName e.name
+  pub eligibility : e.eligibility ≤ 1000000
+  pub holding : length e.holding ≡ categories
+  pub most_held : All (λ n. n ≤ 999) e.holding
+
+-- a spectrum cap of an award with so many categories
+pub record IsRule (categories : ℕ) (r : SpectrumRule) : Type 0 where
+  pub weights : length r.weights ≡ categories
+  pub most_weight : All (λ w. w ≤ 1000) r.weights
+  pub limit : r.limit ≤ 1000000
+
+abbrev pub name_of : Entrant → List ℕ
+name_of e = e.name
+
+abbrev pub names_of : List Entrant → List (List ℕ)
+names_of bidders = map name_of bidders
+
+-- no name stands twice
+abbrev pub AreNamedApart : List Entrant → Type 0
+AreNamedApart bidders = IsDistinct bytes_eq (names_of bidders)
+
+-- what an award keeps
+pub record IsAward (terms : Terms) : Type 0 where
+  pub supply : IsSupply terms.supply
+  pub points : length terms.points ≡ length terms.supply
+  pub most_points : All (λ p. p ≤ 10000) terms.points
+  pub reserves : length terms.reserves ≡ length terms.supply
+  pub most_reserve : All (λ p. p ≤ 2 ^ 36) terms.reserves
+  pub steps : IsSteps (steps_of terms)
+  pub few_bidders : length terms.bidders ≤ 12
+  pub bidders : All (IsEntrant (length terms.supply)) terms.bidders
+  pub apart : AreNamedApart terms.bidders
+  pub few_rules : length terms.rules ≤ 20
+  pub rules : All (IsRule (length terms.supply)) terms.rules
+
+abbrev pub entrant_with : List ℕ → ℕ → List ℕ → Entrant
+entrant_with name eligibility holding = record { name = name; eligibility = eligibility; holding = holding }
+
+-- the award of these parts
+abbrev pub terms_with : List ℕ → List ℕ → List ℕ → Steps → List Entrant → List SpectrumRule → Terms
+terms_with supply points reserves steps bidders rules = record {
+  supply = supply;
+  points = points;
+  reserves = reserves;
+  tick = steps.tick;
+  thresholds = steps.thresholds;
+  rules = rules;
+  bidders = bidders;
+}
+
+-- bidder j of these; bidders are numbered from 1
+abbrev pub bidder_at : List Entrant → ℕ → Entrant
+bidder_at bidders j = slice_index_or bidders (j - 1) (entrant_with [] 0 [])
+
+-- the number at an index, counted from 1, and 0 for none
+abbrev pub from_one : Option ℕ → ℕ
+from_one (Some i) = i + 1
+from_one None = 0
+
+-- the number of the first of the names that is this one, and 0 where there is none
+abbrev pub number_among : List ℕ → List (List ℕ) → ℕ
+number_among name names = from_one (position (bytes_eq name) names)
+
+-- the number of the bidder of this name, and 0 for a stranger
+abbrev pub number_of : Terms → List ℕ → ℕ
+number_of terms name = number_among name (names_of terms.bidders)
+
+-- none of the names is this one
+abbrev pub is_stranger : List ℕ → List (List ℕ) → Bool
+is_stranger name names = not (list_any (bytes_eq name) names)

@@ -1,0 +1,8 @@
+-- The terms that the fields of an award hold.
+use Rattle.auction_rules.specs.Terms.{Terms}
+use Rattle.award_file.specs.declared.award.Award.TheInside.{Inside}
+use Rattle.award_file.specs.Award.{terms_with}
+use Rattle.award_file.specs.Fields.{rule_values}
+
+abbrev pub terms_value : Inside → Terms
+terms_value a = terms_with a.supply a.points.items a.reserves.items a.steps a.bidders (rule_values a.caps.items)

@@ -1,0 +1,18 @@
+//! The settings of an award: what is sold, at what reserves and points, how prices rise, who bids, and the spectrum caps; and
+//! the reader of their files.
+#![tactic(auto)]
+
+mod award;
+mod caps;
+mod entrants;
+mod read;
+mod steps;
+
+pub use auction_text::LimitKind;
+pub use award::Award;
+pub use caps::CapFault;
+pub use read::{AwardStop, read_award};
+pub use steps::StepTable;
+
+#[cfg(test)]
+mod tests;
