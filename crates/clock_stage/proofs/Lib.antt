@@ -1,0 +1,4 @@
+pub mod Demands
+pub mod KeptLaws
+pub mod ClockLaws
+pub mod HistoryLaws

@@ -1,0 +1,5 @@
+pub mod ClockState
+pub mod Kept
+pub mod Rounds
+pub mod Closings
+pub mod Closing

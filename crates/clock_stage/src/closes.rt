@@ -1,0 +1,91 @@
+// What the close of a round leads to.
+ghost use Rattle.std.specs.Prelude.{◌≡◌, All, IfOk, length, true};
+ghost use Rattle.clock_stage.specs.Closing.{IsClosing};
+ghost use Rattle.clock_stage.specs.ClockState.{clock_with, next_round};
+ghost use Rattle.clock_stage.specs.Kept.{IsClock, IsFor, IsHeld};
+ghost use Rattle.clock_stage.specs.Rounds.{round_value};
+
+use crate::demand::{demand_of, first_above_top, is_met};
+use crate::rounds::{ClockRound, History, empty_packages, points_of};
+use crate::steps::raised_prices;
+use award_file::Award;
+use lots::Package;
+use std::alloc::{AllocError, Global};
+
+/// What the close of a round answers. Categories are numbered from 1.
+#[derive(Clone, Copy, Debug, PartialEq, Eq)]
+pub enum Closed {
+    /// There was excess demand, and the round of this number is posted.
+    NextRound(u32),
+    /// There was none, so the clock stage ends.
+    StageEnds,
+    /// There was excess demand in the last round that there may be, which is the 300th.
+    Full(u64),
+    /// There was excess demand, and the price of this category would rise to this, above 2^36; the first such category.
+    PriceTop { category: u16, price: u64 },
+    /// There was no memory.
+    Memory,
+}
+
+/// What a close leads to, with all the memory that it takes but that of the history.
+#[derive(Drop)]
+pub enum Closing {
+    /// This round is posted next.
+    Next(ClockRound),
+    /// The clock ends, and this is the final round once more.
+    Ends(ClockRound),
+    /// The close is refused.
+    Refused(Closed),
+}
+
+/// The most rounds of a clock.
+const MOST_ROUNDS: u32 = 300;
+
+/// The round that follows one in which these packages are held, at these prices.
+fn round_after(
+    alloc: Global,
+    award: &Award,
+    prices: Vec<u64>,
+    posted: &ClockRound,
+) -> Result<ClockRound, AllocError>
+    requires { All (IsHeld (length award.now.supply)) posted.now.held.items }
+    ensures { IfOk result (λ r. round_value r ≡ next_round award.now prices.items (round_value posted.now)) }
+{
+    Ok(ClockRound {
+        prices,
+        eligibility: points_of(alloc, award.points(), &posted.held)?,
+        held: empty_packages(alloc, award.supply(), posted.held.len())?,
+    })
+}
+
+/// What the close of the posted round leads to.
+pub fn closing_of(
+    alloc: Global,
+    award: &Award,
+    history: &History,
+    posted: &ClockRound,
+) -> Result<Closing, AllocError>
+    requires clock { IsClock (clock_with true history.now (round_value posted.now)) }
+    requires award { IsFor award.now (clock_with true history.now (round_value posted.now)) }
+    ensures { IfOk result (IsClosing award.now (clock_with true history.now (round_value posted.now))) }
+{
+    let supply = award.supply();
+    let demand = demand_of(alloc, supply, &posted.held)?;
+    if is_met(&demand, supply.counts()) {
+        return Ok(Closing::Ends(posted.copied(alloc)?));
+    }
+    if history.rounds() + 1 >= MOST_ROUNDS {
+        return Ok(Closing::Refused(Closed::Full(MOST_ROUNDS as u64)));
+    }
+    let prices = raised_prices(
+        alloc,
+        award.steps(),
+        &posted.prices,
+        &demand,
+        supply.counts(),
+    )?;
+    if let Some((category, price)) = first_above_top(&prices) {
+        return Ok(Closing::Refused(Closed::PriceTop { category, price }));
+    }
+    Ok(Closing::Next(round_after(alloc, award, prices, posted)?))
+}

@@ -1,0 +1,17 @@
+//! The clock stage of an auction: the price step, the clock that takes bids and closes rounds, and the history of its rounds.
+#![tactic(auto)]
+
+mod bids;
+mod clock;
+mod closes;
+mod demand;
+mod rounds;
+mod steps;
+#[cfg(test)]
+mod tests;
+
+pub use auction_rules::{Event, Reply, Stage};
+pub use clock::Clock;
+pub use closes::Closed;
+pub use rounds::History;
+pub use steps::step;
