@@ -1,0 +1,8 @@
+mod AlikeBlocks
+mod AlikePoints
+mod FractionLaws
+mod PriceTextLaws
+mod RunTextLaws
+mod SameTurns
+mod Sums
+mod WorkedCases
