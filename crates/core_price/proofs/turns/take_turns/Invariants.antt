@@ -1,0 +1,16 @@
+-- The rows so far, from which turns go on, and how many turns there may still be.
+use Rattle.std.proofs.Common.{◌≡◌, ◌++◌, ◌-◌, ◌^◌, length}
+use Rattle.core_price.specs.Rows.{block_choices, block_rows}
+use Rattle.core_price.specs.SoFar.{IsSoFar}
+use Rattle.row_laws.specs.Winners.{winners_in}
+use Rattle.core_price.proofs.turns.take_turns.Given as goal
+
+abbrev pub invariant-turns : goal.invariant-turns
+invariant-turns g l = record {
+  far : IsSoFar (g.C.Chooser.market l.chooser) (g.C.Chooser.chosen l.chooser) l.rows.items l.choices.items l.turns;
+  rows : l.rows.items ≡ l.fn.asked.rows.items ++ block_rows l.turns;
+  choices : l.choices.items ≡ l.fn.asked.choices.items ++ block_choices l.turns;
+}
+
+abbrev pub decreases-turns : goal.decreases-turns
+decreases-turns g l = 2 ^ winners_in (g.C.Chooser.chosen l.chooser) - length l.turns

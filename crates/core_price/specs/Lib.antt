@@ -1,0 +1,7 @@
+pub mod Answers
+pub mod Kept
+pub mod Lowest
+pub mod Rows
+pub mod SoFar
+pub mod Stops
+pub mod Turns

@@ -1,0 +1,36 @@
+-- The turns as turns of a market: points for all bidders, and rows as sets of bidders.
+use Rattle.std.specs.Prelude.{◌≡◌, ℕ, ◌^◌, ◌<◌, List, [], ◌∷◌, ◌++◌, length, map, IfSome, ℤ, pos, ◌≤ℤ◌, ◌<ℤ◌}
+use Rattle.std.specs.Option.{option_map}
+use Rattle.std.specs.declared.option.Option.TheVariants.{None}
+use Rattle.auction_model.specs.Prices.{Point}
+use Rattle.auction_model.specs.PricingRun.{Turn as BidderTurn}
+use Rattle.blocking.specs.Look.{block_of}
+use Rattle.row_laws.specs.Winners.{for_bidders, winners_in}
+use Rattle.wide_num.specs.Sums.{nth}
+use Rattle.core_price.specs.declared.priced.Turn.{Turn}
+
+-- the payments of the winners, in order, as payments of all bidders
+abbrev pub point_of : List ℕ → ℤ → List ℤ → Point
+point_of z den at = record { den = den; at = for_bidders z at }
+
+abbrev pub turn_of : List ℕ → Turn → BidderTurn
+turn_of z t = record { point = point_of z t.den t.at; block = option_map (block_of z) t.block }
+
+abbrev pub turns_of : List ℕ → List Turn → List BidderTurn
+turns_of z turns = map (turn_of z) turns
+
+-- the turn at which no coalition blocks the point
+abbrev pub last_turn : ℤ → List ℤ → Turn
+last_turn den at = record { den = den; at = at; block = None }
+
+-- the last of the turns is this one
+abbrev pub EndsWith : List Turn → Turn → Type 0
+EndsWith turns last = (past : List Turn) × (turns ≡ past ++ last ∷ [])
+
+-- a payment for each winner, none below 0, over a denominator below 2^32; the excess of a block isn't below 0
+pub record IsPointOfTurn (z : List ℕ) (t : Turn) : Type 0 where
+  pub den_positive : pos 1 ≤ℤ t.den
+  pub den_small : t.den <ℤ pos (2 ^ 32)
+  pub winners : length t.at ≡ winners_in z
+  pub not_negative : (i : ℕ) → i < winners_in z → pos 0 ≤ℤ nth t.at i
+  pub excess : IfSome t.block (λ b. pos 0 ≤ℤ b.excess)

@@ -1,0 +1,129 @@
+// The turns of pricing.
+ghost use Rattle.auction_model.specs.Market.{value_of};
+ghost use Rattle.auction_model.specs.Prices.{AreVickreyPrices, IsUnblocked};
+ghost use Rattle.auction_model.specs.Lowered.{of_bidder};
+ghost use Rattle.blocking.specs.Look.{IsFound};
+ghost use Rattle.core_price.specs.Answers.{CanSolve, IsAnswer};
+ghost use Rattle.core_price.specs.Lowest.{IsLowest};
+ghost use Rattle.core_price.specs.Rows.{block_choices, block_rows};
+ghost use Rattle.core_price.specs.SoFar.{CanTurn, HasEnded, IsSoFar};
+ghost use Rattle.row_laws.specs.Surplus.{surpluses_of};
+ghost use Rattle.row_laws.specs.Winners;
+ghost use Rattle.row_laws.specs.Winners.{winners_in};
+ghost use Rattle.std.specs.Prelude.{IfOk, [], length, ◌≡◌, ◌++◌};
+
+use crate::reduce::reduced;
+use crate::start::Asked;
+use crate::{Turn, TurnList};
+use blocking::{Looked, find_block};
+use choices::{Choice, Chooser, Found};
+use far_num::Row;
+use nearest_point::{Nearest, nearest};
+use std::alloc::{AllocError, Global};
+use wide_num::NumList;
+
+/// Where the turns end: the last point, what the last search found, all rows and all turns.
+#[derive(Drop)]
+pub(crate) struct Ended<T> {
+    pub(crate) near: Nearest,
+    pub(crate) last: Found<T>,
+    pub(crate) asked: Asked,
+    pub(crate) turns: TurnList,
+}
+
+/// Takes turns until no coalition blocks the point.
+pub(crate) fn take_turns<C: Chooser>(
+    alloc: Global,
+    chooser: &C,
+    prices: &[i128],
+    asked: Asked,
+) -> Result<Ended<C::Table>, AllocError>
+    requires can { CanTurn (C.market chooser.now) (C.chosen chooser.now) prices.now }
+    requires start { IsSoFar (C.market chooser.now) (C.chosen chooser.now) asked.rows.items asked.choices.items [] }
+    ensures ended { IfOk result (λ e. HasEnded (C.market chooser.now) (C.chosen chooser.now) prices.now e.asked.rows.items e.asked.choices.items e.turns e.near.den e.near.at e.near.first e.near.second) }
+    ensures rows { IfOk result (λ e. e.asked.rows.items ≡ asked.rows.items ++ block_rows e.turns) }
+    ensures choices { IfOk result (λ e. e.asked.choices.items ≡ asked.choices.items ++ block_choices e.turns) }
+    ensures found { IfOk result (λ e. IsFound (C.market chooser.now) (C.chosen chooser.now) e.near.den (Winners.for_bidders (C.chosen chooser.now) e.near.at) e.last.choice e.last.sum) }
+    ensures table { IfOk result (λ e. C.is_table chooser.now e.near.den (surpluses_of (C.market chooser.now) (C.chosen chooser.now) e.near.den (Winners.for_bidders (C.chosen chooser.now) e.near.at)) e.last.table) }
+{
+    let Asked {
+        mut rows,
+        mut choices,
+    } = asked;
+    let mut turns = TurnList::new(alloc);
+    'turns: loop {
+        let near = turn_point(alloc, prices, &rows)?;
+        let at = for_bidders(alloc, chooser.winners(), near.at.items())?;
+        match find_block(alloc, chooser, near.den, &at)? {
+            Looked::Free(last) => {
+                let at = copied(alloc, near.at.items())?;
+                turns.push(Turn {
+                    den: near.den,
+                    at,
+                    block: None,
+                })?;
+                let asked = Asked { rows, choices };
+                return Ok(Ended {
+                    near,
+                    last,
+                    asked,
+                    turns,
+                });
+            }
+            Looked::Block(block) => {
+                rows.push(block.row)?;
+                choices.push(block.choice.copied(alloc)?)?;
+                turns.push(Turn {
+                    den: near.den,
+                    at: near.at,
+                    block: Some(block),
+                })?;
+            }
+        }
+    }
+}
+
+// The point of a turn with its multipliers, over the least denominator.
+fn turn_point(alloc: Global, prices: &[i128], rows: &[Row]) -> Result<Nearest, AllocError>
+    requires { CanSolve prices.now rows.now }
+    ensures answer { IfOk result (λ p. IsAnswer prices.now rows.now p.den p.at p.first p.second) }
+    ensures lowest { IfOk result (λ p. IsLowest p.den p.at p.first p.second) }
+{
+    if prices.is_empty() {
+        return Ok(Nearest {
+            den: 1,
+            at: NumList::new(alloc),
+            first: NumList::new(alloc),
+            second: NumList::new(alloc),
+        });
+    }
+    let weights = vec![in alloc; 1u32; prices.len()]?;
+    let near = nearest(alloc, prices, &weights, rows)?;
+    reduced(alloc, near)
+}
+
+// A number for each bidder from one for each winner: 0 for losers.
+fn for_bidders(alloc: Global, winners: &Choice, at: &[i128]) -> Result<Vec<i128>, AllocError>
+    requires { length at.now ≡ winners_in winners.now }
+    ensures { IfOk result (λ v. v.items ≡ Winners.for_bidders winners.now at.now) }
+{
+    let numbers = winners.numbers();
+    let mut list = Vec::new(alloc);
+    let mut winner = 0;
+    for number in numbers {
+        if *number == 0 {
+            list.push(0)?;
+        } else {
+            list.push(at[winner])?;
+            winner += 1;
+        }
+    }
+    Ok(list)
+}
+
+fn copied(alloc: Global, numbers: &[i128]) -> Result<NumList, AllocError>
+    ensures { IfOk result (λ list. list ≡ numbers.now) }
+{
+    let list = Vec::from_slice(alloc, numbers)?;
+    Ok(NumList::from_vec(list))
+}
