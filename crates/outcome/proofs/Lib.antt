@@ -1,0 +1,9 @@
+mod Lowest
+mod Totals
+mod Winners
+mod LineLaws
+mod PriceLists
+mod SinglesLaws
+mod Ranges
+mod Revenue
+mod RoundLaws

@@ -1,0 +1,4 @@
+pub mod Fractions
+pub mod Payments
+pub mod Prices
+pub mod Rounds

@@ -1,0 +1,160 @@
+// Fractions, the lines of turns, and what is printed of winners, worked by hand.
+ghost use Rattle.std.specs.Prelude.{◌≡◌, ◌≤ℤ◌, pos, IfOk};
+ghost use Rattle.wide_num.specs.Range.{InRange};
+
+use crate::{Fraction, add_fraction, rounds_text, winner_prices};
+use bid_book::read_book;
+use blocking::Block;
+use choices::{Choice, Numbers, Single, known};
+use core_price::Turn;
+use far_num::Row;
+use std::alloc::{AllocError, Global};
+use std::test::Fail;
+use wide_num::{NumList, Text};
+
+fn choice_of(alloc: Global, numbers: &[u16]) -> Result<Choice, AllocError>
+    ensures { IfOk result (λ choice. choice ≡ numbers.now) }
+{
+    let mut list = Numbers::new(alloc);
+    for number in numbers {
+        list.push(*number)?;
+    }
+    Ok(Choice::new(list))
+}
+
+fn list_of(alloc: Global, numbers: &[i128]) -> Result<NumList, AllocError>
+    ensures { IfOk result (λ list. list ≡ numbers.now) }
+{
+    let numbers = Vec::from_slice(alloc, numbers)?;
+    Ok(NumList::from_vec(numbers))
+}
+
+fn printed(alloc: Global, n: i128, d: i128) -> Result<Text, AllocError>
+    requires number { pos 0 ≤ℤ n }
+    requires denominator { (pos 1 ≤ℤ d) × InRange d }
+{
+    let mut text = Text::new(alloc);
+    add_fraction(&mut text, Fraction::new(n, d))?;
+    Ok(text)
+}
+
+#[test]
+fn prints_fractions_in_lowest_terms(rt: HostRuntime) -> Result<(), Fail> {
+    let alloc = rt.alloc();
+    assert_eq!(rt; printed(alloc, 0, 5)?.items(), "0".as_bytes());
+    assert_eq!(rt; printed(alloc, 33, 3)?.items(), "11".as_bytes());
+    assert_eq!(rt; printed(alloc, 11, 3)?.items(), "3+2/3".as_bytes());
+    assert_eq!(rt; printed(alloc, 7, 2)?.items(), "3+1/2".as_bytes());
+    assert_eq!(rt;
+        printed(alloc, 4_398_046_511_104, 6)?.items(),
+        "733007751850+2/3".as_bytes()
+    );
+    let great = 1_000_000_000_000_000_000_000_000_000_000_000_000;
+    assert_eq!(rt;
+        printed(alloc, great, 6)?.items(),
+        "166666666666666666666666666666666666+2/3".as_bytes()
+    );
+    Ok(())
+}
+
+#[test]
+fn prints_the_turns_of_a_run(rt: HostRuntime) -> Result<(), Fail> {
+    let alloc = rt.alloc();
+    let winners = choice_of(alloc, &[1, 1, 0, 0, 0])?;
+    let choice = choice_of(alloc, &[0, 0, 1, 0, 0])?;
+    let row = Row {
+        members: 3,
+        bound: 32,
+    };
+    let block = Block {
+        row,
+        choice,
+        excess: 6,
+    };
+    let first = Turn {
+        den: 1,
+        at: list_of(alloc, &[14, 12])?,
+        block: Some(block),
+    };
+    let last = Turn {
+        den: 1,
+        at: list_of(alloc, &[17, 15])?,
+        block: None,
+    };
+    let text = rounds_text(alloc, &winners, &[first, last])?;
+    let lines = "round 1 point 14 12 row 1 2 choice 0 0 1 0 0 excess 6\nround 2 point 17 15 end\n";
+    assert_eq!(rt; text.items(), lines.as_bytes());
+    Ok(())
+}
+
+#[test]
+fn names_the_bidders_of_a_row(rt: HostRuntime) -> Result<(), Fail> {
+    let alloc = rt.alloc();
+    let winners = choice_of(alloc, &[0, 1, 0, 2])?;
+    let choice = choice_of(alloc, &[1, 0, 0, 0])?;
+    let row = Row {
+        members: 2,
+        bound: 7,
+    };
+    let block = Block {
+        row,
+        choice,
+        excess: 4,
+    };
+    let turn = Turn {
+        den: 3,
+        at: list_of(alloc, &[11, 0])?,
+        block: Some(block),
+    };
+    let text = rounds_text(alloc, &winners, &[turn])?;
+    let line = "round 1 point 3+2/3 0 row 4 choice 1 0 0 0 excess 1+1/3\n";
+    assert_eq!(rt; text.items(), line.as_bytes());
+    Ok(())
+}
+
+#[test]
+fn prints_the_turn_of_nobody(rt: HostRuntime) -> Result<(), Fail> {
+    let alloc = rt.alloc();
+    let winners = choice_of(alloc, &[])?;
+    let turn = Turn {
+        den: 1,
+        at: list_of(alloc, &[])?,
+        block: None,
+    };
+    let text = rounds_text(alloc, &winners, &[turn])?;
+    assert_eq!(rt; text.items(), "round 1 point end\n".as_bytes());
+    Ok(())
+}
+
+#[test]
+fn adds_the_reserve_to_prices(rt: HostRuntime) -> Result<(), Fail> {
+    let alloc = rt.alloc();
+    let text = "book 1\nsupply 2\nreserve 10\nbidder a\nbid 1 25\nbidder b\nbid 2 30\nend\n";
+    let Ok(book) = read_book(alloc, text.as_bytes()) else {
+        panic!(rt; "this is a book");
+    };
+    let winners = choice_of(alloc, &[1, 0])?;
+    if !known(&book, &winners) {
+        panic!(rt; "this choice is known");
+    }
+    let single = Single {
+        winner: 1,
+        price: 10,
+        choice: choice_of(alloc, &[0, 1])?,
+    };
+    let prices = winner_prices(alloc, &book, &winners, &[single], 2, &[21])?;
+    assert_eq!(rt; prices.len(), 1);
+    assert_eq!(rt; prices[0].bidder, 1);
+    assert_eq!(rt; prices[0].bid, 1);
+    assert_eq!(rt; prices[0].reserve, 10);
+    assert_eq!(rt; prices[0].vickrey, 20);
+    assert_eq!(rt;
+        prices[0].pays,
+        Fraction {
+            whole: 20,
+            rest: 1,
+            parts: 2
+        }
+    );
+    Ok(())
+}
