@@ -2,3 +2,6 @@ mod Judged
 mod OneOutcome
 mod Printed
 mod Winners
+mod Worths
+mod Pricing
+mod WinnerCount

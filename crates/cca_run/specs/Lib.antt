@@ -3,3 +3,4 @@ pub mod Code
 pub mod StatusLine
 pub mod Outcome
 pub mod Stops
+pub mod Words

@@ -1,15 +1,20 @@
 -- What a run answers and prints: a function of its words and of the bytes of its files.
-use Rattle.std.specs.Prelude.{◌≡◌, ◌⊎◌, ◌<◌, ◌≤◌, ◌+◌, ℕ, Bool, IsTrue, Option, Some, None, List, length}
+use Rattle.std.specs.Prelude.{◌≡◌, ◌⊎◌, ◌<◌, ◌≤◌, ◌+◌, ℕ, ℤ, Bool, true, false, IsTrue, Option, Some, None, List, [], ◌∷◌, ◌++◌, length, nat_le}
 use Rattle.line_text.specs.LineText.{Said, stated, faulty, beyond, Says}
 use Rattle.auction_model.specs.Greatest.{IsWinning}
 use Rattle.auction_model.specs.Book.{market_of, Book as BookValue}
+use Rattle.auction_model.specs.Prices.{Point, AreVickreyPrices, IsCoreOutcome}
+use Rattle.auction_model.specs.PricingRun.{Turn, IsPricingRun}
+use Rattle.row_laws.specs.Winners.{winners_in}
+use Rattle.price_text.specs.Prices.{IsPriceText}
+use Rattle.price_text.specs.Rounds.{AreTurnLines, IsLastPoint}
 use Rattle.auction_text.specs.BookForm.{IsBook}
 use Rattle.auction_text.specs.BookLines.{Excess, lines}
 use Rattle.auction_text.specs.WinText.{win_text}
-use Rattle.auction_text.specs.declared.LimitKind.TheVariants.{Bytes}
+use Rattle.auction_text.specs.declared.LimitKind.TheVariants.{Bytes, Winners}
 use Rattle.cca_base.specs.Faults.{Rose}
 use Rattle.cca_base.specs.Sink.{Output, Puts}
-use Rattle.cca_run.specs.Command.{Command, win, command_of}
+use Rattle.cca_run.specs.Command.{Command, Task, win, price, command_of}
 use Rattle.cca_run.specs.StatusLine.{status_line}
 use Rattle.cca_run.specs.declared.status.FileKind.TheVariants.{Book, Out}
 use Rattle.cca_run.specs.declared.status.Status.{Status}
@@ -35,20 +40,55 @@ pub record FileSays (bytes : List ℕ) (said : Said BookValue Excess) : Type 0 w
   pub text : length bytes ≤ book_bytes → Says IsBook lines bytes said
   pub long : book_bytes < length bytes → said ≡ beyond (Bytes, book_bytes + 1)
 
--- what `win` gives: of a book the winners and the net value of the winning choice, and else the stop
-abbrev pub WinGives : Said BookValue Excess → Outcome → Type 0
-WinGives (stated book) outcome = (c : List ℕ) × IsWinning (market_of book) c × (outcome ≡ done (win_text book c))
-WinGives (faulty place) outcome = outcome ≡ stopped (Refused Book place 0)
-WinGives (beyond excess) outcome = outcome ≡ stopped (Limit excess.0 excess.1)
+-- the lines of the turns, where they are asked for
+abbrev pub AreRounds : Bool → List ℕ → List Turn → List ℕ → Type 0
+AreRounds true z turns text = AreTurnLines z 0 turns text
+AreRounds false z turns text = text ≡ []
+
+-- What pricing the winning choice z gives: its Vickrey prices, a pricing run, and the point of its last turn, which is the core
+-- outcome; printed are the lines of the turns, where they are asked for, and the prices.
+pub record IsPricing (book : BookValue) (rounds : Bool) (z text : List ℕ) : Type 0 where
+  pub vickrey : ℕ → ℤ
+  pub are_vickrey : AreVickreyPrices (market_of book) z vickrey
+  pub turns : List Turn
+  pub run : IsPricingRun (market_of book) z turns
+  pub point : Point
+  pub last : IsLastPoint turns point
+  pub outcome : IsCoreOutcome (market_of book) z point
+  pub lines : List ℕ
+  pub are_rounds : AreRounds rounds z turns lines
+  pub prices : List ℕ
+  pub are_prices : IsPriceText book z vickrey point prices
+  pub whole : text ≡ lines ++ prices
+
+-- the prices, where the winners are few enough, and else the limit
+abbrev pub PricesGive : Bool → BookValue → Bool → List ℕ → Outcome → Type 0
+PricesGive true book rounds z outcome = (text : List ℕ) × IsPricing book rounds z text × (outcome ≡ done text)
+PricesGive false book rounds z outcome = outcome ≡ stopped (Limit Winners (winners_in z))
+
+-- more than six winners are not priced
+abbrev pub PriceGives : BookValue → Bool → List ℕ → Outcome → Type 0
+PriceGives book rounds z outcome = PricesGive (nat_le (winners_in z) 6) book rounds z outcome
+
+-- what the winning choice z gives: the winners and the net value, or the prices
+abbrev pub TaskGives : Task → BookValue → List ℕ → Outcome → Type 0
+TaskGives win book z outcome = outcome ≡ done (win_text book z)
+TaskGives (price rounds) book z outcome = PriceGives book rounds z outcome
+
+-- what the text of a book gives: of a book what its winning choice gives, and else the stop
+abbrev pub BookGives : Task → Said BookValue Excess → Outcome → Type 0
+BookGives task (stated book) outcome = (z : List ℕ) × IsWinning (market_of book) z × TaskGives task book z outcome
+BookGives task (faulty place) outcome = outcome ≡ stopped (Refused Book place 0)
+BookGives task (beyond excess) outcome = outcome ≡ stopped (Limit excess.0 excess.1)
 
 -- a missing file can't be read
-abbrev pub FileGives : Option (List ℕ) → Outcome → Type 0
-FileGives None outcome = outcome ≡ stopped (ReadFault Book)
-FileGives (Some bytes) outcome = (said : Said BookValue Excess) × FileSays bytes said × WinGives said outcome
+abbrev pub FileGives : Task → Option (List ℕ) → Outcome → Type 0
+FileGives task None outcome = outcome ≡ stopped (ReadFault Book)
+FileGives task (Some bytes) outcome = (said : Said BookValue Excess) × FileSays bytes said × BookGives task said outcome
 
 abbrev pub CommandGives : Option Command → (List ℕ → Option (List ℕ)) → Outcome → Type 0
 CommandGives None file outcome = outcome ≡ stopped Words
-CommandGives (Some (win book)) file outcome = FileGives (file book) outcome
+CommandGives (Some command) file outcome = FileGives command.task (file command.book) outcome
 
 -- the result of a run, by its words and the bytes of the files
 abbrev pub Gives : List (List ℕ) → (List ℕ → Option (List ℕ)) → Outcome → Type 0
@@ -73,11 +113,11 @@ IsStop (Refused file place entry) = Unit {0}
 IsStop (Limit which count) = Unit {0}
 IsStop status = ⊥
 
--- How the way from a file's name to the text of its winners stops: for want of memory, by a fault of reading that was
--- counted, or by what the file gives.
-abbrev pub StopsBy : Bool → Option (List ℕ) → ℕ → ℕ → Status → Type 0
-StopsBy told file before now status =
-    (status ≡ Memory) ⊎ (((status ≡ ReadFault Book) × Rose before now) ⊎ (IsStop status × (IsTrue told → FileGives file (stopped status))))
+-- How the way from a file's name to a text stops: for want of memory, by a fault of reading that was counted, or by what the
+-- file gives.
+abbrev pub StopsBy : Task → Bool → Option (List ℕ) → ℕ → ℕ → Status → Type 0
+StopsBy task told file before now status =
+    (status ≡ Memory) ⊎ (((status ≡ ReadFault Book) × Rose before now) ⊎ (IsStop status × (IsTrue told → FileGives task file (stopped status))))
 
 -- a text that a run may print: that of its result, or the line of a fault of reading or of want of memory
 abbrev pub MayPrint : List (List ℕ) → (List ℕ → Option (List ℕ)) → List ℕ → Type 0

@@ -2,8 +2,9 @@
 ghost use Rattle.std.specs.Prelude.{◌≡◌, ℕ, List, Option};
 ghost use Rattle.cca_run.specs.Outcome.{Outcome, Gives};
 
-use auction_model::{book_market, winning_choice};
+use auction_model::{book_market, core_outcome, vickrey_prices, winning_choice};
 use bid_book::one_book;
+use price_text::{one_price_text, one_run_text};
 
 /// The words and the bytes of the files give at most one result. So each status that is decided comes exactly where they
 /// give it.
@@ -13,4 +14,8 @@ pub fn one_outcome()
     one_book();
     winning_choice();
     book_market();
+    vickrey_prices();
+    core_outcome();
+    one_price_text();
+    one_run_text();
 }

@@ -4,6 +4,7 @@
 mod book_file;
 mod laws;
 mod line;
+mod price;
 mod status;
 mod top;
 mod win;
@@ -15,5 +16,7 @@ pub use top::run;
 
 #[cfg(test)]
 mod listing_tests;
+#[cfg(test)]
+mod price_tests;
 #[cfg(test)]
 mod tests;

@@ -9,26 +9,26 @@ use cca_base::{MemFiles, MemSink};
 use std::alloc::{AllocError, Global};
 use std::test::Fail;
 
-const DAY_CRAMTON: &str =
+pub const DAY_CRAMTON: &str =
     "book 1\nsupply 1 1\nreserve 0 0\nbidder b1\nbid 1 0 28\nbidder b2\nbid 0 1 20\nbidder b3\nbid 1 1 32\nbidder b4\nbid 1 0 14\nbidder b5\nbid 0 1 12\nend\n";
 
-const NOBODY: &str = "book 1\nsupply 1\nreserve 0\nend\n";
+pub const NOBODY: &str = "book 1\nsupply 1\nreserve 0\nend\n";
 
-const AT_RESERVE: &str = "book 1\nsupply 1\nreserve 50\nbidder solo\nbid 1 50\nend\n";
+pub const AT_RESERVE: &str = "book 1\nsupply 1\nreserve 50\nbidder solo\nbid 1 50\nend\n";
 
-const LOCALS: &str =
+pub const LOCALS: &str =
     "book 1\nsupply 1 1 1\nreserve 0 0 0\nbidder l1\nbid 1 0 0 10\nbidder l2\nbid 0 1 0 10\nbidder l3\nbid 0 0 1 10\nbidder g\nbid 1 1 1 11\nend\n";
 
-const SPECTRUM: &str =
+pub const SPECTRUM: &str =
     "book 1\nsupply 4 1 14 9\nreserve 200000 250000 15000 100\nbidder p1\nbid 2 0 0 0 550000\nbidder p2\nbid 0 1 0 0 350000\nbidder p3\nbid 2 0 4 5 710500\nbidder p4\nbid 0 0 7 0 225000\nbidder p5\nbid 0 0 3 4 105400\nbidder p6\nbid 4 0 7 0 1285000\nend\n";
 
-const TIE: &str =
+pub const TIE: &str =
     "book 1\nsupply 2\nreserve 0\nbidder east\nbid 1 5\nbid 2 9\nbidder west\nbid 1 4\nend\n";
 
-const ELEVEN: &str =
+pub const ELEVEN: &str =
     "book 1\nsupply 11\nreserve 0\nbidder c1\nbid 1 5\nbidder c2\nbid 1 5\nbidder c3\nbid 1 5\nbidder c4\nbid 1 5\nbidder c5\nbid 1 5\nbidder c6\nbid 1 5\nbidder c7\nbid 1 5\nbidder c8\nbid 1 5\nbidder c9\nbid 1 5\nbidder c10\nbid 1 5\nbidder c11\nbid 1 5\nend\n";
 
-const EQUALS: &str =
+pub const EQUALS: &str =
     "book 1\nsupply 1\nreserve 0\nbidder n1\nbid 1 9\nbidder n2\nbid 1 9\nbidder n3\nbid 1 9\nbidder n4\nbid 1 9\nend\n";
 
 const GREATEST: &str = "book 1\nsupply 7 7 7 7\nreserve 0 0 0 0\nend\n";
@@ -86,7 +86,7 @@ fn files_of(
 }
 
 // What a run over files in memory answers and prints. The load and the put of these numbers fail.
-fn run_on(
+pub fn run_on(
     alloc: Global,
     words: &[&str],
     bytes: Option<&[u8]>,
@@ -169,8 +169,12 @@ fn refuses_faulty_books(rt: HostRuntime) -> Result<(), Fail> {
 
 #[test]
 fn refuses_other_words(rt: HostRuntime) -> Result<(), Fail> {
-    let table: [&[&str]; 7] = [
+    let table: [&[&str]; 11] = [
         &[],
+        &["price"],
+        &["price", "BOOK", "--json"],
+        &["price", "--rounds", "BOOK"],
+        &["price", "BOOK", "--rounds", "--rounds"],
         &["check", "BOOK", "BOOK"],
         &["win"],
         &["win", ""],

@@ -3,13 +3,13 @@ ghost use Rattle.std.specs.Prelude.{◌≡◌, ◌⊎◌, ◌≤◌, ◌<◌, �
 ghost use Rattle.cca_base.specs.Faults.{Rose};
 ghost use Rattle.cca_base.specs.Sink.{Puts};
 ghost use Rattle.cca_base.specs.Files.{KeepsFiles, CountsOnly};
-ghost use Rattle.cca_run.specs.Command.{win, command_of};
+ghost use Rattle.cca_run.specs.Command.{Command, command_of};
 ghost use Rattle.cca_run.specs.StatusLine.{status_line};
 ghost use Rattle.cca_run.specs.Outcome.{Outcome, Gives, IsDecided, MayPrint, Prints};
 
-use crate::book_file::win_result;
+use crate::book_file::book_text;
 use crate::line::line_of;
-use crate::words::book_word;
+use crate::words::read_command;
 use crate::{FileKind, Status};
 use cca_base::{Files, Sink, write_sink};
 use std::alloc::Global;
@@ -29,7 +29,8 @@ fn print<O: Sink>(out: &mut O, text: &[u8], status: Status) -> Status
 
 /// Runs the command that the words say, the words after the program's name.
 ///
-/// `win BOOK` prints the winners and their net value. All is worked out before anything is printed. A status other than
+/// `win BOOK` prints the winners and their net value. `price BOOK` prints what they bid, their Vickrey prices and what they
+/// pay, and with `--rounds` behind the file a line for each turn of pricing before that. All is worked out before anything is printed. A status other than
 /// Done prints its line alone; a fault of the output is WriteFault of Out, whatever came before. Words that aren't of the
 /// plain form are told without taking memory. The condition is that `files` knows each of the words.
 pub fn run<F: Files, O: Sink>(alloc: Global, words: &[String], files: &mut F, out: &mut O) -> Status
@@ -40,8 +41,8 @@ pub fn run<F: Files, O: Sink>(alloc: Global, words: &[String], files: &mut F, ou
     ensures not_plain { command_of (map string_bytes words.now) ≡ None → (result ≡ Status.Words) ⊎ (result ≡ Status.WriteFault FileKind.Out) }
 
     // A fault has its cause.
-    ensures read_fault { (kind : FileKind) → result ≡ Status.ReadFault kind → (book : List ℕ) × (command_of (map string_bytes words.now) ≡ Some (win book))
-        × (kind ≡ FileKind.Book) × Rose ((F.folder files.old).load_faults book) ((F.folder files.new).load_faults book) }
+    ensures read_fault { (kind : FileKind) → result ≡ Status.ReadFault kind → (command : Command) × (command_of (map string_bytes words.now) ≡ Some command)
+        × (kind ≡ FileKind.Book) × Rose ((F.folder files.old).load_faults command.book) ((F.folder files.new).load_faults command.book) }
     ensures write_fault { (kind : FileKind) → result ≡ Status.WriteFault kind → (kind ≡ FileKind.Out) × Rose (O.output out.old).faults (O.output out.new).faults }
 
     // Every other status but want of memory is the one that the words and the bytes give, and its text was printed whole.
@@ -55,15 +56,15 @@ pub fn run<F: Files, O: Sink>(alloc: Global, words: &[String], files: &mut F, ou
 
     // No file changes, and no count but those of reading the book and of the output.
     ensures kept { KeepsFiles (F.folder files.old) (F.folder files.new) }
-    ensures loads { (book : List ℕ) → command_of (map string_bytes words.now) ≡ Some (win book) → CountsOnly book (F.folder files.old).load_faults (F.folder files.new).load_faults }
+    ensures loads { (command : Command) → command_of (map string_bytes words.now) ≡ Some command → CountsOnly command.book (F.folder files.old).load_faults (F.folder files.new).load_faults }
     ensures no_loads { command_of (map string_bytes words.now) ≡ None → (F.folder files.new).load_faults ≡ (F.folder files.old).load_faults }
     ensures appends { (F.folder files.new).append_faults ≡ (F.folder files.old).append_faults }
     ensures faults { (O.output out.old).faults ≤ (O.output out.new).faults }
 {
-    let Some(book) = book_word(words) else {
+    let Some(command) = read_command(words) else {
         return print(out, line_of(Status::Words).as_slice(), Status::Words);
     };
-    match win_result(alloc, files, book) {
+    match book_text(alloc, files, command.book, command.task) {
         Ok(text) => print(out, text.items(), Status::Done),
         Err(status) => print(out, line_of(status).as_slice(), status),
     }

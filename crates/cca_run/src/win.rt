@@ -1,44 +1,24 @@
 // What `win` prints of a book.
 ghost use Rattle.std.specs.Prelude.{◌≡◌, ◌<◌, ◌+◌, ℕ, List, ◌∷◌, ◌++◌, IfOk, OnOk, IsTrue};
-ghost use Rattle.std.specs.Fmt.{decimal};
 ghost use Rattle.auction_model.specs.Menu.{is_known_after};
 ghost use Rattle.auction_model.specs.Greatest.{IsWinning};
 ghost use Rattle.auction_model.specs.Book.{menu_of, market_of};
-ghost use Rattle.auction_text.specs.BookLines.{numbers_text};
-ghost use Rattle.auction_text.specs.WinText.{winner_line, winner_lines, net_line, win_text};
+ghost use Rattle.auction_text.specs.WinText.{winner_line, winner_lines, win_text};
 
 use bid_book::BidBook;
 use choices::{Choice, value};
-use itoa::Buffer;
 use lots::Bid;
+use outcome::{add_net, add_number, add_numbers};
 use std::alloc::{AllocError, Global};
 use value_table::win;
-use wide_num::{Text, digits};
-
-// A number behind one space.
-fn add_number(text: &mut Text, n: u64) -> Result<(), AllocError>
-    ensures { OnOk result (text.new ≡ text.old ++ 32 ∷ decimal n) }
-{
-    let mut buffer = Buffer::new();
-    text.push(b' ')?;
-    text.add(buffer.format(n).as_bytes())
-}
-
-fn add_counts(text: &mut Text, counts: &[u16]) -> Result<(), AllocError>
-    ensures { OnOk result (text.new ≡ text.old ++ numbers_text counts.now) }
-{
-    for count in counts {
-        add_number(text, *count as u64)?;
-    }
-    Ok(())
-}
+use wide_num::Text;
 
 fn add_winner(text: &mut Text, name: &str, bid: &Bid) -> Result<(), AllocError>
     ensures { OnOk result (text.new ≡ text.old ++ winner_line name.now (record { lots = bid.now.package; amount = bid.now.amount })) }
 {
     text.add(b"winner ")?;
     text.add(name.as_bytes())?;
-    add_counts(text, bid.package.counts())?;
+    add_numbers(text, bid.package.counts())?;
     add_number(text, bid.amount)?;
     text.push(b'\n')?;
     Ok(())
@@ -59,15 +39,6 @@ fn add_winners(text: &mut Text, book: &BidBook, choice: &Choice) -> Result<(), A
     Ok(())
 }
 
-fn add_net(alloc: Global, text: &mut Text, net: i128) -> Result<(), AllocError>
-    ensures { OnOk result (text.new ≡ text.old ++ net_line net) }
-{
-    let number = digits(alloc, net)?;
-    text.add(b"net ")?;
-    text.add(number.items())?;
-    text.push(b'\n')
-}
-
 /// The lines of the winners of a book, in order, and the line of their net value.
 pub fn win_of(alloc: Global, book: &BidBook) -> Result<Text, AllocError>
     ensures { IfOk result (λ text. (c : List ℕ) × IsWinning (market_of book.now) c × (text ≡ win_text book.now c)) }
@@ -75,6 +46,6 @@ pub fn win_of(alloc: Global, book: &BidBook) -> Result<Text, AllocError>
     let choice = win(alloc, book)?;
     let mut text = Text::new(alloc);
     add_winners(&mut text, book, &choice)?;
-    add_net(alloc, &mut text, value(book, &choice))?;
+    add_net(&mut text, value(book, &choice))?;
     Ok(text)
 }

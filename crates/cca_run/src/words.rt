@@ -1,6 +1,23 @@
 // The plain form of the words.
-ghost use Rattle.std.specs.Prelude.{◌≡◌, map, string_bytes, Some, None, MatchOption, IfSome, Contains};
-ghost use Rattle.cca_run.specs.Command.{win, is_file_word, command_of};
+ghost use Rattle.std.specs.Prelude.{◌≡◌, map, string_bytes, option_map, Some, None, MatchOption, IfSome, Contains};
+ghost use Rattle.cca_run.specs.Command.{is_file_word, win_task, price_task, task_of, command_of};
+ghost use Rattle.cca_run.specs.Words.{task_value, command_value};
+
+/// What is to be done with a book.
+#[derive(Clone, Copy, Debug, PartialEq, Eq)]
+pub enum Task {
+    /// Its winners are printed.
+    Win,
+    /// Its prices are printed, and before them a line for each turn where the rounds are asked for.
+    Price { rounds: bool },
+}
+
+/// A command in its plain form.
+#[derive(Clone, Copy, Debug)]
+pub struct Command<'a> {
+    pub task: Task,
+    pub book: &'a str,
+}
 
 fn can_be_file(word: &str) -> bool
     ensures { result ≡ is_file_word word.now }
@@ -11,19 +28,49 @@ fn can_be_file(word: &str) -> bool
     }
 }
 
-/// The book that `win` names, where the words are of the plain form. It takes no memory.
-pub fn book_word(words: &[String]) -> Option<&str>
-    ensures among { IfSome result (λ book. Contains (map string_bytes words.now) book.now) }
-    ensures command { MatchOption result (command_of (map string_bytes words.now) ≡ None) (λ book. command_of (map string_bytes words.now) ≡ Some (win book.now)) }
+fn win_flags(flags: &[String]) -> Option<Task>
+    ensures { option_map task_value result ≡ win_task (map string_bytes flags.now) }
 {
-    if words.len() != 2 {
+    match flags {
+        [] => Some(Task::Win),
+        _ => None,
+    }
+}
+
+fn price_flags(flags: &[String]) -> Option<Task>
+    ensures { option_map task_value result ≡ price_task (map string_bytes flags.now) }
+{
+    match flags {
+        [] => Some(Task::Price { rounds: false }),
+        [flag] if flag.as_str() == "--rounds" => Some(Task::Price { rounds: true }),
+        _ => None,
+    }
+}
+
+fn task_named(name: &str, flags: &[String]) -> Option<Task>
+    ensures { option_map task_value result ≡ task_of name.now (map string_bytes flags.now) }
+{
+    match name {
+        "win" => win_flags(flags),
+        "price" => price_flags(flags),
+        _ => None,
+    }
+}
+
+/// The command that the words say, where they are of the plain form. It takes no memory.
+pub fn read_command(words: &[String]) -> Option<Command<'_>>
+    ensures among { IfSome result (λ c. Contains (map string_bytes words.now) c.book.now) }
+    ensures command { option_map command_value result ≡ command_of (map string_bytes words.now) }
+{
+    let [name, book, flags @ ..] = words else {
+        return None;
+    };
+    if !can_be_file(book.as_str()) {
         return None;
     }
-    if words[0].as_str() != "win" {
-        return None;
-    }
-    if !can_be_file(words[1].as_str()) {
-        return None;
-    }
-    Some(words[1].as_str())
+    let task = task_named(name.as_str(), flags)?;
+    Some(Command {
+        task,
+        book: book.as_str(),
+    })
 }

@@ -2,4 +2,4 @@ use Rattle.cca_run.proofs.OneOutcome.{one-outcome}
 use Rattle.cca_run.proofs.laws.one_outcome.Goals as goal
 
 pub returns : goal.returns
-returns c = one-outcome c.one_book.ensures c.winning_choice.ensures.one c.book_market.ensures
+returns c = one-outcome c.one_book.ensures c.winning_choice.ensures.one c.book_market.ensures c.vickrey_prices.ensures.one c.core_outcome.ensures c.one_price_text.ensures c.one_run_text.ensures.lines
