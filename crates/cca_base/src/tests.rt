@@ -1,6 +1,7 @@
 // Calls with ample memory, with answers found by hand.
 use crate::{
-    Files, MemFiles, MemSink, ReadStop, RealFiles, RealSink, Sink, WriteStop, read_all, write_sink,
+    Files, MemFiles, MemSink, ReadStop, RealFiles, RealSink, Sink, WriteStop, read_all, write_file,
+    write_sink,
 };
 use std::test::Fail;
 use std::{env, fs, process};
@@ -77,6 +78,42 @@ fn writes_a_prefix(rt: HostRuntime) -> Result<(), Fail> {
     write_sink(&mut out, b"ghij")?;
     assert_eq!(rt; out.bytes.as_slice(), b"abcdefghij".as_slice());
     assert_eq!(rt; out.puts, 5);
+    Ok(())
+}
+
+#[test]
+fn writes_a_prefix_to_a_file(rt: HostRuntime) -> Result<(), Fail> {
+    let alloc = rt.alloc();
+    let names = [
+        String::from_str(alloc, "cert")?,
+        String::from_str(alloc, "log")?,
+    ];
+    let mut files = MemFiles::new(alloc, &names, 100)?;
+    files.fail_appends.push(3)?;
+    let text = vec![in alloc; b'x'; 350]?;
+    assert_eq!(rt;
+        write_file(&mut files, "cert", &text),
+        Err(WriteStop::Fault { written: 200 })
+    );
+    let part = files.bytes("cert").ok_or("missing")?;
+    assert_eq!(rt; part, &text[..200]);
+    assert_eq!(rt; files.append_faults("cert"), 1);
+    assert!(rt; files.bytes("log").is_none());
+    Ok(())
+}
+
+#[test]
+fn writes_behind_what_a_file_holds(rt: HostRuntime) -> Result<(), Fail> {
+    let alloc = rt.alloc();
+    let names = [String::from_str(alloc, "cert")?];
+    let mut files = MemFiles::new(alloc, &names, 3)?;
+    write_file(&mut files, "cert", b"")?;
+    assert!(rt; files.bytes("cert").is_none());
+    write_file(&mut files, "cert", b"abcdefgh")?;
+    write_file(&mut files, "cert", b"ij")?;
+    let bytes = files.bytes("cert").ok_or("missing")?;
+    assert_eq!(rt; bytes, b"abcdefghij".as_slice());
+    assert_eq!(rt; files.appends, 4);
     Ok(())
 }
 
