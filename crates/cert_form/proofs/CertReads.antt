@@ -1,0 +1,192 @@
+-- The plan of a certificate can always be gone on with, and a line has one reading: so the reader of its lines reads just its texts.
+use Rattle.std.proofs.Common.{◌≡◌, ℕ, suc, zero, ◌<◌, Bool, true, List, [], ◌∷◌, ◌++◌, length, refl, sym, ap, subst, ◌∙◌, arith, IsTrue}
+use Rattle.std.specs.Prelude.{ℤ, pos, negsuc, replicate, ◌&&◌, not, ◌==◌, codes}
+use Rattle.std.proofs.lemmas.Int.{ints}
+use Rattle.std.proofs.lemmas.Bool.{and_parts, not-true, eqb-false}
+use Rattle.line_text.specs.LineText.{IsLine, Said, Says}
+use Rattle.line_text.proofs.Runs.{Reads}
+use Rattle.line_text.proofs.OneAnswer.{one_answer}
+use Rattle.cert_form.specs.Numeral.{numeral, signed_numeral, numbers_text}
+use Rattle.cert_form.specs.Plan.{Follows, Stage, StepTo, excess, begin, finish}
+use Rattle.cert_form.specs.Lines.{Line, Kind, kind, Numbers, these, signed, chosen, headed, counted, members, FitNumbers, Fits, AreNumbers, spell, over, after, after_numbers, table_plan, part_plan, unless_zero, parts_plan, rows_plan, first_size, cert_plan, IsCertText, lines}
+use Rattle.cert_form.proofs.PlanReads.{follows_both, reads}
+use Rattle.cert_form.proofs.Numerals.{AreDigits, numeral_is, one_numbers}
+
+-- no line feed, as a test
+abbrev has_no_feed : List ℕ → Bool
+has_no_feed [] = true
+has_no_feed (c ∷ cs) = not (c == 10) && has_no_feed cs
+
+no_feeds : (cs : List ℕ) → IsTrue (has_no_feed cs) → IsLine cs
+no_feeds [] t = tt
+no_feeds (c ∷ cs) t = let p = and_parts (not (c == 10)) (has_no_feed cs) t in (eqb-false c 10 (not-true (c == 10) p.0), no_feeds cs p.1)
+
+line_append : (xs ys : List ℕ) → IsLine xs → IsLine ys → IsLine (xs ++ ys)
+line_append [] ys a b = b
+line_append (x ∷ xs) ys a b = (a.0, line_append xs ys a.1 b)
+
+digits_line : (cs : List ℕ) → AreDigits cs → IsLine cs
+digits_line [] d = tt
+digits_line (c ∷ cs) d = (λ e. omega (arith, d.0.0, e), digits_line cs d.1)
+
+signed_line : (n : ℤ) → IsLine (signed_numeral n)
+signed_line (pos n) = digits_line (numeral n) (numeral_is n).digits
+signed_line (negsuc n) = (λ e. omega (arith, e), digits_line (numeral (suc n)) (numeral_is (suc n)).digits)
+
+numbers_line : (ns : List ℤ) → IsLine (numbers_text ns)
+numbers_line [] = tt
+numbers_line (n ∷ ns) = (λ e. omega (arith, e), line_append (signed_numeral n) (numbers_text ns) (signed_line n) (numbers_line ns))
+
+append-left : (xs ys zs : List ℕ) → xs ++ ys ≡ xs ++ zs → ys ≡ zs
+append-left [] ys zs e = e
+append-left (x ∷ xs) ys zs e = append-left xs ys zs cc
+
+one_line : (k : Kind) (a b : Line) → Fits k a → Fits k b → spell a ≡ spell b → a ≡ b
+one_line k a b fa fb e =
+    let words : a.word ≡ b.word = fa.word ∙ sym fb.word in
+    let texts : a.word ++ numbers_text a.numbers ≡ a.word ++ numbers_text b.numbers = e ∙ ap (λ (w : List ℕ). w ++ numbers_text b.numbers) (sym words) in
+    let numbers : a.numbers ≡ b.numbers = one_numbers a.numbers b.numbers (append-left a.word _ _ texts) in
+    ap (λ (w : List ℕ). record { word = w; numbers = a.numbers }) words ∙ ap (λ (n : List ℤ). record { word = b.word; numbers = n }) numbers
+
+-- kinds of which each has a line, the head's choice left out
+abbrev ArePlainNumbers : Numbers → Type 0
+ArePlainNumbers (these ms) = Unit {0}
+ArePlainNumbers (signed n) = Unit {0}
+ArePlainNumbers (chosen n) = Unit {0}
+ArePlainNumbers (headed n s) = ⊥
+ArePlainNumbers (counted n) = Unit {0}
+ArePlainNumbers (members n) = 0 < n
+
+abbrev AreFineNumbers : Numbers → Type 0
+AreFineNumbers (these ms) = Unit {0}
+AreFineNumbers (signed n) = Unit {0}
+AreFineNumbers (chosen n) = Unit {0}
+AreFineNumbers (headed n s) = Unit {0}
+AreFineNumbers (counted n) = Unit {0}
+AreFineNumbers (members n) = 0 < n
+
+fine_from : (n : Numbers) → ArePlainNumbers n → AreFineNumbers n
+fine_from (these ms) p = tt
+fine_from (signed n) p = tt
+fine_from (chosen n) p = tt
+fine_from (headed n s) p = tt
+fine_from (counted n) p = tt
+fine_from (members n) p = p
+
+abbrev Plain : List Kind → Type 0
+Plain [] = Unit {0}
+Plain (k ∷ ks) = IsLine k.word × ArePlainNumbers k.numbers × Plain ks
+
+abbrev pub Fine : List Kind → Type 0
+Fine [] = Unit {0}
+Fine (k ∷ ks) = IsLine k.word × AreFineNumbers k.numbers × Fine ks
+
+plain_append : (xs ys : List Kind) → Plain xs → Plain ys → Plain (xs ++ ys)
+plain_append [] ys a b = b
+plain_append (x ∷ xs) ys a b = (a.0, a.1, plain_append xs ys a.2 b)
+
+fine_append : (xs ys : List Kind) → Plain xs → Fine ys → Fine (xs ++ ys)
+fine_append [] ys a b = b
+fine_append (x ∷ xs) ys a b = (a.0, fine_from x.numbers a.1, fine_append xs ys a.2 b)
+
+plain_table : (n s : ℕ) → Plain (replicate n (kind (codes "t") (signed s)))
+plain_table zero s = tt
+plain_table (suc n) s = (no_feeds (codes "t") refl, tt, plain_table n s)
+
+plain_parts : (b s j : ℕ) (ns : List ℤ) → Plain (parts_plan b s j ns)
+plain_parts b s j [] = tt
+plain_parts b s j (n ∷ ns) = plain_append (unless_zero n (part_plan b s j)) (parts_plan b s (suc j) ns) (part n) (plain_parts b s (suc j) ns)
+  where
+    own : Plain (part_plan b s j)
+    own = (no_feeds (codes "without") refl, tt, (no_feeds (codes "choice") refl, tt, (no_feeds (codes "table") refl, tt, plain_table (suc b) s)))
+
+    part : (n : ℤ) → Plain (unless_zero n (part_plan b s j))
+    part (pos zero) = tt
+    part (pos (suc n)) = own
+    part (negsuc n) = own
+
+plain_rows : (b r : ℕ) → (0 < r → 0 < b) → Plain (rows_plan b r)
+plain_rows b zero h = tt
+plain_rows b (suc r) h = (no_feeds (codes "row") refl, h (omega arith), (no_feeds (codes "mult") refl, tt, (no_feeds (codes "choice") refl, tt, plain_rows b r (λ some. h (omega arith)))))
+
+plain_after : (n : Numbers) (ns : List ℤ) → FitNumbers n ns → Plain (after_numbers n ns)
+plain_after (these ms) ns f = tt
+plain_after (signed n) ns f = tt
+plain_after (chosen n) ns f = tt
+plain_after (headed b s) ns f = plain_append (kind (codes "table") (these []) ∷ table_plan b s) (parts_plan b s 1 ns) (no_feeds (codes "table") refl, tt, plain_table (suc b) s) (plain_parts b s 1 ns)
+plain_after (counted b) ns f = plain_rows b (first_size ns) (λ some. f.3 (subst (λ (l : List ℤ). 0 < first_size l) f.1 some))
+plain_after (members b) ns f = tt
+
+fine_after : (k : Kind) (ks : List Kind) (l : Line) → Fine (k ∷ ks) → Fits k l → Fine (after k l ++ ks)
+fine_after k ks l ok fits = fine_append (after k l) ks (plain_after k.numbers l.numbers fits.numbers) ok.2
+
+zeros_length : (n : ℕ) → length (replicate n (pos 0)) ≡ n
+zeros_length zero = refl
+zeros_length (suc n) = ap suc (zeros_length n)
+
+zeros_numbers : (n : ℕ) → AreNumbers 65535 (replicate n (pos 0))
+zeros_numbers zero = tt
+zeros_numbers (suc n) = (omega (arith, ints), omega (arith, ints), zeros_numbers n)
+
+-- a line of its own kind, with nothing behind it
+one_of : (k : Kind) → ArePlainNumbers k.numbers → (is : List Line) × Follows Fits after (k ∷ []) is
+one_of k plain = own k.word k.numbers plain
+  where
+    own : (w : List ℕ) (n : Numbers) → ArePlainNumbers n → (is : List Line) × Follows Fits after (kind w n ∷ []) is
+    own w (these ms) p = (record { word = w; numbers = ms } ∷ [], (record { word = refl; numbers = refl }, tt))
+    own w (signed n) p = (record { word = w; numbers = replicate n (pos 0) } ∷ [], (record { word = refl; numbers = zeros_length n }, tt))
+    own w (chosen n) p = (record { word = w; numbers = replicate n (pos 0) } ∷ [], (record { word = refl; numbers = (zeros_length n, zeros_numbers n) }, tt))
+    own w (headed n s) p = absurd p
+    own w (counted n) p = (record { word = w; numbers = pos 0 ∷ [] } ∷ [], (record { word = refl; numbers = (0, refl, omega arith, λ some. absurd (omega (arith, some))) }, tt))
+    own w (members n) p = (record { word = w; numbers = pos 1 ∷ [] } ∷ [], (record { word = refl; numbers = (omega arith, (omega (arith, ints), omega (arith, ints, p), tt)) }, tt))
+
+completes_plain : (ks : List Kind) → Plain ks → (is : List Line) × Follows Fits after ks is
+completes_plain [] p = ([], tt)
+completes_plain (k ∷ ks) p =
+    let own = one_of k p.1 in
+    let rest = completes_plain ks p.2 in
+    (own.0 ++ rest.0, follows_both Fits after (k ∷ []) ks own.0 rest.0 own.1 rest.1)
+
+completes_one : (k : Kind) → AreFineNumbers k.numbers → (is : List Line) × Follows Fits after (k ∷ []) is
+completes_one k fine = own k.word k.numbers fine
+  where
+    own : (w : List ℕ) (n : Numbers) → AreFineNumbers n → (is : List Line) × Follows Fits after (kind w n ∷ []) is
+    own w (these ms) p = one_of (kind w (these ms)) tt
+    own w (signed n) p = one_of (kind w (signed n)) tt
+    own w (chosen n) p = one_of (kind w (chosen n)) tt
+    own w (headed n s) p =
+        let first : Line = record { word = w; numbers = replicate n (pos 0) } in
+        let rest = completes_plain (after (kind w (headed n s)) first ++ []) (plain_append (after (kind w (headed n s)) first) [] (plain_after (headed n s) (replicate n (pos 0)) (zeros_length n, zeros_numbers n)) tt) in
+        (first ∷ rest.0, (record { word = refl; numbers = (zeros_length n, zeros_numbers n) }, rest.1))
+    own w (counted n) p = one_of (kind w (counted n)) tt
+    own w (members n) p = one_of (kind w (members n)) p
+
+completes : (ks : List Kind) → Fine ks → (is : List Line) × Follows Fits after ks is
+completes [] p = ([], tt)
+completes (k ∷ ks) p =
+    let own = completes_one k p.1 in
+    let rest = completes ks p.2 in
+    (own.0 ++ rest.0, follows_both Fits after (k ∷ []) ks own.0 rest.0 own.1 rest.1)
+
+fine_cert : (b s : ℕ) → Fine (cert_plan b s)
+fine_cert b s =
+    let last = fine_append (table_plan b s) (kind (codes "end") (these []) ∷ []) (plain_table (suc b) s) (no_feeds (codes "end") refl, tt, tt) in (
+      no_feeds (codes "cert") refl,
+      tt,
+      (
+        no_feeds (codes "den") refl,
+        tt,
+        (
+          no_feeds (codes "value") refl,
+          tt,
+          (no_feeds (codes "choice") refl, tt, (no_feeds (codes "pay") refl, tt, (no_feeds (codes "rows") refl, tt, (no_feeds (codes "lowered") refl, tt, last)))),
+        ),
+      ),
+    )
+
+pub cert_reads : (b s : ℕ) → Reads (λ (t : Stage Kind Line). Fine t.plan) (StepTo Fits after spell over) excess (begin (cert_plan b s)) (finish spell over) (IsCertText b s) lines
+cert_reads b s = reads Fits after spell over one_line Fine (λ k ks l ok fits. subst (λ (w : List ℕ). IsLine (w ++ numbers_text l.numbers)) (sym fits.word) (line_append k.word (numbers_text l.numbers) ok.0 (numbers_line l.numbers))) fine_after completes (cert_plan b s) (fine_cert b s)
+
+-- bytes say one thing of a certificate: a certificate, the place of the first faulty line, or that of the first line that is out of range
+pub one_cert : (b s : ℕ) (bytes : List ℕ) (x y : Said (List Line) ℕ) → Says (IsCertText b s) lines bytes x → Says (IsCertText b s) lines bytes y → x ≡ y
+one_cert b s = one_answer (λ (t : Stage Kind Line). Fine t.plan) (StepTo Fits after spell over) excess (begin (cert_plan b s)) (finish spell over) (IsCertText b s) lines (cert_reads b s)

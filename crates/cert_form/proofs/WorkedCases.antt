@@ -1,0 +1,32 @@
+-- The texts of two small certificates, written out.
+use Rattle.std.proofs.Common.{◌≡◌, ◌∷◌, [], ◌++◌, codes, refl}
+use Rattle.std.specs.Prelude.{pos, negsuc}
+use Rattle.cert_form.specs.Certificate.{CertValue}
+use Rattle.cert_form.specs.Numeral.{numeral, digits_of}
+use Rattle.cert_form.specs.Says.{cert_text}
+
+-- no bidder, and one lot
+abbrev nobody : CertValue
+nobody = record { den = pos 1; value = pos 0; choice = []; table = (pos 0 ∷ pos 0 ∷ []) ∷ []; withouts = []; pay = []; rows = []; lowered = (pos 0 ∷ pos 0 ∷ []) ∷ [] }
+
+nobody_text : cert_text nobody ≡ codes "cert 1\nden 1\nvalue 0\nchoice\ntable\nt 0 0\npay\nrows 0\nlowered\nt 0 0\nend\n"
+unfolding numeral digits_of
+nobody_text = refl
+
+-- two bidders, of whom the second wins, and one lot
+abbrev second_wins : CertValue
+second_wins = record {
+  den = pos 2;
+  value = pos 10;
+  choice = 0 ∷ 12 ∷ [];
+  table = (pos 0 ∷ pos 10 ∷ []) ∷ (pos 0 ∷ pos 10 ∷ []) ∷ (pos 0 ∷ pos 0 ∷ []) ∷ [];
+  withouts = record { winner = 2; choice = 1 ∷ 0 ∷ []; table = (pos 0 ∷ pos 7 ∷ []) ∷ (pos 0 ∷ pos 0 ∷ []) ∷ (pos 0 ∷ pos 0 ∷ []) ∷ [] } ∷ [];
+  pay = pos 0 ∷ pos 14 ∷ [];
+  rows = record { members = 2 ∷ []; first = pos 2; second = negsuc 104; choice = 1 ∷ 0 ∷ [] } ∷ [];
+  lowered = (pos 0 ∷ pos 14 ∷ []) ∷ (pos 0 ∷ pos 14 ∷ []) ∷ (pos 0 ∷ pos 0 ∷ []) ∷ [];
+}
+
+second_text : cert_text second_wins ≡ codes "cert 1\nden 2\nvalue 10\nchoice 0 12\ntable\nt 0 10\nt 0 10\nt 0 0\n" ++ codes "without 2\nchoice 1 0\ntable\nt 0 7\nt 0 0\nt 0 0\n"
+    ++ codes "pay 0 14\nrows 1\nrow 2\nmult 2 -105\nchoice 1 0\nlowered\nt 0 14\nt 0 14\nt 0 0\nend\n"
+unfolding numeral digits_of
+second_text = refl
