@@ -1,0 +1,10 @@
+pub mod Bounds
+pub mod Winning
+pub mod Sizes
+pub mod Places
+pub mod Verdicts
+pub mod Core
+pub mod Rows
+pub mod Aims
+pub mod Outcome
+pub mod Exact

@@ -1,0 +1,42 @@
+-- A certificate has one verdict.
+use Rattle.std.specs.Prelude.{◌≡◌, ℕ, refl}
+use Rattle.std.proofs.Common.{inl, inr, sym}
+use Rattle.std.proofs.lemmas.Bool.{cases_order}
+use Rattle.auction_model.specs.Book.{Book}
+use Rattle.cert_form.specs.Certificate.{CertValue}
+use Rattle.cert_laws.specs.Tests.{Asks, Holds, FailsFirst}
+
+pub all_asked : (book : Book) (c : CertValue) → Holds book c → (t place : ℕ) → Asks book c t place
+all_asked book c h t place = (λ e. h.c1 place, λ e. h.c2 place, λ e. h.c3 place, λ e. h.c4 place, λ e. h.c5 place, λ e. h.c6 place, λ e. h.c7 place, λ e. h.c8 place, λ e. h.c9 place)
+
+pub holds_all : (book : Book) (c : CertValue) → ((t place : ℕ) → Asks book c t place) → Holds book c
+holds_all book c all = record {
+  c1 = λ p. (all 1 p).0 refl;
+  c2 = λ p. (all 2 p).1 refl;
+  c3 = λ p. (all 3 p).2 refl;
+  c4 = λ p. (all 4 p).3 refl;
+  c5 = λ p. (all 5 p).4 refl;
+  c6 = λ p. (all 6 p).5 refl;
+  c7 = λ p. (all 7 p).6 refl;
+  c8 = λ p. (all 8 p).7 refl;
+  c9 = λ p. (all 9 p).8 refl;
+}
+
+pub not_both : (book : Book) (c : CertValue) (t place : ℕ) → Holds book c → FailsFirst book c t place → ⊥
+not_both book c t place h f = f.fails (all_asked book c h t place)
+
+pub one_verdict : (book : Book) (c : CertValue) (t p u q : ℕ) → FailsFirst book c t p → FailsFirst book c u q → (t ≡ u) × (p ≡ q)
+one_verdict book c t p u q f g =
+    elim (cases_order t u) [
+      | inl same ↦ elim (cases_order p q) [
+        | inl places ↦ (same, places)
+        | inr apart ↦ elim apart [
+          | inl less ↦ absurd (f.fails (g.before t p (inr (same, less))))
+          | inr more ↦ absurd (g.fails (f.before u q (inr (sym same, more))))
+        ]
+      ]
+      | inr apart ↦ elim apart [
+        | inl less ↦ absurd (f.fails (g.before t p (inl less)))
+        | inr more ↦ absurd (g.fails (f.before u q (inl more)))
+      ]
+    ]

@@ -1,0 +1,46 @@
+//! The tests of a certificate of a book, and why a yes is right. No code stands here.
+//!
+//! A certificate says who wins, what the winners pay, and why. For the winning choice and for the choice without each
+//! winner it has a table of dynamic programming, for the payments rows of winners with two multipliers each, and a last
+//! table that shows that no coalition blocks. The tests C1 to C9 ask only that tables obey their rules, that rows are tight
+//! and that sums come out, so they need no search. (McConnell, Mehlhorn, Näher and Schweitzer, Certifying algorithms,
+//! Computer Science Review 5, 2011.)
+#![tactic(auto)]
+
+ghost use Rattle.std.specs.Prelude.{◌≡◌, ℕ, List, ℤ, length};
+ghost use Rattle.auction_model.specs.Book.{Book, net_of, menu_of, market_of};
+ghost use Rattle.auction_model.specs.Lowered.{lowered};
+ghost use Rattle.auction_model.specs.Menu.{without};
+ghost use Rattle.auction_model.specs.Table.{IsExactTable};
+ghost use Rattle.row_laws.specs.Surplus.{surpluses_of};
+ghost use Rattle.cert_form.specs.Certificate.{CertValue};
+ghost use Rattle.cert_laws.specs.Sound.{IsSound};
+ghost use Rattle.cert_laws.specs.Tests.{Obeys, bidders_of, C5, lowered_net, Holds, FailsFirst};
+
+/// A certificate that passes all tests is sound: its choice is the winning one, its value the value of that choice, its
+/// parts give the Vickrey prices, and its choice and payments are the core outcome.
+///
+/// A table that obeys the rules of dynamic programming bounds each choice that fits (Bellman, The theory of dynamic
+/// programming, Bulletin of the American Mathematical Society 60, 1954), and multipliers show a least sum and a least
+/// square distance (Kuhn and Tucker, Nonlinear programming, 1951).
+pub fn sound_yes()
+    ensures { (book : Book) (c : CertValue) → length c.choice ≡ bidders_of book → length c.pay ≡ bidders_of book → Holds book c → IsSound book c }
+{}
+
+/// A certificate has one verdict: all tests hold, or there is one place of one test at which it fails first.
+pub fn one_verdict()
+    ensures one { (book : Book) (c : CertValue) (t p u q : ℕ) → FailsFirst book c t p → FailsFirst book c u q → (t ≡ u) × (p ≡ q) }
+    ensures not_both { (book : Book) (c : CertValue) (t p : ℕ) → Holds book c → FailsFirst book c t p → ⊥ }
+{}
+
+/// Exact tables obey the rules that the tests ask of a table: that of the net amounts, that of the net amounts without a
+/// bidder, and, where nobody pays more than its bid and losers pay nothing, that of the worths which are lowered by what
+/// each bidder gains.
+pub fn exact_tables()
+    ensures plain { (book : Book) (table : List (List ℤ)) → IsExactTable (menu_of book) (net_of book) book.supply table → Obeys (menu_of book) (net_of book) book.supply table }
+    ensures without { (book : Book) (j : ℕ) (table : List (List ℤ)) → IsExactTable (without (menu_of book) j) (net_of book) book.supply table
+        → Obeys (without (menu_of book) j) (net_of book) book.supply table }
+    ensures lowered { (book : Book) (c : CertValue) (table : List (List ℤ)) → length c.pay ≡ bidders_of book → ((place : ℕ) → C5 book c place)
+        → IsExactTable (menu_of book) (lowered c.den (net_of book) (surpluses_of (market_of book) c.choice c.den c.pay)) book.supply table
+        → Obeys (menu_of book) (lowered_net book c) book.supply table }
+{}
