@@ -1,9 +1,10 @@
 -- The answer of a turn divided by a common divisor is an answer again: each of its clauses is linear.
-use Rattle.std.specs.Prelude.{◌≡◌, ◌≢◌, ℕ, zero, suc, ◌<◌, ◌≤◌, ◌^◌, List, length, ℤ, pos, negsuc, ◌-ℤ◌, ◌*ℤ◌, ◌≤ℤ◌, ◌<ℤ◌, unsigned_abs}
+use Rattle.std.specs.Prelude.{◌≡◌, ◌≢◌, ℕ, zero, suc, ◌<◌, ◌≤◌, ◌^◌, List, length, ℤ, pos, negsuc, ◌-ℤ◌, ◌*ℤ◌, ◌≤ℤ◌, ◌<ℤ◌, unsigned_abs, refl}
 use Rattle.std.proofs.Common.{sym, ◌∙◌, ap, arith, subst}
 use Rattle.std.proofs.lemmas.Int.{ints, unsigned_abs-mul}
 use Rattle.std.proofs.Math.IntN.{*ℤ-zero}
 use Rattle.far_num.specs.declared.Row.{Row}
+use Rattle.nearest_point.specs.Numbers.{is_zero, pairs_used}
 use Rattle.nearest_point.specs.Problem.{bounds, coefficients}
 use Rattle.point_laws.specs.Multipliers.{sum_at}
 use Rattle.point_laws.proofs.Order.{cancel_nonneg}
@@ -40,6 +41,25 @@ size-below (negsuc x) n h = omega (arith, ints)
 below-size : (x : ℤ) (n : ℕ) → pos 0 <ℤ x → x <ℤ pos n → unsigned_abs x < n
 below-size (pos x) n p h = omega (arith, ints)
 below-size (negsuc x) n p h = absurd (omega (arith, ints))
+
+some-product : (g x : ℤ) → pos 0 <ℤ g → g *ℤ x ≡ pos 0 → x ≢ pos 0 → ⊥
+some-product g x p e d = d (mul-zero_cases g x e (not-zero g p))
+
+-- a number is 0 just where its product with a positive number is
+zero_same : (g x y : ℤ) → pos 0 <ℤ g → g *ℤ x ≡ y → is_zero x ≡ is_zero y
+zero_same g (pos zero) y p e = ap is_zero (sym (*ℤ-zero g) ∙ e)
+zero_same g (pos (suc x)) (pos zero) p e = absurd (some-product g (pos (suc x)) p e (λ h. let k : suc x ≡ 0 = ap unsigned_abs h in omega (arith, k)))
+zero_same g (pos (suc x)) (pos (suc y)) p e = refl
+zero_same g (pos (suc x)) (negsuc y) p e = refl
+zero_same g (negsuc x) (pos zero) p e = absurd (some-product g (negsuc x) p e (λ h. let k : suc x ≡ 0 = ap unsigned_abs h in omega (arith, k)))
+zero_same g (negsuc x) (pos (suc y)) p e = refl
+zero_same g (negsuc x) (negsuc y) p e = refl
+
+pairs_same : (n : ℕ) (first second all_first all_second : ℕ → ℤ) → ((i : ℕ) → i < n → is_zero (first i) ≡ is_zero (all_first i)) → ((i : ℕ) → i < n → is_zero (second i) ≡ is_zero (all_second i))
+    → pairs_used n first second ≡ pairs_used n all_first all_second
+pairs_same zero first second all_first all_second f s = refl
+pairs_same (suc n) first second all_first all_second f s =
+    rw (pairs_same n first second all_first all_second (λ i lt. f i (omega (arith, lt))) (λ i lt. s i (omega (arith, lt))), f n (omega arith), s n (omega arith)) refl
 
 module _ (prices : List ℤ) (rows : List Row) (g den : ℤ) (at first second : List ℤ) (all_den : ℤ) (all_at all_first all_second : List ℤ)
     (h : IsMultiple g den at first second all_den all_at all_first all_second) (a : IsAnswer prices rows all_den all_at all_first all_second) where
@@ -111,4 +131,8 @@ module _ (prices : List ℤ) (rows : List Row) (g den : ℤ) (at first second : 
     };
     small_den = size-below den (2 ^ 32) (let f = factor_size g den h.positive in let e = ap unsigned_abs h.den_is in let k = below-size all_den (2 ^ 32) a.meets.positive a.small_den in omega (arith, f, e, k));
     small_at = λ i lt. (let l : i < length all_at = omega (arith, lt, h.at_is.long) in let f = factor_size g (nth at i) h.positive in let e = ap unsigned_abs (h.at_is.each i l) in let k = a.small_at i l in omega (arith, f, e, k));
+    small_second = λ i lt. (let l : i < length all_second = omega (arith, lt, h.second_is.long) in let f = factor_size g (nth second i) h.positive in let e = ap unsigned_abs (h.second_is.each i l) in let k = a.small_second i l in omega (arith, f, e, k));
+    few =
+        let same = pairs_same (length rows) (nth first) (nth second) (nth all_first) (nth all_second) (λ i lt. zero_same g (nth first i) (nth all_first i) h.positive (first-is i lt)) (λ i lt. zero_same g (nth second i) (nth all_second i) h.positive (second-is i lt)) in
+        omega (arith, same, a.few);
   }

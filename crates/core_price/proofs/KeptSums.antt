@@ -20,7 +20,7 @@ use Rattle.core_price.specs.Lowest.{IsLowest}
 use Rattle.core_price.specs.declared.priced.PricedRow.{PricedRow}
 use Rattle.core_price.proofs.KeptLaws.{entry}
 
-used-some : (f s : ℤ) → pair_used f s ≡ true → (f ≢ pos 0) ⊎ (s ≢ pos 0)
+pub used-some : (f s : ℤ) → pair_used f s ≡ true → (f ≢ pos 0) ⊎ (s ≢ pos 0)
 used-some f s e = by (int_eq f (pos 0)) (int_eq s (pos 0)) (Decides-int_eq f (pos 0)).1 (Decides-int_eq s (pos 0)).1 e
   where
     by : (a b : Bool) → (f ≡ pos 0 → a ≡ true) → (s ≡ pos 0 → b ≡ true) → (not a || not b) ≡ true → (f ≢ pos 0) ⊎ (s ≢ pos 0)
@@ -28,7 +28,7 @@ used-some f s e = by (int_eq f (pos 0)) (int_eq s (pos 0)) (Decides-int_eq f (po
     by true false p q e = inr (λ z. false≢true (q z))
     by false b p q e = inl (λ z. false≢true (p z))
 
-unused-none : (f s : ℤ) → pair_used f s ≡ false → (f ≡ pos 0) × (s ≡ pos 0)
+pub unused-none : (f s : ℤ) → pair_used f s ≡ false → (f ≡ pos 0) × (s ≡ pos 0)
 unused-none f s e = by (int_eq f (pos 0)) (int_eq s (pos 0)) (Decides-int_eq f (pos 0)).0 (Decides-int_eq s (pos 0)).0 e
   where
     by : (a b : Bool) → (a ≡ true → f ≡ pos 0) → (b ≡ true → s ≡ pos 0) → (not a || not b) ≡ false → (f ≡ pos 0) × (s ≡ pos 0)
@@ -46,7 +46,7 @@ pub record AreLong (rows : List Row) (choices : List (List ℕ)) (first second :
 abbrev pub kept_of : List Row → List (List ℕ) → List ℤ → List ℤ → List PricedRow
 kept_of rows choices first second = filter is_used (with_pairs rows choices first second)
 
-take-or-skip : (x : PricedRow) (xs : List PricedRow) → ((is_used x ≡ true) × (filter is_used (x ∷ xs) ≡ x ∷ filter is_used xs)) ⊎ ((is_used x ≡ false) × (filter is_used (x ∷ xs) ≡ filter is_used xs))
+pub take-or-skip : (x : PricedRow) (xs : List PricedRow) → ((is_used x ≡ true) × (filter is_used (x ∷ xs) ≡ x ∷ filter is_used xs)) ⊎ ((is_used x ≡ false) × (filter is_used (x ∷ xs) ≡ filter is_used xs))
 take-or-skip x xs = by (cases_Bool (is_used x))
   where
     by : (is_used x ≡ true) ⊎ (is_used x ≡ false) → ((is_used x ≡ true) × (filter is_used (x ∷ xs) ≡ x ∷ filter is_used xs)) ⊎ ((is_used x ≡ false) × (filter is_used (x ∷ xs) ≡ filter is_used xs))

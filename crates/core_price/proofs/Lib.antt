@@ -2,6 +2,7 @@ mod AskedLaws
 mod Core
 mod Division
 mod Divisors
+mod KeptCount
 mod KeptLaws
 mod KeptSums
 mod LookLaws

@@ -1,11 +1,12 @@
 -- All that pricing promises, from where the turns end.
-use Rattle.std.specs.Prelude.{◌≡◌, ℕ, ◌<◌, true, List, length, ℤ, pos}
+use Rattle.std.specs.Prelude.{◌≡◌, ℕ, ◌^◌, ◌<◌, ◌≤◌, true, List, length, ℤ, pos}
 use Rattle.std.specs.List.{AllByRecursion}
-use Rattle.std.proofs.Common.{sym, ◌∙◌, subst}
+use Rattle.std.proofs.Common.{sym, ◌∙◌, ap, subst, arith}
 use Rattle.auction_model.specs.Market.{Market}
 use Rattle.auction_model.specs.Greatest.{IsWinning}
 use Rattle.auction_model.specs.Lawful.{IsMarket}
 use Rattle.far_num.specs.declared.Row.{Row}
+use Rattle.nearest_point.specs.Numbers.{AreBelow}
 use Rattle.nearest_point.specs.Problem.{bounds, coefficients}
 use Rattle.point_laws.specs.Multipliers.{AreFirst, AreSecond, SumsTo}
 use Rattle.row_laws.specs.Winners.{winners_in}
@@ -15,6 +16,7 @@ use Rattle.core_price.specs.Lowest.{IsLowest}
 use Rattle.core_price.specs.SoFar.{CanTurn, HasEnded}
 use Rattle.core_price.specs.declared.priced.PricedRow.{PricedRow}
 use Rattle.core_price.specs.declared.priced.Turn.{Turn}
+use Rattle.core_price.proofs.KeptCount.{kept-count, kept-seconds_below}
 use Rattle.core_price.proofs.KeptLaws.{entry}
 use Rattle.core_price.proofs.KeptSums.{AreLong, first_sum, kept-among, kept-each, kept-first, kept-lowest, kept-second, kept_of, tight-used}
 use Rattle.core_price.proofs.Points.{firsts as first-of, seconds as second-of, sums as sums-of}
@@ -57,3 +59,12 @@ module _ (m : Market) (lawful : IsMarket m) (z : List ℕ) (win : IsWinning m z)
 
   pub lowest-kept : IsLowest den at (firsts kept) (seconds kept)
   lowest-kept = subst (λ k. IsLowest den at (firsts k) (seconds k)) (sym is) (kept-lowest rows choices first second long den at ended.lowest)
+
+  pub few-kept : length kept ≤ winners_in z
+  few-kept =
+      let e = ap (λ (l : List PricedRow). length l) is in
+      let count = kept-count rows choices first second long in
+      omega (arith, e, count, ended.answer.few, can.long)
+
+  pub seconds-below : AreBelow (2 ^ 109) (seconds kept)
+  seconds-below = subst (λ k. AreBelow (2 ^ 109) (seconds k)) (sym is) (kept-seconds_below (2 ^ 109) rows choices first second long ended.answer.small_second)

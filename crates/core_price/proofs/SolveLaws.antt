@@ -1,9 +1,9 @@
 -- What the search for the nearest point answers, with weights of 1.
-use Rattle.std.specs.Prelude.{◌≡◌, ℕ, ◌^◌, ◌<◌, List, length, replicate, ℤ, pos, ◌<ℤ◌, ◌*ℤ◌}
+use Rattle.std.specs.Prelude.{◌≡◌, ℕ, ◌^◌, ◌≤◌, ◌<◌, List, length, replicate, ℤ, pos, ◌<ℤ◌, ◌*ℤ◌}
 use Rattle.std.proofs.Common.{sym, ◌∙◌, ap}
 use Rattle.std.proofs.lemmas.List.{get_or-replicate}
 use Rattle.far_num.specs.declared.Row.{Row}
-use Rattle.nearest_point.specs.Numbers.{AreBelow}
+use Rattle.nearest_point.specs.Numbers.{AreBelow, pairs_used}
 use Rattle.nearest_point.specs.Problem.{bounds, coefficients, weight_at}
 use Rattle.point_laws.specs.Multipliers.{AreFirst, AreSecond, SumsTo, sum_at}
 use Rattle.point_laws.specs.Points.{MeetsRows}
@@ -19,8 +19,8 @@ pub answer-of : (prices : List ℤ) (weights : List ℕ) (rows : List Row) (den 
     → AreFirst (length prices) (length rows) (coefficients rows) (bounds rows) den (nth at) (nth first)
     → SumsTo (length prices) (length rows) (coefficients rows) den (nth first)
     → AreSecond (length prices) (length rows) (coefficients rows) (bounds rows) den (nth at) (nth first) (nth second) (nth prices) (weight_at weights)
-    → den <ℤ pos (2 ^ 32) → AreBelow (2 ^ 109) at → IsAnswer prices rows den at first second
-answer-of prices weights rows den at first second w long meets firsts sums seconds small below = record {
+    → den <ℤ pos (2 ^ 32) → AreBelow (2 ^ 109) at → AreBelow (2 ^ 109) second → pairs_used (length rows) (nth first) (nth second) ≤ length prices → IsAnswer prices rows den at first second
+answer-of prices weights rows den at first second w long meets firsts sums seconds small below below_second few = record {
   long_at = long.0;
   long_first = long.1;
   long_second = long.2;
@@ -34,4 +34,6 @@ answer-of prices weights rows den at first second w long meets firsts sums secon
   };
   small_den = small;
   small_at = below;
+  small_second = below_second;
+  few = few;
 }

@@ -1,7 +1,7 @@
 -- What the search for the point of a turn is given, and what it answers.
 use Rattle.std.specs.Prelude.{◌≡◌, ◌^◌, ◌≤◌, List, length, ℤ, pos, ◌<ℤ◌}
 use Rattle.far_num.specs.declared.Row.{Row}
-use Rattle.nearest_point.specs.Numbers.{AreBelow}
+use Rattle.nearest_point.specs.Numbers.{AreBelow, pairs_used}
 use Rattle.nearest_point.specs.Problem.{AreBounds, AreTargets, HasMembers, HasSingles, bounds, coefficients}
 use Rattle.point_laws.specs.Multipliers.{AreFirst, AreSecond, SumsTo}
 use Rattle.point_laws.specs.Points.{MeetsRows}
@@ -26,3 +26,5 @@ pub record IsAnswer (prices : List ℤ) (rows : List Row) (den : ℤ) (at first 
   pub seconds : AreSecond (length prices) (length rows) (coefficients rows) (bounds rows) den (nth at) (nth first) (nth second) (nth prices) (λ j. pos 1)
   pub small_den : den <ℤ pos (2 ^ 32)
   pub small_at : AreBelow (2 ^ 109) at
+  pub small_second : AreBelow (2 ^ 109) second
+  pub few : pairs_used (length rows) (nth first) (nth second) ≤ length prices

@@ -35,6 +35,7 @@ use kept::kept_rows;
 pub use lists::{RowList, TurnList};
 pub use priced::{PriceStop, Priced, PricedRow, Turn};
 use start::{first_rows, prices_of};
+pub use turns::for_bidders;
 use turns::{Ended, take_turns};
 
 /// No more winners than this are priced.
@@ -74,10 +75,12 @@ pub fn price<C: Chooser>(
     ensures found { IfOk result (λ p. IsFound (C.market chooser.now) (C.chosen chooser.now) p.den (for_bidders (C.chosen chooser.now) p.at) p.last.choice p.last.sum) }
     ensures table { IfOk result (λ p. C.is_table chooser.now p.den (surpluses_of (C.market chooser.now) (C.chosen chooser.now) p.den (for_bidders (C.chosen chooser.now) p.at)) p.last.table) }
     ensures order { IfOk result (λ p. AreAmong (asked_rows singles.now p.turns) (asked_choices singles.now p.turns) p.rows) }
+    ensures few_rows { IfOk result (λ p. length p.rows ≤ winners_in (C.chosen chooser.now)) }
     ensures rows { IfOk result (λ p. AllByRecursion (IsKept (C.market chooser.now) (C.chosen chooser.now) p.den p.at) p.rows) }
     ensures first { IfOk result (λ p. AreFirst (winners_in (C.chosen chooser.now)) (length p.rows) (coefficients (rows_in p.rows)) (bounds (rows_in p.rows)) p.den (nth p.at) (nth (firsts p.rows))) }
     ensures first_sums { IfOk result (λ p. SumsTo (winners_in (C.chosen chooser.now)) (length p.rows) (coefficients (rows_in p.rows)) p.den (nth (firsts p.rows))) }
     ensures second { IfOk result (λ p. AreSecond (winners_in (C.chosen chooser.now)) (length p.rows) (coefficients (rows_in p.rows)) (bounds (rows_in p.rows)) p.den (nth p.at) (nth (firsts p.rows)) (nth (seconds p.rows)) (nth (prices_of singles.now)) (λ j. pos 1)) }
+    ensures small_seconds { IfOk result (λ p. AreBelow (2 ^ 109) (seconds p.rows)) }
     ensures lowest { IfOk result (λ p. IsLowest p.den p.at (firsts p.rows) (seconds p.rows)) }
     ensures range { IfOk result (λ p. (p.den *ℤ (value_of (C.market chooser.now) (C.chosen chooser.now) +ℤ pos 1)) <ℤ pos (2 ^ 120)) }
     ensures few { IfOk result (λ p. winners_in (C.chosen chooser.now) ≤ 6) }

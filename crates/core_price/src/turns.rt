@@ -102,8 +102,8 @@ fn turn_point(alloc: Global, prices: &[i128], rows: &[Row]) -> Result<Nearest, A
     reduced(alloc, near)
 }
 
-// A number for each bidder from one for each winner: 0 for losers.
-fn for_bidders(alloc: Global, winners: &Choice, at: &[i128]) -> Result<Vec<i128>, AllocError>
+/// A number for each bidder from one for each winner in order: 0 for losers. The only error is want of memory.
+pub fn for_bidders(alloc: Global, winners: &Choice, at: &[i128]) -> Result<Vec<i128>, AllocError>
     requires { length at.now ≡ winners_in winners.now }
     ensures { IfOk result (λ v. v.items ≡ Winners.for_bidders winners.now at.now) }
 {

@@ -6,5 +6,5 @@ mod pricing;
 mod tests;
 mod winners;
 
-pub use pricing::vickrey;
+pub use pricing::{vickrey, vickrey_from};
 pub use winners::Vickrey;

@@ -61,12 +61,29 @@ pub fn vickrey(alloc: Global, book: &BidBook, winners: &Choice) -> Result<Vickre
     ensures tables { IfOk result (λ v. AreTablesWithout book.now (winners_after 0 winners.now) v.tables) }
 {
     let whole = plain_table(alloc, book)?;
+    let alone = vickrey_from(alloc, book, winners, &whole)?;
+    Ok(alone)
+}
+
+/// The winners of a book, each alone, as `vickrey` gives them, from the table of all bids that the caller has already.
+pub fn vickrey_from(
+    alloc: Global,
+    book: &BidBook,
+    winners: &Choice,
+    whole: &ValueTable,
+) -> Result<Vickrey, AllocError>
+    requires winners { IsWinning (market_of book.now) winners.now }
+    requires whole { IsTableOf book.now whole.now }
+    requires plain { IsPlain whole.now }
+    ensures singles { IfOk result (λ v. AreSingles (market_of book.now) winners.now v.singles) }
+    ensures tables { IfOk result (λ v. AreTablesWithout book.now (winners_after 0 winners.now) v.tables) }
+{
     let mut singles = Vec::new(alloc);
     let mut tables = Vec::new(alloc);
     for k in 0..book.bidders() {
         let j = k as u16 + 1;
         if winners.number(j) != 0 {
-            let one = without_winner(alloc, book, winners, &whole, j)?;
+            let one = without_winner(alloc, book, winners, whole, j)?;
             singles.push(one.single)?;
             tables.push(one.table)?;
         }

@@ -6,7 +6,7 @@ use Rattle.row_laws.specs.Winners.{winners_in}
 use Rattle.core_price.specs.Rows.{asked_choices, asked_rows, block_choices, block_rows, prices_of}
 use Rattle.core_price.specs.SoFar.{CanTurn, HasEnded}
 use Rattle.core_price.proofs.OutcomeLaws.{outcome, range, run}
-use Rattle.core_price.proofs.PricedLaws.{are-first, are-kept, are-second, in-order, long-at, lowest-kept, sum-first}
+use Rattle.core_price.proofs.PricedLaws.{are-first, are-kept, are-second, few-kept, in-order, long-at, lowest-kept, seconds-below, sum-first}
 use Rattle.core_price.proofs.StartLaws.{can-turn, count, start}
 use Rattle.core_price.proofs.StopLaws.{memory-stop}
 use Rattle.core_price.proofs.price.Goals as goal
@@ -216,6 +216,38 @@ returns-clause-lowest g c =
     let d : to_z w128 (of_z w128 c.in_ok-near.field-0.near.den) ≡ c.in_ok-near.field-0.near.den = to_z-of_z w128 c.in_ok-near.field-0.near.den (search rules) in
     let ended : HasEnded m z prices rows choices e.turns e.near.den e.near.at e.near.first e.near.second = rw (c.deref.ensures.value, c.in_ok-prices.ensures) at c.in_ok-near.ensures.ended in
     rw d (lowest-kept m lawful z win prices can rows choices e.turns e.near.den e.near.at e.near.first e.near.second ended c.in_ok-rows.rows c.in_ok-rows.ensures)
+
+pub returns-clause-few_rows : goal.returns-clause-few_rows
+returns-clause-few_rows g c =
+    let m = g.C.Chooser.market c.args.chooser.now in
+    let z = g.C.Chooser.chosen c.args.chooser.now in
+    let lawful = g.met.C.Chooser.lawful c.args.chooser.now in
+    let win = g.met.C.Chooser.winning c.args.chooser.now in
+    let singles = c.args.singles.now in
+    let few : winners_in z ≤ 6 = omega (arith, c.if-singles-gt-MOST_WINNERS.false, count m lawful z win singles c.requires.singles) in
+    let prices = prices_of singles in
+    let can : CanTurn m z prices = can-turn m lawful z win singles c.requires.singles few c.requires.worth c.requires.members in
+    let e = c.in_ok-near.field-0 in
+    let rows = e.asked.rows.items in
+    let choices = e.asked.choices.items in
+    let ended : HasEnded m z prices rows choices e.turns e.near.den e.near.at e.near.first e.near.second = rw (c.deref.ensures.value, c.in_ok-prices.ensures) at c.in_ok-near.ensures.ended in
+    few-kept m lawful z win prices can rows choices e.turns e.near.den e.near.at e.near.first e.near.second ended c.in_ok-rows.rows c.in_ok-rows.ensures
+
+pub returns-clause-small_seconds : goal.returns-clause-small_seconds
+returns-clause-small_seconds g c =
+    let m = g.C.Chooser.market c.args.chooser.now in
+    let z = g.C.Chooser.chosen c.args.chooser.now in
+    let lawful = g.met.C.Chooser.lawful c.args.chooser.now in
+    let win = g.met.C.Chooser.winning c.args.chooser.now in
+    let singles = c.args.singles.now in
+    let few : winners_in z ≤ 6 = omega (arith, c.if-singles-gt-MOST_WINNERS.false, count m lawful z win singles c.requires.singles) in
+    let prices = prices_of singles in
+    let can : CanTurn m z prices = can-turn m lawful z win singles c.requires.singles few c.requires.worth c.requires.members in
+    let e = c.in_ok-near.field-0 in
+    let rows = e.asked.rows.items in
+    let choices = e.asked.choices.items in
+    let ended : HasEnded m z prices rows choices e.turns e.near.den e.near.at e.near.first e.near.second = rw (c.deref.ensures.value, c.in_ok-prices.ensures) at c.in_ok-near.ensures.ended in
+    seconds-below m lawful z win prices can rows choices e.turns e.near.den e.near.at e.near.first e.near.second ended c.in_ok-rows.rows c.in_ok-rows.ensures
 
 pub returns-clause-range : goal.returns-clause-range
 returns-clause-range g c =

@@ -14,5 +14,5 @@ returns-clause-answer c =
     let found = c.in_ok-near.ensures in
     let weights : c.deref.result.now ≡ replicate (length prices) 1 = c.deref.ensures.value ∙ c.in_ok-weights.ensures.items_if_clones_equal (λ y e. e) in
     let whole : IsAnswer prices rows near.den near.at near.first near.second =
-    answer-of prices c.deref.result.now rows near.den near.at near.first near.second weights found.lengths found.meets found.first found.first_sums found.second found.denominator found.small.0 in
+    answer-of prices c.deref.result.now rows near.den near.at near.first near.second weights found.lengths found.meets found.first found.first_sums found.second found.denominator found.small.0 found.small.2 found.few in
     MatchResult-weaker c.reduced.result c.reduced.ensures.same (λ p h. answer-divided prices rows h.0 p.den p.at p.first p.second near.den near.at near.first near.second h.1 whole) (λ e q. q)
