@@ -1,0 +1,13 @@
+mod Fronts
+mod Signs
+mod FieldRuns
+mod Words
+mod PlanSteps
+mod SmallNumbers
+mod JustThese
+mod TableSteps
+mod PartSteps
+mod RowSteps
+mod StageSteps
+mod WholeText
+pub mod Written

@@ -1,0 +1,115 @@
+-- The stages of a certificate's text, from what is read of each.
+use Rattle.std.proofs.Common.{◌≡◌, ℕ, List, [], ◌∷◌, ◌++◌, length, sym, subst}
+use Rattle.std.specs.Prelude.{ℤ, pos, codes}
+use Rattle.cert_form.specs.Certificate.{WithoutValue, RowValue}
+use Rattle.cert_form.specs.Lines.{Line, Kind, kind, these, signed, headed, counted, table_plan, parts_plan, rows_plan}
+use Rattle.cert_form.specs.CertText.{line, choice_line, as_numbers, table_lines, part_lines, row_lines}
+use Rattle.cert_text.specs.StagePlans.{opening_plan, opening_lines, winning_kind, winning_lines, payment_plan, payment_lines, closing_plan, closing_lines}
+use Rattle.cert_text.specs.Readers.{AreChosen, Leads, Halts, LeadsChosen, HaltsChosen}
+use Rattle.cert_text.specs.declared.stop.CertStop.{CertStop}
+use Rattle.cert_text.proofs.PlanSteps.{leads_on, leads_then, halts_before, halts_later, halts_then}
+
+abbrev cert_kind : Kind
+cert_kind = kind (codes "cert") (these (pos 1 ∷ []))
+
+abbrev den_kind : Kind
+den_kind = kind (codes "den") (signed 1)
+
+abbrev value_kind : Kind
+value_kind = kind (codes "value") (signed 1)
+
+abbrev cert_line : Line
+cert_line = line (codes "cert") (pos 1 ∷ [])
+
+abbrev den_line : ℤ → Line
+den_line den = line (codes "den") (den ∷ [])
+
+abbrev value_line : ℤ → Line
+value_line value = line (codes "value") (value ∷ [])
+
+module _ (bytes : List ℕ) where
+  pub opening_first : (stop : CertStop) → Halts bytes 0 (cert_kind ∷ []) stop → Halts bytes 0 opening_plan stop
+  opening_first stop h = halts_before bytes 0 (cert_kind ∷ []) stop (den_kind ∷ value_kind ∷ []) h
+
+  module _ (n1 : ℕ) (a : Leads bytes 0 (cert_kind ∷ []) n1 [] (cert_line ∷ [])) where
+    pub opening_second : (stop : CertStop) → Halts bytes n1 (den_kind ∷ []) stop → Halts bytes 0 opening_plan stop
+    opening_second stop h = halts_then bytes 0 (cert_kind ∷ []) n1 (cert_line ∷ []) (den_kind ∷ value_kind ∷ []) stop a (halts_before bytes n1 (den_kind ∷ []) stop (value_kind ∷ []) h)
+
+    module _ (den : ℤ) (n2 : ℕ) (b : Leads bytes n1 (den_kind ∷ []) n2 [] (den_line den ∷ [])) where
+      pub opening_third : (stop : CertStop) → Halts bytes n2 (value_kind ∷ []) stop → Halts bytes 0 opening_plan stop
+      opening_third stop h = halts_then bytes 0 (cert_kind ∷ []) n1 (cert_line ∷ []) (den_kind ∷ value_kind ∷ []) stop a (halts_then bytes n1 (den_kind ∷ []) n2 (den_line den ∷ []) (value_kind ∷ []) stop b h)
+
+      pub opening_done : (value : ℤ) (n3 : ℕ) → Leads bytes n2 (value_kind ∷ []) n3 [] (value_line value ∷ []) → Leads bytes 0 opening_plan n3 [] (opening_lines den value)
+      opening_done value n3 c = leads_then bytes 0 (cert_kind ∷ []) n1 (cert_line ∷ []) (den_kind ∷ value_kind ∷ []) n3 (den_line den ∷ value_line value ∷ []) a
+          (leads_then bytes n1 (den_kind ∷ []) n2 (den_line den ∷ []) (value_kind ∷ []) n3 (value_line value ∷ []) b c)
+
+abbrev named_plan : List ℕ → ℕ → ℕ → List Kind
+named_plan word bidders states = kind word (these []) ∷ table_plan bidders states
+
+abbrev named_lines : List ℕ → List (List ℤ) → List Line
+named_lines word table = line word [] ∷ table_lines table
+
+pub head_choice : (bidders states : ℕ) → AreChosen bidders (headed bidders states)
+head_choice bidders states = record { to = λ ns f. f; from = λ ns f. f }
+
+module _ (bytes : List ℕ) (place bidders states : ℕ) where
+  pub winning_first : (stop : CertStop) → HaltsChosen bytes place bidders stop → Halts bytes place (winning_kind bidders states ∷ []) stop
+  winning_first stop h = h (headed bidders states) (head_choice bidders states)
+
+  module _ (choice : List ℕ) (n1 : ℕ) (a : LeadsChosen bytes place bidders n1 choice) where
+    abbrev left : List Kind
+    left = named_plan (codes "table") bidders states ++ parts_plan bidders states 1 (as_numbers choice)
+
+    head : Leads bytes place (winning_kind bidders states ∷ []) n1 left (choice_line choice ∷ [])
+    head = a (headed bidders states) (head_choice bidders states)
+
+    pub winning_second : (stop : CertStop) → Halts bytes n1 (named_plan (codes "table") bidders states) stop → Halts bytes place (winning_kind bidders states ∷ []) stop
+    winning_second stop h = halts_later bytes place (winning_kind bidders states ∷ []) n1 left (choice_line choice ∷ []) stop head
+        (halts_before bytes n1 (named_plan (codes "table") bidders states) stop (parts_plan bidders states 1 (as_numbers choice)) h)
+
+    module _ (table : List (List ℤ)) (n2 : ℕ) (b : Leads bytes n1 (named_plan (codes "table") bidders states) n2 [] (named_lines (codes "table") table)) where
+      pub winning_third : (stop : CertStop) → Halts bytes n2 (parts_plan bidders states 1 (as_numbers choice)) stop → Halts bytes place (winning_kind bidders states ∷ []) stop
+      winning_third stop h = halts_later bytes place (winning_kind bidders states ∷ []) n1 left (choice_line choice ∷ []) stop head
+          (halts_then bytes n1 (named_plan (codes "table") bidders states) n2 (named_lines (codes "table") table) (parts_plan bidders states 1 (as_numbers choice)) stop b h)
+
+      pub winning_done : (withouts : List WithoutValue) (n3 : ℕ) → Leads bytes n2 (parts_plan bidders states 1 (as_numbers choice)) n3 [] (part_lines withouts) → Leads bytes place (winning_kind bidders states ∷ []) n3 [] (winning_lines choice table withouts)
+      winning_done withouts n3 c = leads_on bytes place (winning_kind bidders states ∷ []) n1 left (choice_line choice ∷ []) n3 [] (named_lines (codes "table") table ++ part_lines withouts) head
+          (leads_then bytes n1 (named_plan (codes "table") bidders states) n2 (named_lines (codes "table") table) (parts_plan bidders states 1 (as_numbers choice)) n3 (part_lines withouts) b c)
+
+  abbrev pay_kind : Kind
+  pay_kind = kind (codes "pay") (signed bidders)
+
+  abbrev count_kind : Kind
+  count_kind = kind (codes "rows") (counted bidders)
+
+  abbrev count_line : ℕ → Line
+  count_line count = line (codes "rows") (pos count ∷ [])
+
+  pub payment_first : (stop : CertStop) → Halts bytes place (pay_kind ∷ []) stop → Halts bytes place (payment_plan bidders) stop
+  payment_first stop h = halts_before bytes place (pay_kind ∷ []) stop (count_kind ∷ []) h
+
+  module _ (pay : List ℤ) (n1 : ℕ) (a : Leads bytes place (pay_kind ∷ []) n1 [] (line (codes "pay") pay ∷ [])) where
+    pub payment_second : (stop : CertStop) → Halts bytes n1 (count_kind ∷ []) stop → Halts bytes place (payment_plan bidders) stop
+    payment_second stop h = halts_then bytes place (pay_kind ∷ []) n1 (line (codes "pay") pay ∷ []) (count_kind ∷ []) stop a h
+
+    module _ (count n2 : ℕ) (b : Leads bytes n1 (count_kind ∷ []) n2 (rows_plan bidders count) (count_line count ∷ [])) where
+      pub payment_third : (stop : CertStop) → Halts bytes n2 (rows_plan bidders count) stop → Halts bytes place (payment_plan bidders) stop
+      payment_third stop h = payment_second stop (halts_later bytes n1 (count_kind ∷ []) n2 (rows_plan bidders count) (count_line count ∷ []) stop b h)
+
+      pub payment_done : (rows : List RowValue) (n3 : ℕ) → length rows ≡ count → Leads bytes n2 (rows_plan bidders count) n3 [] (row_lines rows) → Leads bytes place (payment_plan bidders) n3 [] (payment_lines pay rows)
+      payment_done rows n3 many c = subst (λ (n : ℕ). Leads bytes place (payment_plan bidders) n3 [] (line (codes "pay") pay ∷ count_line n ∷ row_lines rows)) (sym many)
+          (leads_then bytes place (pay_kind ∷ []) n1 (line (codes "pay") pay ∷ []) (count_kind ∷ []) n3 (count_line count ∷ row_lines rows) a
+          (leads_on bytes n1 (count_kind ∷ []) n2 (rows_plan bidders count) (count_line count ∷ []) n3 [] (row_lines rows) b c))
+
+  abbrev end_kind : Kind
+  end_kind = kind (codes "end") (these [])
+
+  pub closing_first : (stop : CertStop) → Halts bytes place (named_plan (codes "lowered") bidders states) stop → Halts bytes place (closing_plan bidders states) stop
+  closing_first stop h = halts_before bytes place (named_plan (codes "lowered") bidders states) stop (end_kind ∷ []) h
+
+  module _ (table : List (List ℤ)) (n1 : ℕ) (a : Leads bytes place (named_plan (codes "lowered") bidders states) n1 [] (named_lines (codes "lowered") table)) where
+    pub closing_second : (stop : CertStop) → Halts bytes n1 (end_kind ∷ []) stop → Halts bytes place (closing_plan bidders states) stop
+    closing_second stop h = halts_then bytes place (named_plan (codes "lowered") bidders states) n1 (named_lines (codes "lowered") table) (end_kind ∷ []) stop a h
+
+    pub closing_done : (n2 : ℕ) → Leads bytes n1 (end_kind ∷ []) n2 [] (line (codes "end") [] ∷ []) → Leads bytes place (closing_plan bidders states) n2 [] (closing_lines table)
+    closing_done n2 b = leads_then bytes place (named_plan (codes "lowered") bidders states) n1 (named_lines (codes "lowered") table) (end_kind ∷ []) n2 (line (codes "end") [] ∷ []) a b

@@ -1,0 +1,11 @@
+use Rattle.std.proofs.Common.{◌≡◌, take}
+use Rattle.cert_form.proofs.Numerals.{read_on, AreDigits}
+use Rattle.cert_text.specs.Fields.{IsTally}
+use Rattle.cert_text.proofs.numbers.read_natural.Given as goal
+
+abbrev pub invariant-loop-c : goal.invariant-loop-c
+invariant-loop-c l = record {
+  here : l.stop ≡ l.c-index;
+  digits : AreDigits (take l.stop l.text);
+  tally : IsTally l.tally (read_on 0 (take l.stop l.text));
+}

@@ -1,0 +1,8 @@
+pub mod Parts
+pub mod CertValues
+pub mod Stops
+pub mod Fields
+pub mod Readers
+pub mod PartReads
+pub mod StagePlans
+pub mod Written

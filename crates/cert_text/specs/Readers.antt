@@ -1,0 +1,72 @@
+-- What a line is read as, and where the reader then stands.
+use Rattle.std.specs.Prelude.{◌≡◌, ℕ, ◌+◌, ◌≤◌, ◌<◌, Bool, false, List, [], ◌∷◌, codes, ◌++◌, length, take, drop, ℤ}
+use Rattle.line_text.specs.LineText.{IsLine}
+use Rattle.cert_form.specs.Numeral.{numbers_text}
+use Rattle.cert_form.specs.Lines.{Line, Kind, Numbers, chosen, counted, kind, any_out, FitNumbers, AreNumbers, after_numbers}
+use Rattle.cert_form.specs.CertText.{as_numbers, choice_line}
+use Rattle.cert_form.specs.Reading.{Reached}
+use Rattle.cert_text.specs.Fields.{HasNumbers}
+use Rattle.cert_text.specs.Stops.{StopsAt}
+use Rattle.cert_text.specs.declared.stop.CertStop.{CertStop}
+
+-- the line is the word and numbers, of which this is kept
+pub record HasLine (text word : List ℕ) (items : List ℤ) (beyond : Bool) : Type 0 where
+  pub front : take (length word) text ≡ word
+  pub rest : HasNumbers (drop (length word) text) items beyond
+
+-- at the place stands a line of the word and numbers, of which this is kept
+pub record IsLineAt (bytes : List ℕ) (place : ℕ) (word : List ℕ) (items : List ℤ) (beyond : Bool) (next : ℕ) : Type 0 where
+  pub size : ℕ
+  pub is_line : IsLine (take size (drop place bytes))
+  pub feed : drop size (drop place bytes) ≡ 10 ∷ drop (size + 1) (drop place bytes)
+  pub inside : size < length (drop place bytes)
+  pub next_is : next ≡ place + (size + 1)
+  pub numbers : List ℤ
+  pub spelled : take size (drop place bytes) ≡ word ++ numbers_text numbers
+  pub count : length items ≡ length numbers
+  pub out : any_out numbers ≡ beyond
+  pub same : beyond ≡ false → items ≡ numbers
+
+-- With these kinds of lines to come at the place, the lines from there on lead to the next place, where those kinds are left.
+pub record Leads (bytes : List ℕ) (place : ℕ) (kinds : List Kind) (next : ℕ) (left : List Kind) (read : List Line) : Type 0 where
+  pub leads : (b s : ℕ) (plan : List Kind) (items : List Line) → Reached b s bytes place (kinds ++ plan) items → Reached b s bytes next (left ++ plan) (items ++ read)
+
+-- With these kinds of lines to come at the place, this is the stop.
+pub record Halts (bytes : List ℕ) (place : ℕ) (kinds : List Kind) (stop : CertStop) : Type 0 where
+  pub halts : (b s : ℕ) (plan : List Kind) (items : List Line) → Reached b s bytes place (kinds ++ plan) items → StopsAt b s bytes stop
+
+-- With nothing to come at the place, this is the stop.
+abbrev pub HaltsAtEnd : List ℕ → ℕ → CertStop → Type 0
+HaltsAtEnd bytes place stop = (b s : ℕ) (items : List Line) → Reached b s bytes place [] items → StopsAt b s bytes stop
+
+-- a line of the word that is to come at the place isn't there
+abbrev pub IsRefused : List ℕ → ℕ → List ℕ → CertStop → Type 0
+IsRefused bytes place word stop = (n : Numbers) → Halts bytes place (kind word n ∷ []) stop
+
+-- numbers of this kind are those of a choice
+pub record AreChosen (bidders : ℕ) (n : Numbers) : Type 0 where
+  pub to : (ns : List ℤ) → FitNumbers n ns → FitNumbers (chosen bidders) ns
+  pub from : (ns : List ℤ) → FitNumbers (chosen bidders) ns → FitNumbers n ns
+
+-- a choice of so many bidders is read at the place, whether it is the head's or another
+abbrev pub LeadsChosen : List ℕ → ℕ → ℕ → ℕ → List ℕ → Type 0
+LeadsChosen bytes place bidders next choice = (n : Numbers) → AreChosen bidders n → Leads bytes place (kind (codes "choice") n ∷ []) next (after_numbers n (as_numbers choice)) (choice_line choice ∷ [])
+
+abbrev pub HaltsChosen : List ℕ → ℕ → ℕ → CertStop → Type 0
+HaltsChosen bytes place bidders stop = (n : Numbers) → AreChosen bidders n → Halts bytes place (kind (codes "choice") n ∷ []) stop
+
+-- a line of the word and numbers of 0 to 65,535 that is to come at the place isn't there
+abbrev pub HaltsSmall : List ℕ → ℕ → List ℕ → CertStop → Type 0
+HaltsSmall bytes place word stop = (n : Numbers) → ((ns : List ℤ) → FitNumbers n ns → AreNumbers 65535 ns) → Halts bytes place (kind word n ∷ []) stop
+
+abbrev pub AreNotSmall : List ℤ → Type 0
+AreNotSmall items = AreNumbers 65535 items → ⊥
+
+abbrev pub AreSmall : List ℤ → List ℕ → Type 0
+AreSmall items ns = (as_numbers ns ≡ items) × AreNumbers 65535 items
+
+abbrev pub IsNoCount : ℕ → List ℕ → Type 0
+IsNoCount bidders ns = FitNumbers (counted bidders) (as_numbers ns) → ⊥
+
+abbrev pub IsCount : ℕ → List ℕ → ℕ → Type 0
+IsCount bidders ns count = (ns ≡ count ∷ []) × (count ≤ 10) × (0 < count → 0 < bidders)

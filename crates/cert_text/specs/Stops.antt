@@ -1,0 +1,12 @@
+-- Why bytes are not read as a certificate.
+use Rattle.std.specs.Prelude.{ℕ, List}
+use Rattle.line_text.specs.LineText.{faulty, beyond}
+use Rattle.cert_form.specs.Says.{CertSays}
+use Rattle.cert_text.specs.declared.stop.CertStop.{CertStop}
+use Rattle.cert_text.specs.declared.stop.CertStop.TheVariants.{Form, Range, Memory}
+
+-- what the bytes say, for so many bidders and states; want of memory says nothing of them
+abbrev pub StopsAt : ℕ → ℕ → List ℕ → CertStop → Type 0
+StopsAt bidders states bytes (Form place) = CertSays bidders states bytes (faulty place)
+StopsAt bidders states bytes (Range place) = CertSays bidders states bytes (beyond place)
+StopsAt bidders states bytes Memory = Unit {0}

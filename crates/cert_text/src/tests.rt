@@ -1,0 +1,195 @@
+use crate::{CertStop, Shape, read_cert, write_cert};
+use std::alloc::{AllocError, Global};
+use std::test::Fail;
+
+/// A certificate for five bidders and four states: 476 bytes, of which the last line has 4.
+const SAMPLE: &str = "cert 1\nden 1\nvalue 48\nchoice 1 1 0 0 0\ntable\n\
+    t 0 20 28 48\nt 0 20 14 34\nt 0 12 14 32\nt 0 12 14 26\nt 0 12 0 12\nt 0 0 0 0\n\
+    without 1\nchoice 0 1 0 1 0\ntable\n\
+    t 0 20 14 34\nt 0 20 14 34\nt 0 12 14 32\nt 0 12 14 26\nt 0 12 0 12\nt 0 0 0 0\n\
+    without 2\nchoice 1 0 0 0 1\ntable\n\
+    t 0 12 28 40\nt 0 12 14 32\nt 0 12 14 32\nt 0 12 14 26\nt 0 12 0 12\nt 0 0 0 0\n\
+    pay 17 15 0 0 0\nrows 1\nrow 1 2\nmult 1 3\nchoice 0 0 1 0 0\nlowered\n\
+    t 0 15 17 32\nt 0 15 14 32\nt 0 12 14 32\nt 0 12 14 26\nt 0 12 0 12\nt 0 0 0 0\nend\n";
+
+/// How many bidders and states the sample is for.
+const SAMPLE_SHAPE: Shape = Shape {
+    bidders: 5,
+    states: 4,
+};
+
+/// No bidder, one state.
+const NOBODY: Shape = Shape {
+    bidders: 0,
+    states: 1,
+};
+
+/// Two bidders, one state.
+const TWO: Shape = Shape {
+    bidders: 2,
+    states: 1,
+};
+
+/// The head of a certificate for two bidders and one state, of which the first wins: 50 bytes.
+const HEAD: &str = "cert 1\nden 1\nvalue 0\nchoice 1 0\ntable\nt 0\nt 0\nt 0\n";
+
+/// The same head, and the part without the first bidder: 89 bytes.
+const PARTS: &str = "cert 1\nden 1\nvalue 0\nchoice 1 0\ntable\nt 0\nt 0\nt 0\n\
+    without 1\nchoice 0 0\ntable\nt 0\nt 0\nt 0\n";
+
+/// The same up to the count of one row: 104 bytes.
+const COUNT: &str = "cert 1\nden 1\nvalue 0\nchoice 1 0\ntable\nt 0\nt 0\nt 0\n\
+    without 1\nchoice 0 0\ntable\nt 0\nt 0\nt 0\npay 0 0\nrows 1\n";
+
+// Where the reader stops at the text of both parts, if it stops.
+fn stop_at(
+    alloc: Global,
+    shape: Shape,
+    front: &str,
+    rest: &str,
+) -> Result<Option<CertStop>, AllocError> {
+    let text = format!(in alloc; "{front}{rest}")?;
+    Ok(read_cert(alloc, text.as_bytes(), shape).err())
+}
+
+#[test]
+fn tells_what_a_certificate_holds(rt: HostRuntime) {
+    assert_eq!(rt; SAMPLE.len(), 476);
+    let Ok(cert) = read_cert(rt.alloc(), SAMPLE.as_bytes(), SAMPLE_SHAPE) else {
+        panic!(rt; "this is a certificate");
+    };
+    assert_eq!(rt; cert.den, 1);
+    assert_eq!(rt; cert.value, 48);
+    assert!(rt; cert.choice.numbers() == [1, 1, 0, 0, 0].as_slice());
+    assert_eq!(rt; cert.withouts.items().len(), 2);
+    assert!(rt; cert.pay.items() == [17i128, 15, 0, 0, 0].as_slice());
+    assert_eq!(rt; cert.lowered.lines(), 6);
+    assert!(rt; cert.lowered.line(0) == [0i128, 15, 17, 32].as_slice());
+    let [row] = cert.rows.items() else {
+        panic!(rt; "there is one row");
+    };
+    assert!(rt; row.members.items() == [1, 2].as_slice());
+    assert_eq!(rt; row.first, 1);
+    assert_eq!(rt; row.second, 3);
+    assert!(rt; row.choice.numbers() == [0, 0, 1, 0, 0].as_slice());
+}
+
+#[test]
+fn writes_back_what_was_read(rt: HostRuntime) -> Result<(), Fail> {
+    let Ok(cert) = read_cert(rt.alloc(), SAMPLE.as_bytes(), SAMPLE_SHAPE) else {
+        panic!(rt; "this is a certificate");
+    };
+    let text = write_cert(rt.alloc(), &cert)?;
+    assert!(rt; text.items() == SAMPLE.as_bytes());
+    Ok(())
+}
+
+#[test]
+fn names_the_last_line_where_it_is_cut(rt: HostRuntime) {
+    let bytes = SAMPLE.as_bytes();
+    assert_eq!(rt; bytes.len(), 476);
+    let stop = read_cert(rt.alloc(), &bytes[..474], SAMPLE_SHAPE).err();
+    assert_eq!(rt; stop, Some(CertStop::Form(472)));
+}
+
+#[test]
+fn names_the_first_faulty_line_of_the_head(rt: HostRuntime) -> Result<(), Fail> {
+    let faulty = [
+        ("", CertStop::Form(0)),
+        ("cert 1", CertStop::Form(0)),
+        ("cert 2\nden 1\n", CertStop::Form(0)),
+        ("cert 1\nden 01\n", CertStop::Form(7)),
+        ("cert 1\nden -0\n", CertStop::Form(7)),
+        ("cert 1\nden  1\n", CertStop::Form(7)),
+        ("cert 1\nden 1 \n", CertStop::Form(7)),
+        (
+            "cert 1\nden 1329227995784915872903807060280344576\n",
+            CertStop::Range(7),
+        ),
+        (
+            "cert 1\nden -1329227995784915872903807060280344576\n",
+            CertStop::Range(7),
+        ),
+        (
+            "cert 1\nden 1329227995784915872903807060280344576 1\n",
+            CertStop::Form(7),
+        ),
+        (
+            "cert 1\nden -1329227995784915872903807060280344575\n",
+            CertStop::Form(50),
+        ),
+        ("cert 1\nden 1\nvalue 0\nchoice 0\n", CertStop::Form(21)),
+    ];
+    for (text, stop) in faulty {
+        assert_eq!(rt;
+            stop_at(rt.alloc(), NOBODY, text, "")?,
+            Some(stop),
+            "{text}"
+        );
+    }
+    Ok(())
+}
+
+#[test]
+fn reads_a_certificate_of_nobody(rt: HostRuntime) -> Result<(), Fail> {
+    let pay = "cert 1\nden 1\nvalue 0\nchoice\ntable\nt 0\npay\n";
+    let rest = "rows 0\nlowered\nt 0\nend\n";
+    assert_eq!(rt; stop_at(rt.alloc(), NOBODY, pay, rest)?, None);
+    let faulty = [
+        ("rows 1\n", 42),
+        ("rows 11\n", 42),
+        ("rows 0\nlowered\nt 0\nend", 61),
+        ("rows 0\nlowered\nt 0\nend\n\n", 65),
+        ("rows 0\nlowered\nt 0\nend\nx", 65),
+    ];
+    for (rest, place) in faulty {
+        assert_eq!(rt;
+            stop_at(rt.alloc(), NOBODY, pay, rest)?,
+            Some(CertStop::Form(place)),
+            "{rest}"
+        );
+    }
+    Ok(())
+}
+
+#[test]
+fn names_the_first_faulty_line_behind_the_head(rt: HostRuntime) -> Result<(), Fail> {
+    let faulty = [
+        (HEAD, "t 0\n", CertStop::Form(50)),
+        (HEAD, "without 2\n", CertStop::Form(50)),
+        (HEAD, "pay 0 0\n", CertStop::Form(50)),
+        (PARTS, "without 2\n", CertStop::Form(89)),
+        (PARTS, "pay 0\n", CertStop::Form(89)),
+        (PARTS, "pay 0 0\nrows 11\n", CertStop::Form(97)),
+        (PARTS, "pay 0 0\nrows 10\n", CertStop::Form(105)),
+        (COUNT, "row\n", CertStop::Form(104)),
+        (COUNT, "row 0\n", CertStop::Form(104)),
+        (COUNT, "row 3\n", CertStop::Form(104)),
+        (COUNT, "row 1 1\n", CertStop::Form(104)),
+        (COUNT, "row 2 1\n", CertStop::Form(104)),
+        (COUNT, "row 1 2\nmult 1\n", CertStop::Form(112)),
+        (
+            COUNT,
+            "row 1 2\nmult 1 1329227995784915872903807060280344576\n",
+            CertStop::Range(112),
+        ),
+        (
+            COUNT,
+            "row 1 2\nmult 1 3\nchoice 65536 0\n",
+            CertStop::Form(121),
+        ),
+        (
+            COUNT,
+            "row 1 2\nmult 1 3\nchoice 65535 0\n",
+            CertStop::Form(136),
+        ),
+    ];
+    for (front, rest, stop) in faulty {
+        assert_eq!(rt;
+            stop_at(rt.alloc(), TWO, front, rest)?,
+            Some(stop),
+            "{rest}"
+        );
+    }
+    Ok(())
+}

@@ -1,0 +1,172 @@
+// From a certificate to its text.
+ghost use Rattle.std.specs.Prelude.{◌≡◌, ◌≤◌, ◌<◌, ◌∷◌, ◌++◌, [], length, take, IfOk, OnOk};
+ghost use Rattle.std.specs.List.{AllByRecursion};
+ghost use Rattle.cert_form.specs.CertText.{as_numbers, choice_line, line, AllInRange, InRange};
+ghost use Rattle.cert_form.specs.Numeral.{numbers_text};
+ghost use Rattle.cert_form.specs.Says.{cert_text};
+ghost use Rattle.cert_text.specs.CertValues.{cert_value};
+ghost use Rattle.cert_text.specs.Written.{lines_of_head, lines_of_part, lines_of_parts, lines_of_row, lines_of_rows, lines_of_table, Adds, ArePartsInRange, IsRowInRange, IsTableInRange};
+
+use crate::{CertRow, Certificate, WithoutPart};
+use choices::{Choice, Grid};
+use itoa::Buffer;
+use std::alloc::{AllocError, Global};
+use wide_num::Text;
+
+/// The one text of a certificate. The only error is want of memory.
+pub fn write_cert(alloc: Global, cert: &Certificate) -> Result<Text, AllocError>
+    ensures { IfOk result (λ text. text ≡ cert_text (cert_value cert.now)) }
+{
+    let mut text = Text::new(alloc);
+    add_head(&mut text, cert)?;
+    add_table(&mut text, b"table", &cert.table)?;
+    add_parts(&mut text, cert.withouts.items())?;
+    add_signed_line(&mut text, b"pay", cert.pay.items())?;
+    add_rows(&mut text, cert.rows.items())?;
+    add_table(&mut text, b"lowered", &cert.lowered)?;
+    add_signed_line(&mut text, b"end", &[])?;
+    Ok(text)
+}
+
+// The version, the denominator, the value and the winning choice.
+fn add_head(text: &mut Text, cert: &Certificate) -> Result<(), AllocError>
+    requires { InRange cert.now.den × InRange cert.now.value }
+    ensures { OnOk result (Adds text.old text.new (lines_of_head cert.now)) }
+{
+    add_signed_line(text, b"cert", &[1])?;
+    add_signed_line(text, b"den", &[cert.den])?;
+    add_signed_line(text, b"value", &[cert.value])?;
+    add_choice(text, &cert.choice)?;
+    Ok(())
+}
+
+// The parts without each winner.
+fn add_parts(text: &mut Text, parts: &[WithoutPart]) -> Result<(), AllocError>
+    requires { ArePartsInRange parts.now }
+    ensures { OnOk result (Adds text.old text.new (lines_of_parts parts.now)) }
+{
+    for part in parts {
+        add_part(text, part)?;
+    }
+    Ok(())
+}
+
+fn add_part(text: &mut Text, part: &WithoutPart) -> Result<(), AllocError>
+    requires { IsTableInRange part.now.table }
+    ensures { OnOk result (Adds text.old text.new (lines_of_part part.now)) }
+{
+    add_number_line(text, b"without", &[part.winner])?;
+    add_choice(text, &part.choice)?;
+    add_table(text, b"table", &part.table)?;
+    Ok(())
+}
+
+// How many rows there are, and the rows.
+fn add_rows(text: &mut Text, rows: &[CertRow]) -> Result<(), AllocError>
+    requires few { length rows.now ≤ 10 }
+    requires range { AllByRecursion IsRowInRange rows.now }
+    ensures { OnOk result (Adds text.old text.new (lines_of_rows rows.now)) }
+{
+    add_signed_line(text, b"rows", &[rows.len() as i128])?;
+    for row in rows {
+        add_row(text, row)?;
+    }
+    Ok(())
+}
+
+fn add_row(text: &mut Text, row: &CertRow) -> Result<(), AllocError>
+    requires { IsRowInRange row.now }
+    ensures { OnOk result (Adds text.old text.new (lines_of_row row.now)) }
+{
+    add_number_line(text, b"row", row.members.items())?;
+    add_signed_line(text, b"mult", &[row.first, row.second])?;
+    add_choice(text, &row.choice)?;
+    Ok(())
+}
+
+// The word of a table and its lines.
+fn add_table(text: &mut Text, word: &[u8], table: &Grid) -> Result<(), AllocError>
+    requires { IsTableInRange table.now }
+    ensures { OnOk result (Adds text.old text.new (lines_of_table word.now table.now)) }
+{
+    add_signed_line(text, word, &[])?;
+    for i in 0..table.lines() {
+        add_signed_line(text, b"t", table.line(i))?;
+    }
+    Ok(())
+}
+
+fn add_choice(text: &mut Text, choice: &Choice) -> Result<(), AllocError>
+    ensures { OnOk result (Adds text.old text.new (choice_line choice.now ∷ [])) }
+{
+    add_number_line(text, b"choice", choice.numbers())?;
+    Ok(())
+}
+
+// A word and numbers with their signs.
+fn add_signed_line(text: &mut Text, word: &[u8], numbers: &[i128]) -> Result<(), AllocError>
+    requires { AllInRange numbers.now }
+    ensures { OnOk result (Adds text.old text.new (line word.now numbers.now ∷ [])) }
+{
+    text.add(word)?;
+    add_signed_numbers(text, numbers)?;
+    text.push(b'\n')?;
+    Ok(())
+}
+
+// A word and numbers of bidders or bids.
+fn add_number_line(text: &mut Text, word: &[u8], numbers: &[u16]) -> Result<(), AllocError>
+    ensures { OnOk result (Adds text.old text.new (line word.now (as_numbers numbers.now) ∷ [])) }
+{
+    text.add(word)?;
+    add_numbers(text, numbers)?;
+    text.push(b'\n')?;
+    Ok(())
+}
+
+// Numbers with their signs, each behind one space.
+fn add_signed_numbers(text: &mut Text, numbers: &[i128]) -> Result<(), AllocError>
+    requires { AllInRange numbers.now }
+    ensures { OnOk result (text.new ≡ text.old ++ numbers_text numbers.now) }
+{
+    let mut done = 0;
+    while done < numbers.len() {
+        done += add_run(text, &numbers[done..])?;
+    }
+    Ok(())
+}
+
+// The first numbers, as far as they are equal; how many these are. Entries of tables often are, so digits are worked out once.
+fn add_run(text: &mut Text, numbers: &[i128]) -> Result<usize, AllocError>
+    requires range { AllInRange numbers.now }
+    requires some { 0 < length numbers.now }
+    ensures added { IfOk result (λ n. text.new ≡ text.old ++ numbers_text (take n numbers.now)) }
+    ensures count { IfOk result (λ n. (0 < n) × (n ≤ length numbers.now)) }
+{
+    let first = numbers[0];
+    let mut buffer = Buffer::new();
+    let digits = buffer.format(first).as_bytes();
+    for (i, number) in numbers.iter().enumerate() {
+        if *number != first {
+            return Ok(i);
+        }
+        text.push(b' ')?;
+        text.add(digits)?;
+    }
+    Ok(numbers.len())
+}
+
+// Numbers of bidders or bids, each behind one space.
+fn add_numbers(text: &mut Text, numbers: &[u16]) -> Result<(), AllocError>
+    ensures { OnOk result (text.new ≡ text.old ++ numbers_text (as_numbers numbers.now)) }
+{
+    let mut buffer = Buffer::new();
+    for number in numbers {
+        text.push(b' ')?;
+        text.add(buffer.format(*number).as_bytes())?;
+    }
+    Ok(())
+}
+
+#[cfg(test)]
+mod tests;
