@@ -1,0 +1,19 @@
+-- A loop over the places of a test.
+use Rattle.std.specs.Prelude.{◌≡◌, ℕ, ◌+◌, ◌≤◌, ◌↔◌, Bool, true, false, IsTrue, Some, None}
+use Rattle.std.proofs.Common.{inl, inr, below_more}
+use Rattle.std.proofs.lemmas.Bool.{cases_lt, iff_false}
+use Rattle.cert_check.specs.Head.{HoldsBefore}
+use Rattle.cert_check.specs.Places.{IsFirstFailing}
+
+pub before-next : (P : ℕ → Type 0) (n : ℕ) (b : Bool) → HoldsBefore P n → (IsTrue b ↔ P n) → b ≡ true → HoldsBefore P (n + 1)
+before-next P n b before test passed = below_more P n before (test.0 passed)
+
+pub fails-here : (P : ℕ → Type 0) (n : ℕ) (b : Bool) → HoldsBefore P n → (IsTrue b ↔ P n) → b ≡ false → IsFirstFailing P (Some n)
+fails-here P n b before test failed = (iff_false test failed, before)
+
+pub holds-everywhere : (P : ℕ → Type 0) (n : ℕ) → HoldsBefore P n → ((place : ℕ) → n ≤ place → P place) → IsFirstFailing P None
+holds-everywhere P n before rest place =
+    elim (cases_lt place n) [
+      | inl lt ↦ before place lt
+      | inr past ↦ rest place past
+    ]

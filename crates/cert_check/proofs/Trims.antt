@@ -1,0 +1,34 @@
+-- A package without its last categories, of which it has nothing, fits and has its place as before.
+use Rattle.std.specs.Prelude.{◌≡◌, ℕ, zero, suc, ◌+◌, ◌*◌, ◌&&◌, true, nat_le, ◌==◌, List, [], ◌∷◌, take, refl}
+use Rattle.std.proofs.Common.{sym, ◌∙◌, ap, arith}
+use Rattle.std.proofs.lemmas.Bool.{le-leb}
+use Rattle.auction_model.specs.Package.{is_within, IsNothingFrom}
+use Rattle.auction_model.specs.Place.{states_of, place_of}
+
+nothing-within : (p l : List ℕ) → IsNothingFrom 0 p → is_within p l ≡ true
+nothing-within [] l h = refl
+nothing-within (a ∷ p) [] h = rw (h 0 (omega arith)) (nothing-within p [] (λ k low. h (suc k) (omega arith)))
+nothing-within (a ∷ p) (b ∷ l) h = rw (le-leb a b (omega (arith, h 0 (omega arith)))) (nothing-within p l (λ k low. h (suc k) (omega arith)))
+
+pub trim-within : (n : ℕ) (p l : List ℕ) → IsNothingFrom n p → is_within (take n p) l ≡ is_within p l
+trim-within zero p l h = sym (nothing-within p l h)
+trim-within (suc n) [] l h = refl
+trim-within (suc n) (a ∷ p) [] h = ap (λ t. (a == 0) && t) (trim-within n p [] (λ k low. h (suc k) (omega arith)))
+trim-within (suc n) (a ∷ p) (b ∷ l) h = ap (λ t. nat_le a b && t) (trim-within n p l (λ k low. h (suc k) (omega arith)))
+
+nothing-place : (supply p : List ℕ) → IsNothingFrom 0 p → place_of supply [] ≡ place_of supply p
+nothing-place [] p h = refl
+nothing-place (s ∷ supply) [] h = refl
+nothing-place (s ∷ supply) (a ∷ p) h =
+    let rest : 0 ≡ place_of supply p = none supply ∙ nothing-place supply p (λ k low. h (suc k) (omega arith)) in
+    rw (h 0 (omega arith)) (omega (arith, rest))
+  where
+    none : (supply : List ℕ) → 0 ≡ place_of supply []
+    none [] = refl
+    none (s ∷ supply) = refl
+
+pub trim-place : (n : ℕ) (supply p : List ℕ) → IsNothingFrom n p → place_of supply (take n p) ≡ place_of supply p
+trim-place n [] p h = refl
+trim-place zero (s ∷ supply) p h = nothing-place (s ∷ supply) p h
+trim-place (suc n) (s ∷ supply) [] h = refl
+trim-place (suc n) (s ∷ supply) (a ∷ p) h = ap (λ t. a * states_of supply + t) (trim-place n supply p (λ k low. h (suc k) (omega arith)))

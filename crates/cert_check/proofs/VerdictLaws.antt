@@ -1,0 +1,54 @@
+-- The tests in their order, and the verdict.
+use Rattle.std.specs.Prelude.{◌≡◌, ℕ, ◌+◌, ◌<◌, Some, None, refl}
+use Rattle.std.proofs.Common.{inl, inr, sym, subst, arith}
+use Rattle.std.proofs.lemmas.Bool.{cases_lt}
+use Rattle.auction_model.specs.Book.{Book}
+use Rattle.cert_form.specs.Certificate.{CertValue}
+use Rattle.cert_laws.specs.Tests.{Asks, Holds, FailsFirst, C1, C2, C3, C4}
+use Rattle.cert_check.specs.Head.{HoldsUpTo, HeadHolds}
+use Rattle.cert_check.specs.Places.{IsFirstFailing}
+
+module _ (book : Book) (c : CertValue) (t : ℕ) (before : HoldsUpTo book c t) where
+  pub held-C1 : 1 < t → (place : ℕ) → C1 c place
+  held-C1 lt place = (before 1 place lt).0 refl
+
+  pub held-C2 : 2 < t → (place : ℕ) → C2 book c place
+  held-C2 lt place = (before 2 place lt).1 refl
+
+  pub held-C3 : 3 < t → (place : ℕ) → C3 book c place
+  held-C3 lt place = (before 3 place lt).2 refl
+
+  pub held-C4 : 4 < t → (place : ℕ) → C4 book c place
+  held-C4 lt place = (before 4 place lt).3 refl
+
+  pub held-head : 3 < t → HeadHolds book c
+  held-head lt = record { sizes = held-C1 (omega arith); choice = held-C2 (omega arith); table = held-C3 lt }
+
+  pub held-next : IsFirstFailing (Asks book c t) None → HoldsUpTo book c (t + 1)
+  held-next all u place lt =
+      elim (cases_lt u t) [
+        | inl less ↦ before u place less
+        | inr past ↦ (let same : t ≡ u = omega arith in subst (λ (x : ℕ). Asks book c x place) same (all place))
+      ]
+
+  pub fails-first : (place : ℕ) → IsFirstFailing (Asks book c t) (Some place) → FailsFirst book c t place
+  fails-first place first = record {
+    fails = first.0;
+    before = λ u q earlier. elim earlier [
+      | inl less ↦ before u q less
+      | inr same ↦ subst (λ (x : ℕ). Asks book c x q) (sym same.0) (first.1 q same.1)
+    ];
+  }
+
+  pub held-all : 9 < t → Holds book c
+  held-all lt = record {
+    c1 = λ place. (before 1 place (omega arith)).0 refl;
+    c2 = λ place. (before 2 place (omega arith)).1 refl;
+    c3 = λ place. (before 3 place (omega arith)).2 refl;
+    c4 = λ place. (before 4 place (omega arith)).3 refl;
+    c5 = λ place. (before 5 place (omega arith)).4 refl;
+    c6 = λ place. (before 6 place (omega arith)).5 refl;
+    c7 = λ place. (before 7 place (omega arith)).6 refl;
+    c8 = λ place. (before 8 place (omega arith)).7 refl;
+    c9 = λ place. (before 9 place (omega arith)).8 refl;
+  }

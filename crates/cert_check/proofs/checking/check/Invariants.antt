@@ -1,0 +1,6 @@
+use Rattle.cert_text.specs.CertValues.{cert_value}
+use Rattle.cert_check.specs.Head.{HoldsUpTo}
+use Rattle.cert_check.proofs.checking.check.Given as goal
+
+abbrev pub invariant-loop-test : goal.invariant-loop-test
+invariant-loop-test l = HoldsUpTo l.book (cert_value l.cert) l.test

@@ -1,0 +1,24 @@
+-- The bids that come before those of the choice in the order of ties.
+use Rattle.std.specs.Prelude.{◌≡◌, ℕ, suc, ◌<◌, ◌≤◌, IsTrue, List, length, ℤ, ◌+ℤ◌, ◌<ℤ◌}
+use Rattle.auction_model.specs.Package.{is_within, less}
+use Rattle.auction_model.specs.Place.{place_of, left_at}
+use Rattle.auction_model.specs.Market.{is_number_before, number_of}
+use Rattle.auction_model.specs.Book.{Book, bids_of, lots_of, net_of, menu_of}
+use Rattle.cert_form.specs.Certificate.{CertValue}
+use Rattle.cert_laws.specs.Tests.{NoEarlier, bidders_of}
+use Rattle.cert_check.specs.Faults.{at}
+
+-- where bid i of bidder j fits what a place leaves, its net amount with the line's entry for the rest is below a bound
+abbrev pub StaysBelow : Book → ℕ → List ℤ → ℕ → ℤ → ℕ → Type 0
+StaysBelow book j line rest bound i =
+    IsTrue (is_within (lots_of book j i) (left_at book.supply rest))
+    → (net_of book j i +ℤ at line (place_of book.supply (less (left_at book.supply rest) (lots_of book j i)))) <ℤ bound
+
+-- so do all bids of bidder j that come before its number in the choice
+abbrev pub AllStayBelow : Book → List ℕ → ℕ → List ℤ → ℕ → ℤ → Type 0
+AllStayBelow book choice j line rest bound =
+    (i : ℕ) → IsTrue (is_number_before i (number_of choice j)) → i ≤ length (bids_of book j) → StaysBelow book j line rest bound i
+
+-- what the last part of C3 asks of bidder j
+abbrev pub NoneEarlier : Book → CertValue → ℕ → Type 0
+NoneEarlier book c j = (k : ℕ) → k < bidders_of book → j ≡ suc k → NoEarlier (menu_of book) (net_of book) book.supply c.table c.choice c.value k

@@ -1,0 +1,11 @@
+-- What the checker answers.
+use Rattle.auction_model.specs.Book.{Book}
+use Rattle.cert_form.specs.Certificate.{CertValue}
+use Rattle.cert_laws.specs.Tests.{Holds, FailsFirst}
+use Rattle.cert_check.specs.declared.verdict.Verdict.{Verdict}
+use Rattle.cert_check.specs.declared.verdict.Verdict.TheVariants.{Yes, No}
+
+-- yes where all tests hold at all places, else the first test that fails with its first place
+abbrev pub IsVerdict : Book → CertValue → Verdict → Type 0
+IsVerdict book c Yes = Holds book c
+IsVerdict book c (No test place) = FailsFirst book c test place

@@ -1,0 +1,130 @@
+// The bids that come before those of the choice in the order of ties: none of them may reach the value.
+ghost use Rattle.std.specs.Prelude.{◌≡◌, ◌↔◌, ℕ, ◌^◌, ◌<◌, ◌≤◌, length, slice_index_or, pos, ◌+ℤ◌, ◌<ℤ◌, IsTrue, unsigned_abs};
+ghost use Rattle.auction_model.specs.Package.{is_within, less};
+ghost use Rattle.auction_model.specs.Place.{left_at, place_of};
+ghost use Rattle.auction_model.specs.Market.{is_number_before, number_of};
+ghost use Rattle.auction_model.specs.Book.{bids_of, lots_of, net_of, market_of};
+ghost use Rattle.cert_form.specs.CertText.{IsTable};
+ghost use Rattle.cert_laws.specs.Tests.{bidders_of, states};
+ghost use Rattle.cert_text.specs.CertValues.{cert_value};
+ghost use Rattle.cert_check.specs.Places.{IsFirstFailing};
+ghost use Rattle.cert_check.specs.EarlierBids.{StaysBelow, AllStayBelow, NoneEarlier};
+
+use bid_book::BidBook;
+use cert_text::Certificate;
+use choices::{Choice, place_after};
+
+/// Whether bid `i` of bidder `j`, where it fits what the place `rest` leaves, stays below `bound` with the line's entry for what
+/// is left then.
+fn stays_below(book: &BidBook, j: u16, line: &[i128], rest: usize, bound: i128, i: u16) -> bool
+    requires bidder { (0 < j) × (j ≤ bidders_of book.now) }
+    requires bid { (0 < i) × (i ≤ length (bids_of book.now j)) }
+    requires rest { rest < states book.now }
+    requires line { length line.now ≡ states book.now }
+    requires sizes { (s : ℕ) → unsigned_abs (slice_index_or line.now s (pos 0)) < 2 ^ 120 }
+    ensures { IsTrue result ↔ StaysBelow book.now j line.now rest bound i }
+{
+    let _bidders = book.bidders();
+    match place_after(book, j, i, rest) {
+        Some(place) => is_below(book.net(j, i), line[place], bound),
+        None => true,
+    }
+}
+
+fn is_below(net: i128, entry: i128, bound: i128) -> bool
+    requires net { unsigned_abs net < 2 ^ 120 }
+    requires entry { unsigned_abs entry < 2 ^ 120 }
+    ensures { IsTrue result ↔ ((net +ℤ entry) <ℤ bound) }
+{
+    net + entry < bound
+}
+
+/// How many bids of bidder `j` come before its number in the choice.
+fn bids_before(book: &BidBook, choice: &Choice, j: u16) -> u16
+    requires choice { length choice.now ≡ bidders_of book.now }
+    requires bidder { (0 < j) × (j ≤ bidders_of book.now) }
+    requires number { number_of choice.now j ≤ length (bids_of book.now j) }
+    ensures most { result ≤ length (bids_of book.now j) }
+    ensures before { (i : ℕ) → i ≤ length (bids_of book.now j) → IsTrue (is_number_before i (number_of choice.now j)) ↔ ((0 < i) × (i ≤ result)) }
+{
+    let number = choice.number(j);
+    if number == 0 {
+        book.bids(j)
+    } else {
+        number - 1
+    }
+}
+
+/// Whether all bids of bidder `j` that come before its number in the choice stay below `bound`.
+fn all_stay_below(
+    book: &BidBook,
+    choice: &Choice,
+    j: u16,
+    line: &[i128],
+    rest: usize,
+    bound: i128,
+) -> bool
+    requires choice { length choice.now ≡ bidders_of book.now }
+    requires bidder { (0 < j) × (j ≤ bidders_of book.now) }
+    requires number { number_of choice.now j ≤ length (bids_of book.now j) }
+    requires rest { rest < states book.now }
+    requires line { length line.now ≡ states book.now }
+    requires sizes { (s : ℕ) → unsigned_abs (slice_index_or line.now s (pos 0)) < 2 ^ 120 }
+    ensures { IsTrue result ↔ AllStayBelow book.now choice.now j line.now rest bound }
+{
+    for i in 0..bids_before(book, choice, j) {
+        if !stays_below(book, j, line, rest, bound, i + 1) {
+            return false;
+        }
+    }
+    true
+}
+
+/// The place of what bid `i` of bidder `j`, which fits, leaves of a place. Number 0 is no bid.
+fn rest_after(book: &BidBook, j: u16, i: u16, rest: usize) -> usize
+    requires bidder { (0 < j) × (j ≤ bidders_of book.now) }
+    requires bid { i ≤ length (bids_of book.now j) }
+    requires rest { rest < states book.now }
+    requires fits { IsTrue (is_within (lots_of book.now j i) (left_at book.now.supply rest)) }
+    ensures left { result ≡ place_of book.now.supply (less (left_at book.now.supply rest) (lots_of book.now j i)) }
+    ensures below { result < states book.now }
+{
+    match place_after(book, j, i, rest) {
+        Some(place) => place,
+        None => rest,
+    }
+}
+
+/// The net amount of bid `i` of bidder `j`, and 0 for number 0.
+fn net_at(book: &BidBook, j: u16, i: u16) -> i128
+    requires bidder { (0 < j) × (j ≤ bidders_of book.now) }
+    requires bid { i ≤ length (bids_of book.now j) }
+    ensures net { result ≡ net_of book.now j i }
+    ensures size { unsigned_abs result ≤ 2 ^ 42 }
+{
+    let _bidders = book.bidders();
+    if i == 0 { 0 } else { book.net(j, i) }
+}
+
+/// The first bidder that has a bid, before its number in the choice, that reaches the value with the bids of the choice before
+/// it and the table's entry for what is left then.
+pub fn earlier_fault(book: &BidBook, cert: &Certificate) -> Option<u64>
+    requires allowed { IsTrue ((market_of book.now).allowed cert.now.choice) }
+    requires table { IsTable (bidders_of book.now) (states book.now) cert.now.table }
+    requires value { unsigned_abs cert.now.value < 2 ^ 120 }
+    ensures { IsFirstFailing (NoneEarlier book.now (cert_value cert.now)) result }
+{
+    let choice = &cert.choice;
+    let mut rest = book.supply().states() - 1;
+    let mut bound = cert.value;
+    for k in 0..book.bidders() {
+        let j = k as u16 + 1;
+        if !all_stay_below(book, choice, j, cert.table.line(k + 1), rest, bound) {
+            return Some(j as u64);
+        }
+        let number = choice.number(j);
+        rest = rest_after(book, j, number, rest);
+        bound -= net_at(book, j, number);
+    }
+    None
+}

@@ -1,0 +1,33 @@
+// C1: the denominator and the value.
+ghost use Rattle.std.specs.Prelude.{IsTrue, pos, ◌*ℤ◌, ◌+ℤ◌, ◌<ℤ◌, ◌^◌, ◌≤ℤ◌, ◌↔◌};
+ghost use Rattle.cert_check.specs.Places.{IsFirstFailing};
+ghost use Rattle.cert_laws.specs.Tests.{C1};
+ghost use Rattle.cert_text.specs.CertValues.{cert_value};
+
+use cert_text::Certificate;
+
+/// The first place at which C1 fails.
+pub(crate) fn sizes_test(cert: &Certificate) -> Option<u64>
+    ensures { IsFirstFailing (C1 (cert_value cert.now)) result }
+{
+    if cert.den < 1 {
+        return Some(1);
+    }
+    if cert.value < 0 {
+        return Some(2);
+    }
+    if !is_small(cert.den, cert.value) {
+        return Some(3);
+    }
+    None
+}
+
+/// Whether `den * (value + 1)` is below 2^120. The quotient keeps all numbers within 128 bits.
+fn is_small(den: i128, value: i128) -> bool
+    requires den { pos 1 ≤ℤ den }
+    requires value { pos 0 ≤ℤ value }
+    ensures { IsTrue result ↔ ((den *ℤ (value +ℤ pos 1)) <ℤ pos (2 ^ 120)) }
+{
+    let most: u128 = (1 << 120) - 1;
+    value.unsigned_abs() < most / den.unsigned_abs()
+}

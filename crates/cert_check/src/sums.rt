@@ -1,0 +1,75 @@
+// Sums over bidders and over rows.
+ghost use Rattle.std.specs.Prelude.{IsTrue, length, map, not, pos, unsigned_abs, ℕ, ◌*◌, ◌<◌, ◌^◌, ◌≡◌, ◌≤ℤ◌, ◌≤◌};
+ghost use Rattle.auction_model.specs.Book.{market_of, menu_of};
+ghost use Rattle.auction_model.specs.Lowered.{of_bidder};
+ghost use Rattle.auction_model.specs.Market.{worth_in};
+ghost use Rattle.auction_model.specs.Menu.{is_known_after};
+ghost use Rattle.auction_model.specs.Prices.{sum_over};
+ghost use Rattle.bid_book.specs.Kept.{IsBidBook};
+ghost use Rattle.cert_check.specs.Multipliers.{multiplier_of};
+ghost use Rattle.cert_form.specs.CertText.{AllInRange, AreRows};
+ghost use Rattle.cert_form.specs.Certificate.{is_member};
+ghost use Rattle.cert_laws.specs.Tests.{bidders_of, sum_holding};
+ghost use Rattle.cert_text.specs.Parts.{row_value};
+
+use crate::amounts::{counted, won};
+use crate::members::is_among;
+use bid_book::BidBook;
+use cert_text::CertRow;
+use choices::Choice;
+
+/// One of the two multipliers of a row.
+#[derive(Clone, Copy)]
+pub(crate) enum Multiplier {
+    First,
+    Second,
+}
+
+/// What the members pay.
+pub(crate) fn paid_by(payments: &[i128], members: &[u16]) -> i128
+    requires count { length payments.now ≤ 12 }
+    requires range { AllInRange payments.now }
+    ensures { result ≡ sum_over (is_member members.now) (of_bidder payments.now) (length payments.now) }
+{
+    let mut sum = 0i128;
+    for k in 0..payments.len() {
+        sum += counted(is_among(members, k as u16 + 1), payments[k]);
+    }
+    sum
+}
+
+/// What the bids of the others count in the choice.
+pub(crate) fn won_beside(book: &BidBook, choice: &Choice, members: &[u16]) -> i128
+    requires known { IsTrue (is_known_after (menu_of book.now) 0 choice.now) }
+    ensures sum { result ≡ sum_over (λ j. not (is_member members.now j)) (worth_in (market_of book.now) choice.now) (bidders_of book.now) }
+    ensures kept { IsBidBook book.now }
+{
+    let mut sum = 0i128;
+    for k in 0..book.bidders() {
+        let j = k as u16 + 1;
+        sum += counted(!is_among(members, j), won(book, choice, j));
+    }
+    sum
+}
+
+/// The sum of the multipliers of the rows that hold bidder `j`.
+pub(crate) fn sum_of(rows: &[CertRow], j: u16, which: Multiplier) -> i128
+    requires count { length rows.now ≤ 10 }
+    requires range { (bidders : ℕ) × AreRows bidders (map row_value rows.now) }
+    ensures { result ≡ sum_holding (map row_value rows.now) j (multiplier_of which) (length rows.now) }
+{
+    let mut sum = 0i128;
+    for row in rows {
+        sum += counted(is_among(row.members.items(), j), picked(row, which));
+    }
+    sum
+}
+
+fn picked(row: &CertRow, which: Multiplier) -> i128
+    ensures { result ≡ multiplier_of which (row_value row.now) }
+{
+    match which {
+        Multiplier::First => row.first,
+        Multiplier::Second => row.second,
+    }
+}

@@ -1,0 +1,68 @@
+// The tests C3 and C9: the tables of the net amounts and of the lowered ones.
+ghost use Rattle.std.specs.Prelude.{◌≡◌, ℕ, ◌≤◌, length};
+ghost use Rattle.auction_model.specs.Lowered.{of_bidder};
+ghost use Rattle.auction_model.specs.Prices.{sum_over, everyone};
+ghost use Rattle.cert_form.specs.CertText.{AllInRange};
+ghost use Rattle.cert_laws.specs.Tests.{bidders_of, states, C1, C2, C3, C9};
+ghost use Rattle.cert_text.specs.CertValues.{cert_value, IsFor};
+ghost use Rattle.cert_check.specs.Places.{IsFirstFailing};
+
+use crate::earlier::earlier_fault;
+use crate::grids::table_test;
+use crate::offers::Offers;
+use bid_book::BidBook;
+use cert_text::Certificate;
+
+/// The first place at which the table of net amounts doesn't show the choice to be the winning one, once it is known, fits and
+/// has the value. With `S` states and `B` bidders, `k * S + s` is the place of line `k` at place `s` of the supply, `(B + 1) * S`
+/// that of the value, and `(B + 1) * S + j` that of the bids of bidder `j` which come before its number in the choice.
+pub(crate) fn value_test(book: &BidBook, cert: &Certificate) -> Option<u64>
+    requires shape { IsFor (bidders_of book.now) (states book.now) cert.now }
+    requires choice { (place : ℕ) → C2 book.now (cert_value cert.now) place }
+    ensures { IsFirstFailing (C3 book.now (cert_value cert.now)) result }
+{
+    let offers = Offers {
+        book,
+        cert,
+        skip: 0,
+        lowered: false,
+    };
+    if let Some(place) = table_test(&offers, &cert.table, cert.value) {
+        return Some(place);
+    }
+    let last = (book.bidders() + 1) * book.supply().states();
+    let bidder = earlier_fault(book, cert)?;
+    Some(last as u64 + bidder)
+}
+
+/// The first place at which the table of lowered amounts doesn't show the payments to be in the core, once the choice is the
+/// winning one. The places are those of the table in `value_test`, and `(B + 1) * S` is that of the sum of the payments.
+pub(crate) fn lowered_test(book: &BidBook, cert: &Certificate) -> Option<u64>
+    requires shape { IsFor (bidders_of book.now) (states book.now) cert.now }
+    requires numbers { (place : ℕ) → C1 (cert_value cert.now) place }
+    requires choice { (place : ℕ) → C2 book.now (cert_value cert.now) place }
+    requires value { (place : ℕ) → C3 book.now (cert_value cert.now) place }
+    ensures { IsFirstFailing (C9 book.now (cert_value cert.now)) result }
+{
+    let _bidders = book.bidders();
+    let paid = sum_paid(cert.pay.items());
+    let offers = Offers {
+        book,
+        cert,
+        skip: 0,
+        lowered: true,
+    };
+    table_test(&offers, &cert.lowered, paid)
+}
+
+fn sum_paid(payments: &[i128]) -> i128
+    requires few { length payments.now ≤ 12 }
+    requires sizes { AllInRange payments.now }
+    ensures { result ≡ sum_over everyone (of_bidder payments.now) (length payments.now) }
+{
+    let mut sum = 0;
+    for k in 0..payments.len() {
+        sum += payments[k];
+    }
+    sum
+}

@@ -1,0 +1,10 @@
+// What the checker answers.
+
+/// Whether a certificate shows what it says.
+#[derive(Clone, Copy, Debug, PartialEq, Eq)]
+pub enum Verdict {
+    /// All tests hold.
+    Yes,
+    /// This test, of 1 to 9, is the first that fails, and this is the first of its places at which it does.
+    No { test: u8, place: u64 },
+}

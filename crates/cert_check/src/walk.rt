@@ -1,0 +1,80 @@
+// Going through the places of a line where a package fits. In one category, block `q` of a line has the places with `q` lots of
+// that category left. Where the package fits, the place of the rest is lower by the place of the package. So behind the last
+// category of which the package has some, the places are one run.
+ghost use Rattle.std.specs.Prelude.{◌≡◌, ◌↔◌, ◌+◌, ◌^◌, ◌≤◌, ◌<◌, length, ◌+ℤ◌, ◌≤ℤ◌, unsigned_abs, IsTrue};
+ghost use Rattle.auction_model.specs.Package.{IsNothingFrom};
+ghost use Rattle.auction_model.specs.Place.{states_of, place_of};
+ghost use Rattle.cert_check.specs.Faults.{FirstFault, CoversRun, CoversBlock};
+
+use crate::rule::LineRule;
+
+/// Whether an entry is at least the worth and the entry below.
+fn covers(here: i128, below: i128, worth: i128) -> bool
+    requires worth { unsigned_abs worth < 2 ^ 122 }
+    requires below { unsigned_abs below < 2 ^ 122 }
+    ensures { IsTrue result ↔ ((worth +ℤ below) ≤ℤ here) }
+{
+    worth + below <= here
+}
+
+/// The first place from `start` on, below `stop` and `until`, at which the line breaks the rule, and `until` where there is none.
+pub fn run_fault(rule: &LineRule, start: usize, stop: usize, until: usize) -> usize
+    requires stop { stop ≤ length rule.now.line.now }
+    requires shift { rule.now.shift ≤ start }
+    ensures { FirstFault (CoversRun rule.now start stop) until result }
+{
+    for s in start..stop.min(until) {
+        if !covers(rule.line[s], rule.below[s - rule.shift], rule.worth) {
+            return s;
+        }
+    }
+    until
+}
+
+/// How many categories there are up to the last of which a package has some.
+pub fn used_categories(counts: &[u16]) -> usize
+    ensures most { result ≤ length counts.now }
+    ensures rest { IsNothingFrom result counts.now }
+{
+    let mut used = 0;
+    for i in 0..counts.len() {
+        if counts[i] != 0 {
+            used = i + 1;
+        }
+    }
+    used
+}
+
+/// The first place of a block, below `until`, at which the package fits and the line breaks the rule, and `until` where there is
+/// none.
+pub fn block_fault(
+    rule: &LineRule,
+    supply: &[u16],
+    lots: &[u16],
+    states: usize,
+    base: usize,
+    until: usize,
+) -> usize
+    requires most { length rule.now.line.now < 2 ^ 40 }
+    requires categories { length lots.now ≤ length supply.now }
+    requires states { states ≡ states_of supply.now }
+    requires room { base + states ≤ length rule.now.line.now }
+    requires shift { rule.now.shift ≤ base + place_of supply.now lots.now }
+    ensures { FirstFault (CoversBlock rule.now base supply.now lots.now) until result }
+{
+    if lots.is_empty() {
+        return run_fault(rule, base, base + states, until);
+    }
+    let radix = supply[0] as usize + 1;
+    let width = states / radix;
+    let count = lots[0] as usize;
+    if lots.len() == 1 {
+        return run_fault(rule, base + count * width, base + states, until);
+    }
+    let mut found = until;
+    for digit in radix.min(count)..radix {
+        let start = base + digit * width;
+        found = block_fault(rule, &supply[1..], &lots[1..], width, start, found);
+    }
+    found
+}
