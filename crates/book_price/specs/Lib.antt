@@ -1,0 +1,4 @@
+pub mod Found
+pub mod Lowest
+pub mod Made
+pub mod Stops

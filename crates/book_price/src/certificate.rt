@@ -1,0 +1,53 @@
+// The certificate of the prices of a book.
+ghost use Rattle.std.specs.Prelude.{◌≡◌, IfOk};
+ghost use Rattle.book_price.specs.Found.{AreFound, cert_found};
+ghost use Rattle.cert_laws.specs.Priced.{IsPricedCert};
+ghost use Rattle.cert_laws.specs.Tests.{bidders_of, states};
+ghost use Rattle.cert_text.specs.CertValues.{IsFor, cert_value};
+
+use crate::bidder_rows::all_rows;
+use crate::lines::shared;
+use crate::parts::all_parts;
+use crate::pay::all_payments;
+use bid_book::BidBook;
+use cert_text::Certificate;
+use choices::Choice;
+use core_price::Priced;
+use std::alloc::{AllocError, Global};
+use value_table::ValueTable;
+use vickrey::Vickrey;
+
+/// The certificate of what was found. It shares the lines of all tables.
+pub(crate) fn certificate(
+    alloc: Global,
+    book: &BidBook,
+    winners: Choice,
+    whole: &ValueTable,
+    alone: &Vickrey,
+    priced: &Priced<ValueTable>,
+) -> Result<Certificate, AllocError>
+    requires { AreFound book.now winners whole.now alone.now priced.now }
+    ensures value { IfOk result (λ c. cert_value c ≡ cert_found book.now winners whole.now alone.now priced.now) }
+    ensures priced { IfOk result (λ c. IsPricedCert book.now (cert_value c)) }
+    ensures shape { IfOk result (IsFor (bidders_of book.now) (states book.now)) }
+{
+    let _bidders = book.bidders();
+    let value = whole.most(book);
+    let table = shared(alloc, whole.grid())?;
+    let withouts = all_parts(alloc, alone)?;
+    let at = priced.at.items();
+    let pay = all_payments(alloc, &winners, at)?;
+    let kept = priced.rows.items();
+    let rows = all_rows(alloc, &winners, kept)?;
+    let lowered = shared(alloc, priced.last.table.grid())?;
+    Ok(Certificate {
+        den: priced.den,
+        value,
+        choice: winners,
+        table,
+        withouts,
+        pay,
+        rows,
+        lowered,
+    })
+}

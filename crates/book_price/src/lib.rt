@@ -1,0 +1,17 @@
+//! The prices of a book with their certificate.
+//!
+//! The table of all bids is built once. The winning choice, the tables without each winner and the winners' Vickrey prices come
+//! from it, and the certificate shares its lines and those of all other tables.
+#![tactic(auto)]
+
+mod bidder_rows;
+mod certificate;
+mod lines;
+mod parts;
+mod pay;
+mod pricing;
+#[cfg(test)]
+mod tests;
+mod winners;
+
+pub use pricing::{PricedBook, price_book};

@@ -1,0 +1,90 @@
+// From a book to its prices with their certificate.
+ghost use Rattle.std.specs.Prelude.{◌≡◌, ◌≤◌, IfErr, IfOk};
+ghost use Rattle.std.specs.List.{AllByRecursion};
+ghost use Rattle.auction_model.specs.Book.{market_of};
+ghost use Rattle.auction_model.specs.Greatest.{IsWinning};
+ghost use Rattle.auction_model.specs.PricingRun.{IsPricingRun};
+ghost use Rattle.cert_laws.specs.Priced.{IsPricedCert};
+ghost use Rattle.cert_laws.specs.Sound.{cert_point};
+ghost use Rattle.cert_laws.specs.Tests.{bidders_of, states};
+ghost use Rattle.cert_text.specs.CertValues.{cert_value, IsFor};
+ghost use Rattle.core_price.specs.Turns.{IsPointOfTurn, turns_of};
+ghost use Rattle.price_text.specs.Rounds.{IsLastPoint};
+ghost use Rattle.row_laws.specs.Winners.{winners_in};
+ghost use Rattle.value_table.specs.TableValue.{IsPlain, IsTableOf};
+ghost use Rattle.book_price.specs.Stops.{IsBookStop};
+
+use crate::certificate::certificate;
+use crate::winners::{count_winners, winning_choice};
+use bid_book::BidBook;
+use cert_text::Certificate;
+use choices::Choice;
+use core_price::{PriceStop, TurnList, price};
+use std::alloc::Global;
+use value_table::{BookChooser, ValueTable, plain_table};
+use vickrey::vickrey_from;
+
+// No more winners than this are priced.
+const MOST_WINNERS: usize = 6;
+
+/// The prices of a book: the certificate that shows them, and the turns that led to them.
+#[derive(Drop)]
+pub struct PricedBook {
+    /// The certificate. Its choice is the winning one, and its payments are the core outcome.
+    pub cert: Certificate,
+    /// All turns of pricing.
+    pub turns: TurnList,
+}
+
+/// The core-selecting prices of the winners of a book, with the certificate that shows them.
+///
+/// All nine tests of a certificate hold for it, its choices are the first of the greatest, and its tables are exact. Its
+/// denominator, rows and multipliers are those that pricing by rows found.
+///
+/// Errors: `Winners` exactly where more than six win, with their number; `Memory` for want of memory.
+pub fn price_book(alloc: Global, book: &BidBook) -> Result<PricedBook, PriceStop>
+    ensures shape { IfOk result (λ p. IsFor (bidders_of book.now) (states book.now) p.cert) }
+    ensures cert { IfOk result (λ p. IsPricedCert book.now (cert_value p.cert)) }
+    ensures few { IfOk result (λ p. winners_in p.cert.choice ≤ 6) }
+    ensures run { IfOk result (λ p. IsPricingRun (market_of book.now) p.cert.choice (turns_of p.cert.choice p.turns)) }
+    ensures each_turn { IfOk result (λ p. AllByRecursion (IsPointOfTurn p.cert.choice) p.turns) }
+    ensures last_turn { IfOk result (λ p. IsLastPoint (turns_of p.cert.choice p.turns) (cert_point (cert_value p.cert))) }
+    ensures stops { IfErr result (IsBookStop book.now) }
+{
+    let whole = plain_table(alloc, book)?;
+    let winners = winning_choice(alloc, book, &whole)?;
+    let count = count_winners(&winners);
+    if count > MOST_WINNERS {
+        return Err(PriceStop::Winners(count as u64));
+    }
+    priced_book(alloc, book, winners, &whole)
+}
+
+// The prices of the winning choice, from the table of all bids.
+fn priced_book(
+    alloc: Global,
+    book: &BidBook,
+    winners: Choice,
+    whole: &ValueTable,
+) -> Result<PricedBook, PriceStop>
+    requires winners { IsWinning (market_of book.now) winners }
+    requires whole { IsTableOf book.now whole.now }
+    requires plain { IsPlain whole.now }
+    ensures shape { IfOk result (λ p. IsFor (bidders_of book.now) (states book.now) p.cert) }
+    ensures cert { IfOk result (λ p. IsPricedCert book.now (cert_value p.cert)) }
+    ensures few { IfOk result (λ p. winners_in p.cert.choice ≤ 6) }
+    ensures run { IfOk result (λ p. IsPricingRun (market_of book.now) p.cert.choice (turns_of p.cert.choice p.turns)) }
+    ensures each_turn { IfOk result (λ p. AllByRecursion (IsPointOfTurn p.cert.choice) p.turns) }
+    ensures last_turn { IfOk result (λ p. IsLastPoint (turns_of p.cert.choice p.turns) (cert_point (cert_value p.cert))) }
+    ensures stops { IfErr result (IsBookStop book.now) }
+{
+    let _bidders = book.bidders();
+    let alone = vickrey_from(alloc, book, &winners, whole)?;
+    let chooser = BookChooser::new(book, winners.copied(alloc)?);
+    let priced = price(alloc, &chooser, alone.singles())?;
+    let cert = certificate(alloc, book, winners, whole, &alone, &priced)?;
+    Ok(PricedBook {
+        cert,
+        turns: priced.turns,
+    })
+}
