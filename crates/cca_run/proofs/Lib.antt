@@ -1,7 +1,10 @@
+mod Counts
+mod Finished
 mod Judged
+mod Moved
+mod Names
 mod OneOutcome
 mod Printed
+mod Products
+mod Runs
 mod Winners
-mod Worths
-mod Pricing
-mod WinnerCount

@@ -1,5 +1,5 @@
--- The words and the bytes give at most one result.
-use Rattle.std.specs.Prelude.{◌≡◌, ℕ, ℤ, Bool, true, false, nat_le, ◌≤◌, ◌<◌, ◌^◌, Option, Some, None, List, ◌++◌, length, pos, ◌≤ℤ◌}
+-- The words and the bytes give at most one status and one printed text.
+use Rattle.std.specs.Prelude.{◌≡◌, ℕ, ℤ, Bool, true, false, ◌≤◌, ◌<◌, ◌^◌, Option, Some, None, List, [], ◌++◌, codes, length, pos, ◌≤ℤ◌, refl}
 use Rattle.std.proofs.Common.{inl, inr, sym, ◌∙◌, ap, subst, arith}
 use Rattle.std.proofs.lemmas.Bool.{cases_lt}
 use Rattle.line_text.specs.LineText.{Said, stated, faulty, beyond, Says}
@@ -13,14 +13,37 @@ use Rattle.auction_text.specs.BookForm.{IsBook}
 use Rattle.auction_text.specs.BookLines.{Excess, lines}
 use Rattle.auction_text.specs.WinText.{win_text}
 use Rattle.bid_book.proofs.Within.{kept}
+use Rattle.cert_form.specs.Certificate.{CertValue}
+use Rattle.cert_form.specs.Says.{CertSays, cert_text}
+use Rattle.cert_laws.specs.Sound.{IsSound, cert_point, cert_prices}
+use Rattle.cert_laws.specs.Tests.{FailsFirst, Holds, bidders_of, states}
 use Rattle.price_text.specs.Prices.{IsPriceText}
 use Rattle.price_text.specs.Rounds.{AreTurnLines}
 use Rattle.row_laws.specs.Winners.{winners_in}
-use Rattle.cca_run.specs.Command.{Command, Task, win, price, command_of}
-use Rattle.cca_run.specs.Outcome.{Outcome, book_bytes, FileSays, AreRounds, IsPricing, PricesGive, TaskGives, BookGives, FileGives, CommandGives, Gives, done}
+use Rattle.cca_run.specs.Command.{Command, win, price, check, book_of, command_of}
+use Rattle.cca_run.specs.Outcome.{Outcome, book_bytes, cert_bytes, AreRounds, BookGives, CertFileGives, CertFileSays, CertGives, CommandGives, CommandOf, FileGives, FileSays, Gives, HasTooMany, IsPricing, IsYesText, PriceGives, VerdictGives, done, stopped}
+use Rattle.cca_run.specs.declared.status.Status.TheVariants.{No, Limit}
+use Rattle.auction_text.specs.declared.LimitKind.TheVariants.{Winners}
+
+-- both have one status and one text
+abbrev Same : Outcome → Outcome → Type 0
+Same o p = (o.status ≡ p.status) × (o.printed ≡ p.printed)
+
+both : (o p x y : Outcome) → o ≡ x → p ≡ y → Same x y → Same o p
+both o p x y a b s = (ap (λ (z : Outcome). z.status) a ∙ s.0 ∙ sym (ap (λ (z : Outcome). z.status) b), ap (λ (z : Outcome). z.printed) a ∙ s.1 ∙ sym (ap (λ (z : Outcome). z.printed) b))
+
+equal : (o p x : Outcome) → o ≡ x → p ≡ x → Same o p
+equal o p x a b = both o p x x a b (refl, refl)
+
+printed-same : (t u a b : List ℕ) → t ≡ u → Same (done t a) (done u b)
+printed-same t u a b e = (refl, e)
 
 -- what the laws of the crates below say
 module _ (one_book : (bytes : List ℕ) (x y : Said Book Excess) → Says IsBook lines bytes x → Says IsBook lines bytes y → x ≡ y)
+    (one_cert : (bidders number : ℕ) (bytes : List ℕ) (x y : Said CertValue ℕ) → CertSays bidders number bytes x → CertSays bidders number bytes y → x ≡ y)
+    (one_verdict : (book : Book) (c : CertValue) (t p u q : ℕ) → FailsFirst book c t p → FailsFirst book c u q → (t ≡ u) × (p ≡ q))
+    (not_both : (book : Book) (c : CertValue) (t p : ℕ) → Holds book c → FailsFirst book c t p → ⊥)
+    (sound : (book : Book) (c : CertValue) → length c.choice ≡ bidders_of book → length c.pay ≡ bidders_of book → Holds book c → IsSound book c)
     (one_winning : (m : Market) (c d : List ℕ) → IsMarket m → IsWinning m c → IsWinning m d → c ≡ d)
     (market : (book : Book) → length book.bidders < 2 ^ 16 → ((j i : ℕ) → i ≤ length (bids_of book j) → pos 0 ≤ℤ net_of book j i) → IsMarket (market_of book))
     (one_vickrey : (m : Market) (z : List ℕ) (v w : ℕ → ℤ) → AreVickreyPrices m z v → AreVickreyPrices m z w → (j : ℕ) → 0 < j → j ≤ m.bidders → v j ≡ w j)
@@ -36,57 +59,115 @@ module _ (one_book : (bytes : List ℕ) (x y : Said Book Excess) → Says IsBook
         | inr most ↦ one_book bytes x y (a.text most) (b.text most)
       ]
 
+  one-cert-said : (bidders number : ℕ) (bytes : List ℕ) (x y : Option (Said CertValue ℕ)) → CertFileSays bidders number bytes x → CertFileSays bidders number bytes y → x ≡ y
+  one-cert-said bidders number bytes x y a b =
+      elim (cases_lt cert_bytes (length bytes)) [
+        | inl over ↦ a.long over ∙ sym (b.long over)
+        | inr most ↦
+            let s = a.text most in
+            let t = b.text most in
+            s.2 ∙ ap Some (one_cert bidders number bytes s.0 t.0 s.1 t.1) ∙ sym t.2
+      ]
+
   lawful : (bytes : List ℕ) (book : Book) → FileSays bytes (stated book) → IsMarket (market_of book)
   lawful bytes book a =
       elim (cases_lt book_bytes (length bytes)) [
-        | inl over ↦ absurd (not_both (a.long over))
+        | inl over ↦ absurd (never (a.long over))
         | inr most ↦
             let text = a.text most in
             let rules = kept book (record { form = text.valid; limits = text.within }) in
             market book (omega (arith, rules.bidders)) rules.not_negative
       ]
     where
-      not_both : {e : Excess} → stated book ≡ beyond e → ⊥
-      not_both is = cc
+      never : {e : Excess} → stated book ≡ beyond e → ⊥
+      never is = cc
 
   one-rounds : (rounds : Bool) (book : Book) (z : List ℕ) (runs others : List Turn) (t u : List ℕ) → IsMarket (market_of book) → IsPricingRun (market_of book) z runs
       → IsPricingRun (market_of book) z others → AreRounds rounds z runs t → AreRounds rounds z others u → t ≡ u
   one-rounds true book z runs others t u m a b x y = one_run (market_of book) z runs others t u m a b x y
   one-rounds false book z runs others t u m a b x y = x ∙ sym y
 
-  one-pricing : (book : Book) (rounds : Bool) (z t u : List ℕ) → IsMarket (market_of book) → IsWinning (market_of book) z → IsPricing book rounds z t → IsPricing book rounds z u → t ≡ u
-  one-pricing book rounds z t u m first a b =
-      let same = one-rounds rounds book z a.turns b.turns a.lines b.lines m a.run b.run a.are_rounds b.are_rounds in
-      let prices = one_prices book z a.vickrey b.vickrey a.point b.point a.prices b.prices (m.lengths z first.passed) a.outcome.core.den_positive b.outcome.core.den_positive
-      (one_core (market_of book) z a.point b.point m a.outcome b.outcome) (one_vickrey (market_of book) z a.vickrey b.vickrey a.are_vickrey b.are_vickrey) a.are_prices b.are_prices in
+  vickrey-of : (book : Book) (rounds : Bool) (c : CertValue) (t : List ℕ) → IsPricing book rounds c t → AreVickreyPrices (market_of book) c.choice (cert_prices book c)
+  vickrey-of book rounds c t a = (sound book c a.certificate.choice.0 a.certificate.pay.0 a.priced.holds).vickrey
+
+  one-pricing : (book : Book) (rounds : Bool) (c d : CertValue) (t u : List ℕ) → IsMarket (market_of book) → IsPricing book rounds c t → IsPricing book rounds d u → t ≡ u
+  one-pricing book rounds c d t u m a b =
+      let is : d.choice ≡ c.choice = one_winning (market_of book) d.choice c.choice m b.priced.winning a.priced.winning in
+      let run = subst (λ (z : List ℕ). IsPricingRun (market_of book) z b.turns) is b.run in
+      let rounds_of = subst (λ (z : List ℕ). AreRounds rounds z b.turns b.lines) is b.are_rounds in
+      let outcome = subst (λ (z : List ℕ). IsCoreOutcome (market_of book) z (cert_point d)) is b.priced.outcome in
+      let vickrey = subst (λ (z : List ℕ). AreVickreyPrices (market_of book) z (cert_prices book d)) is (vickrey-of book rounds d u b) in
+      let prices_of = subst (λ (z : List ℕ). IsPriceText book z (cert_prices book d) (cert_point d) b.prices) is b.are_prices in
+      let same = one-rounds rounds book c.choice a.turns b.turns a.lines b.lines m a.run run a.are_rounds rounds_of in
+      let prices = one_prices book c.choice (cert_prices book c) (cert_prices book d) (cert_point c) (cert_point d) a.prices b.prices (m.lengths c.choice a.priced.winning.passed)
+      a.priced.outcome.core.den_positive outcome.core.den_positive (one_core (market_of book) c.choice (cert_point c) (cert_point d) m a.priced.outcome outcome)
+      (one_vickrey (market_of book) c.choice (cert_prices book c) (cert_prices book d) (vickrey-of book rounds c t a) vickrey) a.are_prices prices_of in
       a.whole ∙ ap (λ (l : List ℕ). l ++ a.prices) same ∙ ap (λ (l : List ℕ). b.lines ++ l) prices ∙ sym b.whole
 
-  one-priced : (few : Bool) (book : Book) (rounds : Bool) (z : List ℕ) (o p : Outcome) → IsMarket (market_of book) → IsWinning (market_of book) z
-      → PricesGive few book rounds z o → PricesGive few book rounds z p → o ≡ p
-  one-priced true book rounds z o p m first x y = x.2 ∙ ap done (one-pricing book rounds z x.0 y.0 m first x.1 y.1) ∙ sym y.2
-  one-priced false book rounds z o p m first x y = x ∙ sym y
+  few-or-many : (book : Book) (rounds : Bool) (c : CertValue) (t z : List ℕ) → IsMarket (market_of book) → IsPricing book rounds c t → HasTooMany book z → ⊥
+  few-or-many book rounds c t z m a many =
+      let is : winners_in c.choice ≡ winners_in z = ap winners_in (one_winning (market_of book) c.choice z m a.priced.winning many.winning) in
+      let few = a.few in
+      let more = many.many in
+      omega (arith, is, few, more)
 
-  one-task : (task : Task) (book : Book) (z : List ℕ) (o p : Outcome) → IsMarket (market_of book) → IsWinning (market_of book) z → TaskGives task book z o → TaskGives task book z p → o ≡ p
-  one-task win book z o p m first x y = x ∙ sym y
-  one-task (price rounds) book z o p m first x y = one-priced (nat_le (winners_in z) 6) book rounds z o p m first x y
+  one-priced : (book : Book) (rounds : Bool) (o p : Outcome) → IsMarket (market_of book) → PriceGives book rounds o → PriceGives book rounds p → Same o p
+  one-priced book rounds o p m (inl x) (inl y) = both o p (done x.1 (cert_text x.0)) (done y.1 (cert_text y.0)) x.3 y.3 (printed-same x.1 y.1 (cert_text x.0) (cert_text y.0) (one-pricing book rounds x.0 y.0 x.1 y.1 m x.2 y.2))
+  one-priced book rounds o p m (inl x) (inr y) = absurd (few-or-many book rounds x.0 x.1 y.0 m x.2 y.1)
+  one-priced book rounds o p m (inr x) (inl y) = absurd (few-or-many book rounds y.0 y.1 x.0 m y.2 x.1)
+  one-priced book rounds o p m (inr x) (inr y) =
+      let is : winners_in x.0 ≡ winners_in y.0 = ap winners_in (one_winning (market_of book) x.0 y.0 m x.1.winning y.1.winning) in
+      equal o p (stopped (Limit Winners (winners_in y.0))) (x.2 ∙ ap (λ (n : ℕ). stopped (Limit Winners n)) is) y.2
 
-  one-book : (task : Task) (bytes : List ℕ) (said : Said Book Excess) (o p : Outcome) → FileSays bytes said → BookGives task said o → BookGives task said p → o ≡ p
-  one-book task bytes (stated book) o p a x y =
-      let m = lawful bytes book a in
+  one-yes : (book : Book) (c : CertValue) (t u : List ℕ) → IsMarket (market_of book) → IsSound book c → IsYesText book c t → IsYesText book c u → t ≡ u
+  one-yes book c t u m s x y =
+      let den = s.outcome.core.den_positive in
+      let prices = one_prices book c.choice (cert_prices book c) (cert_prices book c) (cert_point c) (cert_point c) x.0 y.0 (m.lengths c.choice s.winning.passed) den den
+      (λ j some le. refl) (λ j some le. refl) x.1 y.1 in
+      x.2 ∙ ap (λ (l : List ℕ). codes "yes\n" ++ l) prices ∙ sym y.2
+
+  one-judged : (book : Book) (c : CertValue) (o p : Outcome) → IsMarket (market_of book) → VerdictGives book c o → VerdictGives book c p → Same o p
+  one-judged book c o p m (inl x) (inl y) = let a = x.2 in let b = y.2 in both o p (done a.0 []) (done b.0 []) a.2 b.2 (printed-same a.0 b.0 [] [] (one-yes book c a.0 b.0 m x.1 a.1 b.1))
+  one-judged book c o p m (inl x) (inr y) = absurd (not_both book c y.0 y.1 x.0 y.2)
+  one-judged book c o p m (inr x) (inl y) = absurd (not_both book c x.0 x.1 y.0 x.2)
+  one-judged book c o p m (inr x) (inr y) =
+      let is = one_verdict book c x.0 x.1 y.0 y.1 x.2 y.2 in
+      equal o p (stopped (No y.0 y.1)) (x.3 ∙ ap (λ (t : ℕ). stopped (No t x.1)) is.0 ∙ ap (λ (q : ℕ). stopped (No y.0 q)) is.1) y.3
+
+  one-cert-given : (book : Book) (said : Option (Said CertValue ℕ)) (o p : Outcome) → IsMarket (market_of book) → CertGives book said o → CertGives book said p → Same o p
+  one-cert-given book None o p m x y = equal o p _ x y
+  one-cert-given book (Some (stated c)) o p m x y = one-judged book c o p m x y
+  one-cert-given book (Some (faulty place)) o p m x y = equal o p _ x y
+  one-cert-given book (Some (beyond place)) o p m x y = equal o p _ x y
+
+  one-cert-file : (book : Book) (file : Option (List ℕ)) (o p : Outcome) → IsMarket (market_of book) → CertFileGives book file o → CertFileGives book file p → Same o p
+  one-cert-file book None o p m x y = equal o p _ x y
+  one-cert-file book (Some bytes) o p m x y =
+      let same = one-cert-said (bidders_of book) (states book) bytes x.0 y.0 x.1 y.1 in
+      one-cert-given book y.0 o p m (subst (λ (s : Option (Said CertValue ℕ)). CertGives book s o) same x.2) y.2
+
+  one-of : (command : Command) (file : List ℕ → Option (List ℕ)) (book : Book) (o p : Outcome) → IsMarket (market_of book) → CommandOf command file book o → CommandOf command file book p → Same o p
+  one-of (win name) file book o p m x y =
       let same = one_winning (market_of book) x.0 y.0 m x.1 y.1 in
-      one-task task book y.0 o p m y.1 (subst (λ (z : List ℕ). TaskGives task book z o) same x.2) y.2
-  one-book task bytes (faulty place) o p a x y = x ∙ sym y
-  one-book task bytes (beyond e) o p a x y = x ∙ sym y
+      both o p (done (win_text book x.0) []) (done (win_text book y.0) []) x.2 y.2 (printed-same (win_text book x.0) (win_text book y.0) [] [] (ap (win_text book) same))
+  one-of (price name cert rounds) file book o p m x y = one-priced book rounds o p m x y
+  one-of (check name cert) file book o p m x y = one-cert-file book (file cert) o p m x y
 
-  one-file : (task : Task) (file : Option (List ℕ)) (o p : Outcome) → FileGives task file o → FileGives task file p → o ≡ p
-  one-file task None o p x y = x ∙ sym y
-  one-file task (Some bytes) o p x y =
+  one-book-given : (command : Command) (file : List ℕ → Option (List ℕ)) (bytes : List ℕ) (said : Said Book Excess) (o p : Outcome) → FileSays bytes said
+      → BookGives command file said o → BookGives command file said p → Same o p
+  one-book-given command file bytes (stated book) o p a x y = one-of command file book o p (lawful bytes book a) x y
+  one-book-given command file bytes (faulty place) o p a x y = equal o p _ x y
+  one-book-given command file bytes (beyond e) o p a x y = equal o p _ x y
+
+  one-file : (command : Command) (file : List ℕ → Option (List ℕ)) (content : Option (List ℕ)) (o p : Outcome) → FileGives command file content o → FileGives command file content p → Same o p
+  one-file command file None o p x y = equal o p _ x y
+  one-file command file (Some bytes) o p x y =
       let same = one-said bytes x.0 y.0 x.1 y.1 in
-      one-book task bytes y.0 o p y.1 (subst (λ (s : Said Book Excess). BookGives task s o) same x.2) y.2
+      one-book-given command file bytes y.0 o p y.1 (subst (λ (s : Said Book Excess). BookGives command file s o) same x.2) y.2
 
-  one-command : (command : Option Command) (file : List ℕ → Option (List ℕ)) (o p : Outcome) → CommandGives command file o → CommandGives command file p → o ≡ p
-  one-command None file o p x y = x ∙ sym y
-  one-command (Some c) file o p x y = one-file c.task (file c.book) o p x y
+  one-command : (command : Option Command) (file : List ℕ → Option (List ℕ)) (o p : Outcome) → CommandGives command file o → CommandGives command file p → Same o p
+  one-command None file o p x y = equal o p _ x y
+  one-command (Some command) file o p x y = one-file command file (file (book_of command)) o p x y
 
-  pub one-outcome : (words : List (List ℕ)) (file : List ℕ → Option (List ℕ)) (o p : Outcome) → Gives words file o → Gives words file p → o ≡ p
+  pub one-outcome : (words : List (List ℕ)) (file : List ℕ → Option (List ℕ)) (o p : Outcome) → Gives words file o → Gives words file p → Same o p
   one-outcome words file o p x y = one-command (command_of words) file o p x y

@@ -4,14 +4,20 @@ ghost use Rattle.cca_run.specs.Outcome.{Outcome, Gives};
 
 use auction_model::{book_market, core_outcome, vickrey_prices, winning_choice};
 use bid_book::one_book;
+use cert_form::one_cert;
+use cert_laws::{one_verdict, sound_yes};
 use price_text::{one_price_text, one_run_text};
 
-/// The words and the bytes of the files give at most one result. So each status that is decided comes exactly where they
-/// give it.
+/// The words and the bytes of the files give at most one status and one printed text. So each status that is decided comes exactly
+/// where they give it.
 pub fn one_outcome()
-    ensures { (words : List (List ℕ)) (file : List ℕ → Option (List ℕ)) (o p : Outcome) → Gives words file o → Gives words file p → o ≡ p }
+    ensures { (words : List (List ℕ)) (file : List ℕ → Option (List ℕ)) (o p : Outcome) → Gives words file o → Gives words file p
+        → (o.status ≡ p.status) × (o.printed ≡ p.printed) }
 {
     one_book();
+    one_cert();
+    one_verdict();
+    sound_yes();
     winning_choice();
     book_market();
     vickrey_prices();

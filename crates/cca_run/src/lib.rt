@@ -2,10 +2,12 @@
 #![tactic(auto)]
 
 mod book_file;
+mod cert_file;
 mod laws;
 mod line;
-mod price;
+mod product;
 mod status;
+mod status_of;
 mod top;
 mod win;
 mod words;
@@ -14,6 +16,10 @@ pub use laws::one_outcome;
 pub use status::{FileKind, Status};
 pub use top::run;
 
+#[cfg(test)]
+mod cert_tests;
+#[cfg(test)]
+mod fault_tests;
 #[cfg(test)]
 mod listing_tests;
 #[cfg(test)]

@@ -1,6 +1,5 @@
-// The top call on books with known winners, on faulty ones, and on faults of files and of the output; and the winners
-// beside a listing of all choices.
-ghost use Rattle.std.specs.Prelude.{◌<◌, length, IfOk, All, IsTrue, map, string_bytes};
+// Runs over files in memory: the winners of books with known ones, faulty books and words, and the codes of the statuses.
+ghost use Rattle.std.specs.Prelude.{◌<◌, length, IfOk, OnOk, All, IsTrue, map, string_bytes};
 ghost use Rattle.cca_base.specs.MemFiles.{mem_folder};
 
 use crate::{FileKind, Status, run};
@@ -37,6 +36,26 @@ const TOO_MANY_STATES: &str = "book 1\nsupply 7 7 7 8\nreserve 0 0 0 0\nend\n";
 
 const LEADING_ZERO: &str = "book 1\nsupply 1 1\nreserve 0 0\nbidder east\nbid 1 0 028\nend\n";
 
+/// What the files hold before a run, and the load, the append and the put that fail; 0 for none.
+#[derive(Clone, Copy, Debug)]
+pub struct Setting<'a> {
+    /// The bytes of the file that the second word names.
+    pub book: Option<&'a [u8]>,
+    /// The bytes of the file that the third word names.
+    pub cert: Option<&'a [u8]>,
+    pub fail_load: u64,
+    pub fail_append: u64,
+    pub fail_put: u64,
+}
+
+/// What a run answers, prints and leaves in the file that the third word names.
+#[derive(Drop)]
+pub struct Ended {
+    pub status: Status,
+    pub printed: Vec<u8>,
+    pub cert: Option<Vec<u8>>,
+}
+
 fn words_of(alloc: Global, words: &[&str]) -> Result<Vec<String>, AllocError> {
     let mut list = Vec::new(alloc);
     for word in words {
@@ -45,61 +64,106 @@ fn words_of(alloc: Global, words: &[&str]) -> Result<Vec<String>, AllocError> {
     Ok(list)
 }
 
-// Files that know the words.
-fn no_files(alloc: Global, words: &[String], bite: usize) -> Result<MemFiles, AllocError>
-    requires { 0 < bite }
+// Files that know the words. At most 100 bytes go in one call.
+fn no_files(alloc: Global, words: &[String]) -> Result<MemFiles, AllocError>
     ensures { IfOk result (λ files. All (λ w. IsTrue ((mem_folder files.files.items).knows w)) (map string_bytes words.now)) }
 {
-    let files = MemFiles::new(alloc, words, bite)?;
+    let files = MemFiles::new(alloc, words, 100)?;
     Ok(files)
 }
 
-// Files that know the words, of which the second names a file with these bytes.
-fn files_with(
-    alloc: Global,
+// Gives the file that the word at this place names these bytes.
+fn set_at(
+    files: &mut MemFiles,
     words: &[String],
-    bite: usize,
+    place: usize,
     bytes: &[u8],
-) -> Result<MemFiles, AllocError>
-    requires bite { 0 < bite }
-    requires words { 1 < length words.now }
-    ensures { IfOk result (λ files. All (λ w. IsTrue ((mem_folder files.files.items).knows w)) (map string_bytes words.now)) }
+) -> Result<(), AllocError>
+    requires place { place < length words.now }
+    requires known { All (λ w. IsTrue ((mem_folder files.old.files.items).knows w)) (map string_bytes words.now) }
+    ensures { OnOk result (All (λ w. IsTrue ((mem_folder files.new.files.items).knows w)) (map string_bytes words.now)) }
 {
-    let mut files = MemFiles::new(alloc, words, bite)?;
-    files.set(words[1].as_str(), bytes)?;
-    Ok(files)
+    files.set(words[place].as_str(), bytes)?;
+    Ok(())
 }
 
-fn files_of(
-    alloc: Global,
+// The same where there are such a word and bytes.
+fn fill(
+    files: &mut MemFiles,
     words: &[String],
-    bite: usize,
+    place: usize,
     bytes: Option<&[u8]>,
-) -> Result<MemFiles, AllocError>
-    requires { 0 < bite }
-    ensures { IfOk result (λ files. All (λ w. IsTrue ((mem_folder files.files.items).knows w)) (map string_bytes words.now)) }
+) -> Result<(), AllocError>
+    requires { All (λ w. IsTrue ((mem_folder files.old.files.items).knows w)) (map string_bytes words.now) }
+    ensures { OnOk result (All (λ w. IsTrue ((mem_folder files.new.files.items).knows w)) (map string_bytes words.now)) }
 {
     match bytes {
-        Some(bytes) if words.len() > 1 => files_with(alloc, words, bite, bytes),
-        _ => no_files(alloc, words, bite),
+        Some(bytes) if place < words.len() => set_at(files, words, place, bytes),
+        _ => Ok(()),
     }
 }
 
-// What a run over files in memory answers and prints. The load and the put of these numbers fail.
-pub fn run_on(
+// Files that know the words, with the bytes of the book and of the certificate.
+fn files_of(alloc: Global, words: &[String], setting: &Setting<'_>) -> Result<MemFiles, AllocError>
+    ensures { IfOk result (λ files. All (λ w. IsTrue ((mem_folder files.files.items).knows w)) (map string_bytes words.now)) }
+{
+    let mut files = no_files(alloc, words)?;
+    fill(&mut files, words, 1, setting.book)?;
+    fill(&mut files, words, 2, setting.cert)?;
+    Ok(files)
+}
+
+// The bytes of the file that the third of different words names.
+fn cert_of(alloc: Global, files: &MemFiles) -> Result<Option<Vec<u8>>, AllocError> {
+    let Some(file) = files.files.get(2) else {
+        return Ok(None);
+    };
+    match &file.bytes {
+        Some(bytes) => Ok(Some(Vec::from_slice(alloc, bytes)?)),
+        None => Ok(None),
+    }
+}
+
+/// What a run over files in memory answers, prints and leaves.
+pub fn run_on(alloc: Global, words: &[&str], setting: &Setting<'_>) -> Result<Ended, AllocError> {
+    let words = words_of(alloc, words)?;
+    let mut files = files_of(alloc, &words, setting)?;
+    files.fail_loads.push(setting.fail_load)?;
+    files.fail_appends.push(setting.fail_append)?;
+    let mut out = MemSink::new(alloc, 5);
+    out.fail_puts.push(setting.fail_put)?;
+    let status = run(alloc, &words, &mut files, &mut out);
+    Ok(Ended {
+        status,
+        printed: out.bytes,
+        cert: cert_of(alloc, &files)?,
+    })
+}
+
+/// The same where no call fails.
+pub fn run_plain(
     alloc: Global,
     words: &[&str],
-    bytes: Option<&[u8]>,
-    fail_load: u64,
-    fail_put: u64,
-) -> Result<(Status, Vec<u8>), AllocError> {
-    let words = words_of(alloc, words)?;
-    let mut files = files_of(alloc, &words, 65_536, bytes)?;
-    files.fail_loads.push(fail_load)?;
-    let mut out = MemSink::new(alloc, 5);
-    out.fail_puts.push(fail_put)?;
-    let status = run(alloc, &words, &mut files, &mut out);
-    Ok((status, out.bytes))
+    book: &str,
+    cert: Option<&[u8]>,
+) -> Result<Ended, AllocError> {
+    let setting = Setting {
+        book: Some(book.as_bytes()),
+        cert,
+        fail_load: 0,
+        fail_append: 0,
+        fail_put: 0,
+    };
+    run_on(alloc, words, &setting)
+}
+
+/// The bytes of the pieces together.
+pub fn joined(alloc: Global, pieces: &[&str]) -> Result<Vec<u8>, AllocError> {
+    let mut bytes = Vec::new(alloc);
+    for piece in pieces {
+        bytes.extend_from_slice(piece.as_bytes())?;
+    }
+    Ok(bytes)
 }
 
 #[test]
@@ -125,9 +189,9 @@ fn prints_the_winners(rt: HostRuntime) -> Result<(), Fail> {
         (GREATEST, "net 0\n"),
     ];
     for (book, printed) in table {
-        let (status, bytes) = run_on(rt.alloc(), &["win", "BOOK"], Some(book.as_bytes()), 0, 0)?;
-        assert_eq!(rt; status, Status::Done);
-        assert_eq!(rt; bytes.as_slice(), printed.as_bytes());
+        let ended = run_plain(rt.alloc(), &["win", "BOOK"], book, None)?;
+        assert_eq!(rt; ended.status, Status::Done);
+        assert_eq!(rt; ended.printed.as_slice(), printed.as_bytes());
     }
     Ok(())
 }
@@ -160,63 +224,40 @@ fn refuses_faulty_books(rt: HostRuntime) -> Result<(), Fail> {
         ),
     ];
     for (book, expected, printed) in table {
-        let (status, bytes) = run_on(rt.alloc(), &["win", "BOOK"], Some(book.as_bytes()), 0, 0)?;
-        assert_eq!(rt; status, expected);
-        assert_eq!(rt; bytes.as_slice(), printed.as_bytes());
+        let ended = run_plain(rt.alloc(), &["win", "BOOK"], book, None)?;
+        assert_eq!(rt; ended.status, expected);
+        assert_eq!(rt; ended.printed.as_slice(), printed.as_bytes());
     }
     Ok(())
 }
 
 #[test]
 fn refuses_other_words(rt: HostRuntime) -> Result<(), Fail> {
-    let table: [&[&str]; 11] = [
+    let table: [&[&str]; 19] = [
         &[],
-        &["price"],
-        &["price", "BOOK", "--json"],
-        &["price", "--rounds", "BOOK"],
-        &["price", "BOOK", "--rounds", "--rounds"],
-        &["check", "BOOK", "BOOK"],
         &["win"],
         &["win", ""],
         &["win", "-BOOK"],
-        &["win", "BOOK", "BOOK"],
+        &["win", "BOOK", "CERT"],
         &["wins", "BOOK"],
+        &["price"],
+        &["price", "BOOK"],
+        &["price", "BOOK", "BOOK"],
+        &["price", "BOOK", "--rounds"],
+        &["price", "--rounds", "BOOK", "CERT"],
+        &["price", "BOOK", "--rounds", "CERT"],
+        &["price", "BOOK", "CERT", "--json"],
+        &["price", "BOOK", "CERT", "--rounds", "--rounds"],
+        &["check", "BOOK"],
+        &["check", "BOOK", "BOOK"],
+        &["check", "BOOK", ""],
+        &["check", "BOOK", "CERT", "--rounds"],
+        &["check", "--rounds", "BOOK", "CERT"],
     ];
     for words in table {
-        let (status, bytes) = run_on(rt.alloc(), words, Some(NOBODY.as_bytes()), 0, 0)?;
-        assert_eq!(rt; status, Status::Words);
-        assert_eq!(rt; bytes.as_slice(), b"cca: words\n".as_slice());
-    }
-    Ok(())
-}
-
-#[test]
-fn tells_faults(rt: HostRuntime) -> Result<(), Fail> {
-    let alloc = rt.alloc();
-    let long = vec![in alloc; b'x'; 1_048_577]?;
-    let book = Some(TIE.as_bytes());
-    let read_fault = Status::ReadFault {
-        file: FileKind::Book,
-    };
-    let write_fault = Status::WriteFault {
-        file: FileKind::Out,
-    };
-    let too_long = Status::Limit {
-        which: LimitKind::Bytes,
-        count: 1_048_577,
-    };
-    let table: [(Option<&[u8]>, u64, u64, Status, &str); 6] = [
-        (None, 0, 0, read_fault, "cca: read fault book\n"),
-        (book, 1, 0, read_fault, "cca: read fault book\n"),
-        (book, 2, 0, read_fault, "cca: read fault book\n"),
-        (book, 0, 1, write_fault, ""),
-        (book, 0, 3, write_fault, "winner eas"),
-        (Some(&long), 0, 0, too_long, "cca: limit bytes 1048577\n"),
-    ];
-    for (bytes, fail_load, fail_put, expected, printed) in table {
-        let (status, bytes) = run_on(alloc, &["win", "BOOK"], bytes, fail_load, fail_put)?;
-        assert_eq!(rt; status, expected);
-        assert_eq!(rt; bytes.as_slice(), printed.as_bytes());
+        let ended = run_plain(rt.alloc(), words, NOBODY, None)?;
+        assert_eq!(rt; ended.status, Status::Words);
+        assert_eq!(rt; ended.printed.as_slice(), b"cca: words\n".as_slice());
     }
     Ok(())
 }

@@ -1,22 +1,50 @@
 // The plain form of the words.
 ghost use Rattle.std.specs.Prelude.{◌≡◌, map, string_bytes, option_map, Some, None, MatchOption, IfSome, Contains};
-ghost use Rattle.cca_run.specs.Command.{is_file_word, win_task, price_task, task_of, command_of};
-ghost use Rattle.cca_run.specs.Words.{task_value, command_value};
+ghost use Rattle.cca_run.specs.Command.{are_file_words, book_of, check_words, command_of, is_file_word, output_of, price_words, rounds_asked, win_words};
+ghost use Rattle.cca_run.specs.Words.{AreAmong, command_value};
 
-/// What is to be done with a book.
-#[derive(Clone, Copy, Debug, PartialEq, Eq)]
-pub enum Task {
-    /// Its winners are printed.
-    Win,
-    /// Its prices are printed, and before them a line for each turn where the rounds are asked for.
-    Price { rounds: bool },
+/// A command in its plain form, with the names of its files.
+#[derive(Clone, Copy, Debug)]
+pub enum Command<'a> {
+    /// The winners of a book are printed.
+    Win {
+        book: &'a str,
+    },
+    /// A book is priced; its certificate is appended, and the prices are printed, behind a line for each turn where the rounds are
+    /// asked for.
+    Price {
+        book: &'a str,
+        cert: &'a str,
+        rounds: bool,
+    },
+    /// A certificate of a book is tested.
+    Check {
+        book: &'a str,
+        cert: &'a str,
+    },
 }
 
-/// A command in its plain form.
-#[derive(Clone, Copy, Debug)]
-pub struct Command<'a> {
-    pub task: Task,
-    pub book: &'a str,
+impl<'a> Command<'a> {
+    /// The name of the book.
+    pub fn book(self) -> &'a str
+        ensures { result.now ≡ book_of (command_value self.entry) }
+    {
+        match self {
+            Command::Win { book } => book,
+            Command::Price { book, .. } => book,
+            Command::Check { book, .. } => book,
+        }
+    }
+
+    /// The name of the file that the command appends to.
+    pub fn output(self) -> Option<&'a str>
+        ensures { option_map (λ name. name.now) result ≡ output_of (Some (command_value self.entry)) }
+    {
+        match self {
+            Command::Price { cert, .. } => Some(cert),
+            _ => None,
+        }
+    }
 }
 
 fn can_be_file(word: &str) -> bool
@@ -28,49 +56,84 @@ fn can_be_file(word: &str) -> bool
     }
 }
 
-fn win_flags(flags: &[String]) -> Option<Task>
-    ensures { option_map task_value result ≡ win_task (map string_bytes flags.now) }
+fn can_be_files(one: &str, other: &str) -> bool
+    ensures { result ≡ are_file_words one.now other.now }
 {
-    match flags {
-        [] => Some(Task::Win),
-        _ => None,
-    }
+    can_be_file(one) && (can_be_file(other) && one != other)
 }
 
-fn price_flags(flags: &[String]) -> Option<Task>
-    ensures { option_map task_value result ≡ price_task (map string_bytes flags.now) }
+fn win_command(words: &[String]) -> Option<Command<'_>>
+    ensures among { IfSome result (λ c. AreAmong (map string_bytes words.now) (command_value c)) }
+    ensures command { option_map command_value result ≡ win_words (map string_bytes words.now) }
 {
-    match flags {
-        [] => Some(Task::Price { rounds: false }),
-        [flag] if flag.as_str() == "--rounds" => Some(Task::Price { rounds: true }),
-        _ => None,
-    }
-}
-
-fn task_named(name: &str, flags: &[String]) -> Option<Task>
-    ensures { option_map task_value result ≡ task_of name.now (map string_bytes flags.now) }
-{
-    match name {
-        "win" => win_flags(flags),
-        "price" => price_flags(flags),
-        _ => None,
-    }
-}
-
-/// The command that the words say, where they are of the plain form. It takes no memory.
-pub fn read_command(words: &[String]) -> Option<Command<'_>>
-    ensures among { IfSome result (λ c. Contains (map string_bytes words.now) c.book.now) }
-    ensures command { option_map command_value result ≡ command_of (map string_bytes words.now) }
-{
-    let [name, book, flags @ ..] = words else {
+    let [book] = words else {
         return None;
     };
     if !can_be_file(book.as_str()) {
         return None;
     }
-    let task = task_named(name.as_str(), flags)?;
-    Some(Command {
-        task,
+    Some(Command::Win {
         book: book.as_str(),
     })
+}
+
+// Whether the words behind the files ask for the rounds; None where they say something else.
+fn asks_for_rounds(flags: &[String]) -> Option<bool>
+    ensures { result ≡ rounds_asked (map string_bytes flags.now) }
+{
+    match flags {
+        [] => Some(false),
+        [flag] if flag.as_str() == "--rounds" => Some(true),
+        _ => None,
+    }
+}
+
+fn price_command(words: &[String]) -> Option<Command<'_>>
+    ensures among { IfSome result (λ c. AreAmong (map string_bytes words.now) (command_value c)) }
+    ensures command { option_map command_value result ≡ price_words (map string_bytes words.now) }
+{
+    let [book, cert, flags @ ..] = words else {
+        return None;
+    };
+    if !can_be_files(book.as_str(), cert.as_str()) {
+        return None;
+    }
+    let rounds = asks_for_rounds(flags)?;
+    Some(Command::Price {
+        book: book.as_str(),
+        cert: cert.as_str(),
+        rounds,
+    })
+}
+
+fn check_command(words: &[String]) -> Option<Command<'_>>
+    ensures among { IfSome result (λ c. AreAmong (map string_bytes words.now) (command_value c)) }
+    ensures command { option_map command_value result ≡ check_words (map string_bytes words.now) }
+{
+    let [book, cert] = words else {
+        return None;
+    };
+    if !can_be_files(book.as_str(), cert.as_str()) {
+        return None;
+    }
+    Some(Command::Check {
+        book: book.as_str(),
+        cert: cert.as_str(),
+    })
+}
+
+/// The command that the words say, where they are of the plain form. It takes no memory.
+pub fn read_command(words: &[String]) -> Option<Command<'_>>
+    ensures among { IfSome result (λ c. AreAmong (map string_bytes words.now) (command_value c)) }
+    ensures command { option_map command_value result ≡ command_of (map string_bytes words.now) }
+{
+    let [name, rest @ ..] = words else {
+        return None;
+    };
+    match name.as_str() {
+        "win" => win_command(rest),
+        "price" => price_command(rest),
+        "check" => check_command(rest),
+        _ => None,
+    }
 }

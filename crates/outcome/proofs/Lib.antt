@@ -3,7 +3,9 @@ mod Totals
 mod Winners
 mod LineLaws
 mod PriceLists
-mod SinglesLaws
+mod PartLaws
+mod Printable
 mod Ranges
+mod Vickrey
 mod Revenue
 mod RoundLaws

@@ -1,25 +1,23 @@
 -- The revenue, and the text of an outcome as a whole.
-use Rattle.std.proofs.Common.{◌≡◌, ℕ, zero, suc, ◌≤◌, IsTrue, List, ◌++◌, codes, length, ℤ, pos, ◌+ℤ◌, ◌*ℤ◌, refl, sym, ap, subst, ◌∙◌, arith}
+use Rattle.std.proofs.Common.{◌≡◌, ℕ, zero, suc, ◌-◌, ◌≤◌, IsTrue, List, ◌++◌, codes, length, ℤ, pos, ◌+ℤ◌, ◌*ℤ◌, refl, sym, ap, subst, ◌∙◌, arith}
 use Rattle.std.proofs.Math.IntN.{*ℤ-zero}
 use Rattle.auction_model.specs.Book.{Book, market_of, menu_of}
 use Rattle.auction_model.specs.Lowered.{of_bidder}
 use Rattle.auction_model.specs.Market.{number_of, value_of}
 use Rattle.auction_model.specs.Menu.{is_known_after}
-use Rattle.auction_model.specs.Prices.{sum_over, everyone}
+use Rattle.auction_model.specs.Prices.{Point, sum_over, everyone}
 use Rattle.auction_model.proofs.ChoiceLaws.{known-length}
 use Rattle.auction_text.specs.WinText.{net_line}
 use Rattle.choices.specs.Singles.{winners_after}
 use Rattle.price_text.specs.Prices.{reserve_of, revenue_of, IsPriceText}
-use Rattle.row_laws.specs.Winners.{winners_in, for_bidders}
 use Rattle.row_laws.proofs.Sums.{over-is, choice-is}
-use Rattle.row_laws.proofs.Winners.{paid-zip}
 use Rattle.wide_num.specs.Sums.{nth, total}
 use Rattle.wide_num.proofs.Ints.{lin, mul-add}
+use Rattle.wide_num.proofs.Sums.{total-same}
 use Rattle.outcome.specs.declared.fraction.Fraction.{Fraction}
 use Rattle.outcome.specs.declared.prices.WinnerPrice.{WinnerPrice}
 use Rattle.outcome.specs.Fractions.{IsFractionOf, fraction_text}
 use Rattle.outcome.specs.Prices.{AreWinnerPrices, lines_of, reserves_of}
-use Rattle.core_price.specs.Turns.{point_of}
 use Rattle.outcome.proofs.PriceLists.{lines-are, reserves-are, prices-length}
 use Rattle.outcome.proofs.Winners.{winners-length, winners-few}
 
@@ -27,32 +25,36 @@ split-sum : (f g : ℕ → ℤ) (d : ℤ) (n : ℕ) → sum_over everyone (λ j.
 split-sum f g d zero = omega (arith, lin, *ℤ-zero d)
 split-sum f g d (suc n) = omega (arith, lin, split-sum f g d n, mul-add d (sum_over everyone g n) (g (suc n)))
 
-module _ (book : Book) (z : List ℕ) (v : ℕ → ℤ) (den : ℤ) (at : List ℤ) (ws : List WinnerPrice) (known : IsTrue (is_known_after (menu_of book) 0 z)) (as-many : length at ≡ winners_in z)
-    (are : AreWinnerPrices book z v (point_of z den at) (winners_after 0 z) ws) where
+module _ (book : Book) (z : List ℕ) (v : ℕ → ℤ) (p : Point) (ws : List WinnerPrice) (known : IsTrue (is_known_after (menu_of book) 0 z)) (as-many : length p.at ≡ length z) (are : AreWinnerPrices book z v p (winners_after 0 z) ws) where
   long : length z ≡ length book.bidders
   long = omega (arith, known-length (menu_of book) 0 z known)
 
   pub few : length ws ≤ length book.bidders
-  few = omega (arith, prices-length book z v (point_of z den at) (winners_after 0 z) ws are, winners-length 0 z, winners-few z, long)
+  few = omega (arith, prices-length book z v p (winners_after 0 z) ws are, winners-length 0 z, winners-few z, long)
 
-  revenue-is : total (length at) (nth at) +ℤ (den *ℤ pos (reserves_of ws)) ≡ revenue_of book z (point_of z den at) (length book.bidders)
-  revenue-is =
-      let payments : sum_over everyone (of_bidder (for_bidders z at)) (length book.bidders) ≡ total (length at) (nth at) =
-      ap (sum_over everyone (of_bidder (for_bidders z at))) (sym long) ∙ paid-zip z at ∙ ap (λ (n : ℕ). total n (nth at)) (sym as-many) in
-      let reserves : sum_over everyone (λ j. reserve_of book j (number_of z j)) (length book.bidders) ≡ pos (reserves_of ws) =
+  payments-are : sum_over everyone (of_bidder p.at) (length book.bidders) ≡ total (length p.at) (nth p.at)
+  payments-are =
+      ap (sum_over everyone (of_bidder p.at)) (sym long ∙ sym as-many) ∙ over-is everyone (of_bidder p.at) (length p.at)
+      ∙ total-same (length p.at) (λ k. of_bidder p.at (suc k)) (nth p.at) (λ k lt. let same : suc k - 1 ≡ k = omega arith in ap (nth p.at) same)
+
+  reserves-sum : sum_over everyone (λ j. reserve_of book j (number_of z j)) (length book.bidders) ≡ pos (reserves_of ws)
+  reserves-sum =
       ap (sum_over everyone (λ j. reserve_of book j (number_of z j))) (sym long) ∙ over-is everyone (λ j. reserve_of book j (number_of z j)) (length z)
-      ∙ sym (choice-is (reserve_of book) z) ∙ reserves-are book z v (point_of z den at) 0 z ws refl are in
-      sym (split-sum (of_bidder (for_bidders z at)) (λ j. reserve_of book j (number_of z j)) den (length book.bidders)
-      ∙ ap (λ (x : ℤ). x +ℤ (den *ℤ sum_over everyone (λ j. reserve_of book j (number_of z j)) (length book.bidders))) payments
-      ∙ ap (λ (x : ℤ). total (length at) (nth at) +ℤ (den *ℤ x)) reserves)
+      ∙ sym (choice-is (reserve_of book) z) ∙ reserves-are book z v p 0 z ws refl are
 
-  pub price-text : (revenue : Fraction) (text : List ℕ) → IsFractionOf (total (length at) (nth at) +ℤ (den *ℤ pos (reserves_of ws))) den revenue
+  revenue-is : total (length p.at) (nth p.at) +ℤ (p.den *ℤ pos (reserves_of ws)) ≡ revenue_of book z p (length book.bidders)
+  revenue-is =
+      sym (split-sum (of_bidder p.at) (λ j. reserve_of book j (number_of z j)) p.den (length book.bidders)
+      ∙ ap (λ (x : ℤ). x +ℤ (p.den *ℤ sum_over everyone (λ j. reserve_of book j (number_of z j)) (length book.bidders))) payments-are
+      ∙ ap (λ (x : ℤ). total (length p.at) (nth p.at) +ℤ (p.den *ℤ x)) reserves-sum)
+
+  pub price-text : (revenue : Fraction) (text : List ℕ) → IsFractionOf (total (length p.at) (nth p.at) +ℤ (p.den *ℤ pos (reserves_of ws))) p.den revenue
       → text ≡ lines_of book ws ++ net_line (value_of (market_of book) z) ++ codes "revenue " ++ fraction_text revenue ++ codes "\n"
-      → IsPriceText book z v (point_of z den at) text
+      → IsPriceText book z v p text
   price-text revenue text is made = (
     lines_of book ws,
     fraction_text revenue,
-    lines-are book z v (point_of z den at) 0 z ws refl are,
-    (revenue.whole, revenue.rest, revenue.parts, subst (λ (x : ℤ). IsFractionOf x den revenue) revenue-is is, refl),
+    lines-are book z v p 0 z ws refl are,
+    (revenue.whole, revenue.rest, revenue.parts, subst (λ (x : ℤ). IsFractionOf x p.den revenue) revenue-is is, refl),
     made,
   )

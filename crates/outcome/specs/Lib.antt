@@ -1,3 +1,4 @@
+pub mod Certified
 pub mod Fractions
 pub mod Payments
 pub mod Prices

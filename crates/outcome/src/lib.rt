@@ -3,16 +3,16 @@
 //! Prices are kept net of reserve and are printed gross: the reserve of a winner's package is added.
 #![tactic(auto)]
 
+mod certified;
 mod fraction;
 mod lines;
 mod numbers;
 mod prices;
 mod rounds;
 
+pub use certified::outcome_text;
 pub use fraction::{Fraction, add_fraction};
-pub use lines::price_text;
 pub use numbers::{add_net, add_number, add_numbers};
-pub use prices::{WinnerPrice, winner_prices};
 pub use rounds::{add_turn, rounds_text};
 
 #[cfg(test)]

@@ -1,55 +1,24 @@
-// The lines of the winners, and the text of an outcome.
-ghost use Rattle.std.specs.Prelude.{◌≡◌, ℕ, ◌≤◌, ◌<◌, ◌^◌, ◌++◌, ◌+ℤ◌, ◌*ℤ◌, ◌<ℤ◌, ◌≤ℤ◌, pos, length, codes, IfOk, OnOk, IsTrue};
+// The lines of the winners, and the revenue.
+ghost use Rattle.std.specs.Prelude.{◌≡◌, ℕ, ◌≤◌, ◌<◌, ◌^◌, ◌++◌, ◌+ℤ◌, ◌*ℤ◌, ◌<ℤ◌, ◌≤ℤ◌, pos, length, codes, OnOk};
 ghost use Rattle.std.specs.List.{AllByRecursion};
-ghost use Rattle.auction_model.specs.Book.{bids_of, market_of};
-ghost use Rattle.auction_model.specs.Lowered.{of_bidder};
-ghost use Rattle.choices.specs.Singles.{AreSingles};
-ghost use Rattle.core_price.specs.Rows.{prices_of};
-ghost use Rattle.price_text.specs.Prices.{IsPriceText};
-ghost use Rattle.row_laws.specs.Winners.{for_bidders, winners_in};
 ghost use Rattle.wide_num.specs.Sums.{nth, total};
 ghost use Rattle.wide_num.specs.Range.{InRange};
 ghost use Rattle.outcome.specs.Fractions.{IsFractionOf, fraction_text};
-ghost use Rattle.outcome.specs.Payments.{ArePayments};
 ghost use Rattle.outcome.specs.Prices.{line_of, lines_of, reserves_of, HasBid};
-ghost use Rattle.core_price.specs.Turns.{point_of};
 
 use crate::numbers::{add_decimal, add_signed};
-use crate::{Fraction, WinnerPrice, add_fraction, add_net, add_numbers, winner_prices};
+use crate::prices::WinnerPrice;
+use crate::{Fraction, add_fraction, add_numbers};
 use bid_book::BidBook;
-use choices::{Choice, Single, value};
-use std::alloc::{AllocError, Global};
+use std::alloc::AllocError;
 use wide_num::Text;
 
-/// The text of the prices of the winners of a book: a line for each winner in order, the net value, and the revenue.
-///
-/// `singles` has each winner with its Vickrey price, and `at` what each pays, both net of reserve; the payments are times
-/// `den`. The only error is want of memory.
-pub fn price_text(
-    alloc: Global,
+/// Adds the line of each winner.
+pub(crate) fn add_prices(
+    text: &mut Text,
     book: &BidBook,
-    winners: &Choice,
-    singles: &[Single],
-    den: i128,
-    at: &[i128],
-) -> Result<Text, AllocError>
-    requires allowed { IsTrue ((market_of book.now).allowed winners.now) }
-    requires singles { AreSingles (market_of book.now) winners.now singles.now }
-    requires payments { ArePayments winners.now den at.now }
-    requires range { total (winners_in winners.now) (nth at.now) <ℤ pos (2 ^ 120) }
-    ensures { IfOk result (λ text. IsPriceText book.now winners.now (of_bidder (for_bidders winners.now (prices_of singles.now))) (point_of winners.now den at.now) text) }
-{
-    let _bidders = book.bidders();
-    let prices = winner_prices(alloc, book, winners, singles, den, at)?;
-    let mut text = Text::new(alloc);
-    add_prices(&mut text, book, &prices)?;
-    add_net(&mut text, value(book, winners))?;
-    add_revenue(&mut text, revenue(&prices, den, at))?;
-    Ok(text)
-}
-
-// The line of each winner.
-fn add_prices(text: &mut Text, book: &BidBook, prices: &[WinnerPrice]) -> Result<(), AllocError>
+    prices: &[WinnerPrice],
+) -> Result<(), AllocError>
     requires { AllByRecursion (HasBid book.now) prices.now }
     ensures { OnOk result (text.new ≡ text.old ++ lines_of book.now prices.now) }
 {
@@ -77,7 +46,8 @@ fn add_price(text: &mut Text, book: &BidBook, price: &WinnerPrice) -> Result<(),
     Ok(())
 }
 
-fn add_revenue(text: &mut Text, revenue: Fraction) -> Result<(), AllocError>
+/// Adds the line of the revenue.
+pub(crate) fn add_revenue(text: &mut Text, revenue: Fraction) -> Result<(), AllocError>
     ensures { OnOk result (text.new ≡ text.old ++ codes "revenue " ++ fraction_text revenue ++ codes "\n") }
 {
     text.add(b"revenue ")?;
@@ -85,8 +55,8 @@ fn add_revenue(text: &mut Text, revenue: Fraction) -> Result<(), AllocError>
     text.push(b'\n')
 }
 
-// What all winners pay, gross.
-fn revenue(prices: &[WinnerPrice], den: i128, at: &[i128]) -> Fraction
+/// What all winners pay, gross.
+pub(crate) fn revenue(prices: &[WinnerPrice], den: i128, at: &[i128]) -> Fraction
     requires den { (pos 1 ≤ℤ den) × InRange den }
     requires few { length prices.now ≤ 2 ^ 16 }
     requires not_negative { (i : ℕ) → i < length at.now → pos 0 ≤ℤ nth at.now i }

@@ -1,11 +1,14 @@
-// Fractions, the lines of turns, and what is printed of winners, worked by hand.
-ghost use Rattle.std.specs.Prelude.{◌≡◌, ◌≤ℤ◌, pos, IfOk};
+// Fractions, the lines of turns and the outcome of a certificate, worked by hand.
+ghost use Rattle.std.specs.Prelude.{◌≡◌, ◌≤ℤ◌, pos, IfOk, [], ◌∷◌, map};
+ghost use Rattle.cert_text.specs.Parts.{without_value};
 ghost use Rattle.wide_num.specs.Range.{InRange};
 
-use crate::{Fraction, add_fraction, rounds_text, winner_prices};
+use crate::certified::printed;
+use crate::{Fraction, add_fraction, rounds_text};
 use bid_book::read_book;
 use blocking::Block;
-use choices::{Choice, Numbers, Single, known};
+use cert_text::{CertRows, Certificate, WithoutList, WithoutPart};
+use choices::{Choice, Grid, Numbers, known, value};
 use core_price::Turn;
 use far_num::Row;
 use std::alloc::{AllocError, Global};
@@ -29,7 +32,7 @@ fn list_of(alloc: Global, numbers: &[i128]) -> Result<NumList, AllocError>
     Ok(NumList::from_vec(numbers))
 }
 
-fn printed(alloc: Global, n: i128, d: i128) -> Result<Text, AllocError>
+fn fraction_text(alloc: Global, n: i128, d: i128) -> Result<Text, AllocError>
     requires number { pos 0 ≤ℤ n }
     requires denominator { (pos 1 ≤ℤ d) × InRange d }
 {
@@ -41,17 +44,17 @@ fn printed(alloc: Global, n: i128, d: i128) -> Result<Text, AllocError>
 #[test]
 fn prints_fractions_in_lowest_terms(rt: HostRuntime) -> Result<(), Fail> {
     let alloc = rt.alloc();
-    assert_eq!(rt; printed(alloc, 0, 5)?.items(), "0".as_bytes());
-    assert_eq!(rt; printed(alloc, 33, 3)?.items(), "11".as_bytes());
-    assert_eq!(rt; printed(alloc, 11, 3)?.items(), "3+2/3".as_bytes());
-    assert_eq!(rt; printed(alloc, 7, 2)?.items(), "3+1/2".as_bytes());
+    assert_eq!(rt; fraction_text(alloc, 0, 5)?.items(), "0".as_bytes());
+    assert_eq!(rt; fraction_text(alloc, 33, 3)?.items(), "11".as_bytes());
+    assert_eq!(rt; fraction_text(alloc, 11, 3)?.items(), "3+2/3".as_bytes());
+    assert_eq!(rt; fraction_text(alloc, 7, 2)?.items(), "3+1/2".as_bytes());
     assert_eq!(rt;
-        printed(alloc, 4_398_046_511_104, 6)?.items(),
+        fraction_text(alloc, 4_398_046_511_104, 6)?.items(),
         "733007751850+2/3".as_bytes()
     );
     let great = 1_000_000_000_000_000_000_000_000_000_000_000_000;
     assert_eq!(rt;
-        printed(alloc, great, 6)?.items(),
+        fraction_text(alloc, great, 6)?.items(),
         "166666666666666666666666666666666666+2/3".as_bytes()
     );
     Ok(())
@@ -126,35 +129,56 @@ fn prints_the_turn_of_nobody(rt: HostRuntime) -> Result<(), Fail> {
     Ok(())
 }
 
+// Two lines of two zeros.
+fn zeros(alloc: Global) -> Result<Grid, AllocError>
+    ensures { IfOk result (λ grid. grid ≡ (pos 0 ∷ pos 0 ∷ []) ∷ (pos 0 ∷ pos 0 ∷ []) ∷ []) }
+{
+    let mut grid = Grid::new(alloc);
+    grid.push_line(list_of(alloc, &[0, 0])?)?;
+    grid.push_line(list_of(alloc, &[0, 0])?)?;
+    Ok(grid)
+}
+
+// Of one bidder that wins with its first bid, of net amount 15, and pays 21 over 2. The text doesn't speak of the tables.
+fn one_winner(alloc: Global) -> Result<Certificate, AllocError>
+    ensures numbers { IfOk result (λ c. (c.den ≡ pos 2) × (c.value ≡ pos 15) × (c.choice ≡ 1 ∷ []) × (c.pay ≡ pos 21 ∷ [])) }
+    ensures part { IfOk result (λ c. map without_value c.withouts ≡ record { winner = 1; choice = 0 ∷ []; table = (pos 0 ∷ pos 0 ∷ []) ∷ (pos 0 ∷ pos 0 ∷ []) ∷ [] } ∷ []) }
+{
+    let mut withouts = WithoutList::new(alloc);
+    withouts.push(WithoutPart {
+        winner: 1,
+        choice: choice_of(alloc, &[0])?,
+        table: zeros(alloc)?,
+    })?;
+    Ok(Certificate {
+        den: 2,
+        value: 15,
+        choice: choice_of(alloc, &[1])?,
+        table: zeros(alloc)?,
+        withouts,
+        pay: list_of(alloc, &[21])?,
+        rows: CertRows::new(alloc),
+        lowered: zeros(alloc)?,
+    })
+}
+
 #[test]
-fn adds_the_reserve_to_prices(rt: HostRuntime) -> Result<(), Fail> {
+fn prints_gross_amounts(rt: HostRuntime) -> Result<(), Fail> {
     let alloc = rt.alloc();
-    let text = "book 1\nsupply 2\nreserve 10\nbidder a\nbid 1 25\nbidder b\nbid 2 30\nend\n";
+    let text = "book 1\nsupply 1\nreserve 10\nbidder a\nbid 1 25\nend\n";
     let Ok(book) = read_book(alloc, text.as_bytes()) else {
         panic!(rt; "this is a book");
     };
-    let winners = choice_of(alloc, &[1, 0])?;
-    if !known(&book, &winners) {
-        panic!(rt; "this choice is known");
+    let cert = one_winner(alloc)?;
+    let nobody = choice_of(alloc, &[0])?;
+    if !known(&book, &cert.choice) || !known(&book, &nobody) {
+        panic!(rt; "these choices are known");
     }
-    let single = Single {
-        winner: 1,
-        price: 10,
-        choice: choice_of(alloc, &[0, 1])?,
-    };
-    let prices = winner_prices(alloc, &book, &winners, &[single], 2, &[21])?;
-    assert_eq!(rt; prices.len(), 1);
-    assert_eq!(rt; prices[0].bidder, 1);
-    assert_eq!(rt; prices[0].bid, 1);
-    assert_eq!(rt; prices[0].reserve, 10);
-    assert_eq!(rt; prices[0].vickrey, 20);
-    assert_eq!(rt;
-        prices[0].pays,
-        Fraction {
-            whole: 20,
-            rest: 1,
-            parts: 2
-        }
-    );
+    if value(&book, &cert.choice) != 15 {
+        panic!(rt; "this is its value");
+    }
+    let outcome = printed(alloc, &book, &cert)?;
+    let lines = "winner a 1 bid 25 vickrey 10 pays 20+1/2\nnet 15\nrevenue 20+1/2\n";
+    assert_eq!(rt; outcome.items(), lines.as_bytes());
     Ok(())
 }

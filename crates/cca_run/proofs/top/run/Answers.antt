@@ -1,61 +1,63 @@
-use Rattle.std.proofs.Common.{inl, ◌∙◌, Option, map, string_bytes, refl, sym, subst}
+use Rattle.std.proofs.Common.{inl, ◌∙◌, [], Option, map, string_bytes, refl, sym, subst}
+use Rattle.cca_base.specs.Files.{KeepsFiles}
 use Rattle.cca_run.specs.Command.{Command}
+use Rattle.cca_run.specs.Ends.{Appended}
+use Rattle.cca_run.specs.Outcome.{CommandGives, Gives, stopped}
 use Rattle.cca_run.specs.Words.{command_value}
-use Rattle.cca_run.specs.Outcome.{CommandGives, Gives, MayPrint, stopped, done}
-use Rattle.cca_run.specs.declared.status.Status.TheVariants.{Done, Words}
-use Rattle.cca_run.proofs.Printed.{answers, front, gives-file, stop-other, stop-may, stop-gives, not-words, was-decided}
+use Rattle.cca_run.specs.declared.status.Status.TheVariants.{Words}
+use Rattle.cca_run.proofs.Moved.{ends-on}
+use Rattle.cca_run.proofs.Printed.{answered, fronted}
+use Rattle.cca_run.proofs.Runs.{end-answer, end-fault, end-files, end-front, stop-answer, stop-front}
 use Rattle.cca_run.proofs.top.run.Goals as goal
 
 pub returns-in_default-clause-answer : goal.returns-in_default-clause-answer
-returns-in_default-clause-answer g c = λ tells decided.
+returns-in_default-clause-answer g c = λ told decided.
     let words = map string_bytes c.args.words.now in
-    let file = (g.F.Files.folder c.args.files.now).file in
-    let gives : Gives words file (stopped Words) = subst (λ (x : Option Command). CommandGives x file (stopped Words)) c.in_default.ensures.command refl in
-    answers _ _ _ c.print.result _ words file (stopped Words) (λ _. gives) (c.as_slice.ensures.value ∙ c.line_of.ensures) c.print.ensures.printed tells decided
+    let folder = g.F.Files.folder c.args.files.now in
+    let none = c.in_default.ensures.command in
+    let kept : KeepsFiles folder folder = record { knows = refl; told = refl; file = refl; room = refl } in
+    answered words folder.told folder.file _ _ c.as_slice.result.now Words c.print.result folder folder
+    (λ _. subst (λ (x : Option Command). CommandGives x folder.file (stopped Words)) none refl) (c.as_slice.ensures.value ∙ c.line_of.ensures)
+    (subst (λ (x : Option Command). Appended x folder folder []) none kept) c.print.ensures.printed decided
 
 pub returns-in_default-clause-front : goal.returns-in_default-clause-front
 returns-in_default-clause-front g c = λ is.
     let words = map string_bytes c.args.words.now in
     let file = (g.F.Files.folder c.args.files.now).file in
     let gives : Gives words file (stopped Words) = subst (λ (x : Option Command). CommandGives x file (stopped Words)) c.in_default.ensures.command refl in
-    front _ _ _ c.print.result _ words file Words (λ _. inl (stopped Words, gives, c.as_slice.ensures.value ∙ c.line_of.ensures)) (λ e. cc) c.print.ensures.printed is
+    fronted words (g.F.Files.folder c.args.files.now).told file _ _ c.as_slice.result.now Words c.print.result
+    (λ _. inl (stopped Words, gives, c.as_slice.ensures.value ∙ c.line_of.ensures)) (λ e. cc) c.print.ensures.printed is
+
+pub returns-in-Ok-clause-write_fault : goal.returns-in-Ok-clause-write_fault
+returns-in-Ok-clause-write_fault g c = λ kind is.
+    let old = g.F.Files.folder c.args.files.now in
+    let ends = ends-on old (g.F.Files.folder c.work_out.new.files) (g.F.Files.folder c.finish.new.files) c.in-Ok.ensures.kept c.in-Ok.ensures.appends (command_value c.in-Some.command) _ _ _ _ _ c.finish.ensures.done in
+    end-fault (map string_bytes c.args.words.now) (command_value c.in-Some.command) (sym c.in-Some.ensures.command) old _ _ _ _ _ _ ends c.in-Ok.ensures.done kind is
 
 pub returns-in-Ok-clause-answer : goal.returns-in-Ok-clause-answer
-returns-in-Ok-clause-answer g c = λ tells decided.
-    let words = map string_bytes c.args.words.now in
-    let folder = g.F.Files.folder c.args.files.now in
-    answers _ _ _ c.print-in-Ok.result _ words folder.file (done c.in-Ok.text)
-    (λ t. gives-file folder.told words folder.file (command_value c.in-Some.command) (sym c.in-Some.ensures.command) 0 0 (done c.in-Ok.text) (c.in-Ok.ensures.done t)) c.items.ensures c.print-in-Ok.ensures.printed tells decided
+returns-in-Ok-clause-answer g c = λ told decided.
+    let old = g.F.Files.folder c.args.files.now in
+    let ends = ends-on old (g.F.Files.folder c.work_out.new.files) (g.F.Files.folder c.finish.new.files) c.in-Ok.ensures.kept c.in-Ok.ensures.appends (command_value c.in-Some.command) _ _ _ _ _ c.finish.ensures.done in
+    end-answer (map string_bytes c.args.words.now) (command_value c.in-Some.command) (sym c.in-Some.ensures.command) old _ _ _ _ _ _ ends c.in-Ok.ensures.done told decided
 
 pub returns-in-Ok-clause-front : goal.returns-in-Ok-clause-front
 returns-in-Ok-clause-front g c = λ is.
-    let words = map string_bytes c.args.words.now in
-    let folder = g.F.Files.folder c.args.files.now in
-    front _ _ _ c.print-in-Ok.result _ words folder.file Done
-    (λ t. inl (done c.in-Ok.text, gives-file folder.told words folder.file (command_value c.in-Some.command) (sym c.in-Some.ensures.command) 0 0 (done c.in-Ok.text) (c.in-Ok.ensures.done t), c.items.ensures)) (λ e. cc) c.print-in-Ok.ensures.printed is
+    let old = g.F.Files.folder c.args.files.now in
+    let ends = ends-on old (g.F.Files.folder c.work_out.new.files) (g.F.Files.folder c.finish.new.files) c.in-Ok.ensures.kept c.in-Ok.ensures.appends (command_value c.in-Some.command) _ _ _ _ _ c.finish.ensures.done in
+    end-front (map string_bytes c.args.words.now) (command_value c.in-Some.command) (sym c.in-Some.ensures.command) old _ _ _ _ _ _ ends c.in-Ok.ensures.done is
 
-pub returns-in-Err-clause-words : goal.returns-in-Err-clause-words
-returns-in-Err-clause-words g c = λ is.
-    let words = map string_bytes c.args.words.now in
-    let folder = g.F.Files.folder c.args.files.now in
-    absurd (not-words folder.told words folder.file (command_value c.in-Some.command) (sym c.in-Some.ensures.command) _ _ _ _ _ c.in-Err.status c.print-in-Err.result (c.in-Err.ensures.stop c.in-Err.status refl) c.print-in-Err.ensures.printed is)
+pub returns-in-Ok-clause-files : goal.returns-in-Ok-clause-files
+returns-in-Ok-clause-files g c =
+    let old = g.F.Files.folder c.args.files.now in
+    let ends = ends-on old (g.F.Files.folder c.work_out.new.files) (g.F.Files.folder c.finish.new.files) c.in-Ok.ensures.kept c.in-Ok.ensures.appends (command_value c.in-Some.command) _ _ _ _ _ c.finish.ensures.done in
+    end-files (map string_bytes c.args.words.now) (command_value c.in-Some.command) (sym c.in-Some.ensures.command) old _ _ _ _ _ _ ends c.in-Ok.ensures.done
 
 pub returns-in-Err-clause-answer : goal.returns-in-Err-clause-answer
-returns-in-Err-clause-answer g c = λ tells decided.
-    let words = map string_bytes c.args.words.now in
-    let folder = g.F.Files.folder c.args.files.now in
-    let stop = c.in-Err.ensures.stop c.in-Err.status refl in
-    let was = was-decided folder.told words folder.file (command_value c.in-Some.command) (sym c.in-Some.ensures.command) 0 0 _ _ _ c.in-Err.status c.print-in-Err.result c.print-in-Err.ensures.printed decided in
-    answers _ _ _ c.print-in-Err.result _ words folder.file (stopped c.in-Err.status)
-    (λ t. stop-gives folder.told words folder.file (command_value c.in-Some.command) (sym c.in-Some.ensures.command) _ _ c.in-Err.status stop was t)
-    (c.as_slice-in-Err.ensures.value ∙ c.line_of-in-Err.ensures) c.print-in-Err.ensures.printed tells decided
+returns-in-Err-clause-answer g c = λ told decided.
+    stop-answer (map string_bytes c.args.words.now) (command_value c.in-Some.command) (sym c.in-Some.ensures.command) (g.F.Files.folder c.args.files.now) (g.F.Files.folder c.work_out.new.files) _ _
+    c.as_slice-in-Err.result.now c.in-Err.status c.print-in-Err.result c.in-Err.ensures.kept (c.in-Err.ensures.stop c.in-Err.status refl) (c.as_slice-in-Err.ensures.value ∙ c.line_of-in-Err.ensures) c.print-in-Err.ensures.printed told decided
 
 pub returns-in-Err-clause-front : goal.returns-in-Err-clause-front
 returns-in-Err-clause-front g c = λ is.
-    let words = map string_bytes c.args.words.now in
-    let folder = g.F.Files.folder c.args.files.now in
-    let stop = c.in-Err.ensures.stop c.in-Err.status refl in
-    let line = c.as_slice-in-Err.ensures.value ∙ c.line_of-in-Err.ensures in
-    front _ _ _ c.print-in-Err.result _ words folder.file c.in-Err.status
-    (λ t. subst (MayPrint words folder.file) (sym line) (stop-may folder.told words folder.file (command_value c.in-Some.command) (sym c.in-Some.ensures.command) _ _ c.in-Err.status stop t))
-    (stop-other folder.told words folder.file (command_value c.in-Some.command) (sym c.in-Some.ensures.command) _ _ c.in-Err.status stop) c.print-in-Err.ensures.printed is
+    stop-front (map string_bytes c.args.words.now) (command_value c.in-Some.command) (sym c.in-Some.ensures.command) (g.F.Files.folder c.args.files.now) (g.F.Files.folder c.work_out.new.files) _ _
+    c.as_slice-in-Err.result.now c.in-Err.status c.print-in-Err.result c.in-Err.ensures.kept (c.in-Err.ensures.stop c.in-Err.status refl) (c.as_slice-in-Err.ensures.value ∙ c.line_of-in-Err.ensures) c.print-in-Err.ensures.printed is
