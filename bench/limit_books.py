@@ -1,0 +1,70 @@
+"""Books at the limits, the programs that read them, and their CPU time."""
+import itertools, os, random, resource, subprocess
+
+HERE = os.path.dirname(os.path.realpath(__file__))
+OUT = os.path.join(HERE, "out")
+CCA = os.path.join(HERE, "..", "crates", "cca", "out", "cca")
+SUPPLY, RESERVE = (6, 4, 8, 12), (1000, 1500, 100, 10)
+KINDS = ("mixed", "small", "narrow")
+
+
+def build_cca():
+    os.makedirs(OUT, exist_ok=True)
+    tie = os.path.join(HERE, "..", "examples", "tie.book")
+    subprocess.run([os.path.join(HERE, "..", "cca"), "win", tie], check=True, capture_output=True)
+
+
+def build_plain(name):
+    """A plain Rust program of this folder, for the processor that cca is built for."""
+    os.makedirs(OUT, exist_ok=True)
+    program = os.path.join(OUT, name)
+    source = os.path.join(HERE, name + ".rs")
+    subprocess.run(["rustc", "--edition", "2021", "-O", "-C", "target-cpu=x86-64-v2", "-o", program, source], check=True)
+    return program
+
+
+def timed(words, may_fail=False):
+    """The CPU time of a run in milliseconds, and what it prints."""
+    before = resource.getrusage(resource.RUSAGE_CHILDREN)
+    text = subprocess.run(words, capture_output=True, check=not may_fail, text=True).stdout
+    after = resource.getrusage(resource.RUSAGE_CHILDREN)
+    return 1000 * (after.ru_utime + after.ru_stime - before.ru_utime - before.ru_stime), text
+
+
+def price(book, cert, *flags):
+    """The CPU time of `cca price` with a fresh certificate file, and what it prints."""
+    if os.path.exists(cert):
+        os.remove(cert)
+    return timed([CCA, "price", book, cert, *flags])
+
+
+def packages_of(kind, rng):
+    # each package has a lot of the first category, so at most six bidders win
+    every = [p for p in itertools.product(*(range(s + 1) for s in SUPPLY)) if p[0] > 0]
+    if kind == "narrow":
+        return sorted(sorted(every, key=lambda p: (p[0], sum(p), p))[:600])
+    if kind == "small":
+        every = [p for p in every if p[0] <= 2 and sum(p) <= 14]
+    return sorted(rng.sample(every, 600))
+
+
+def bids_of(kind, rng):
+    bids = []
+    for p in packages_of(kind, rng):
+        cost = sum(n * r for n, r in zip(p, RESERVE))
+        bids.append((p, cost + rng.randrange(cost * 3 + 1)))
+    return bids
+
+
+def priced_book(kind):
+    """The name of a book of 12 bidders with 600 bids each over 4,095 states and with at most six winners, and its bids."""
+    rng = random.Random(kind)
+    book = [bids_of(kind, rng) for _ in range(12)]
+    lines = ["book 1", "supply " + " ".join(map(str, SUPPLY)), "reserve " + " ".join(map(str, RESERVE))]
+    for j, bids in enumerate(book, 1):
+        lines.append(f"bidder b{j}")
+        lines += ["bid " + " ".join(map(str, p)) + f" {amount}" for p, amount in bids]
+    name = os.path.join(OUT, f"price-{kind}.book")
+    with open(name, "w") as f:
+        f.write("\n".join(lines + ["end"]) + "\n")
+    return name, book
