@@ -1,7 +1,9 @@
--- The texts of two small certificates, written out.
-use Rattle.std.proofs.Common.{◌≡◌, ◌∷◌, [], ◌++◌, codes, refl}
-use Rattle.std.specs.Prelude.{pos, negsuc}
-use Rattle.cert_form.specs.Certificate.{CertValue}
+-- The texts of two small certificates, written out; parts, rows and members found by their numbers; and the place of a line out of range.
+use Rattle.std.proofs.Common.{◌≡◌, ℕ, true, false, Option, Some, None, List, ◌∷◌, [], ◌++◌, codes, map, refl}
+use Rattle.std.specs.Prelude.{pos, negsuc, ◌^◌}
+use Rattle.cert_form.specs.CertText.{line}
+use Rattle.cert_form.specs.Certificate.{CertValue, RowValue, WithoutValue, is_member, part_of, row_of}
+use Rattle.cert_form.specs.Lines.{lines}
 use Rattle.cert_form.specs.Numeral.{numeral, digits_of}
 use Rattle.cert_form.specs.Says.{cert_text}
 
@@ -30,3 +32,35 @@ second_text : cert_text second_wins ≡ codes "cert 1\nden 2\nvalue 10\nchoice 0
     ++ codes "pay 0 14\nrows 1\nrow 2\nmult 2 -105\nchoice 1 0\nlowered\nt 0 14\nt 0 14\nt 0 0\nend\n"
 unfolding numeral digits_of
 second_text = refl
+
+abbrev parts : List WithoutValue
+parts = record { winner = 2; choice = 1 ∷ []; table = [] } ∷ record { winner = 4; choice = 5 ∷ []; table = [] } ∷ []
+
+second_part : (part_of parts 4).choice ≡ 5 ∷ []
+second_part = refl
+
+no_part : (part_of parts 3).choice ≡ []
+no_part = refl
+
+abbrev rows : List RowValue
+rows = record { members = 1 ∷ []; first = pos 3; second = pos 0; choice = [] } ∷ record { members = 2 ∷ []; first = pos 4; second = pos 0; choice = [] } ∷ []
+
+first_row : (row_of rows 1).first ≡ pos 3
+first_row = refl
+
+second_row : (row_of rows 2).first ≡ pos 4
+second_row = refl
+
+first_member : is_member (2 ∷ 5 ∷ []) 2 ≡ true
+first_member = refl
+
+last_member : is_member (2 ∷ 5 ∷ []) 5 ≡ true
+last_member = refl
+
+no_member : is_member (2 ∷ 5 ∷ []) 3 ≡ false
+no_member = refl
+
+-- the line with a number out of range begins at byte 7
+place_out_of_range : map (λ m. m.1) (lines (line (codes "cert") (pos 1 ∷ []) ∷ line (codes "den") (pos (2 ^ 120) ∷ []) ∷ [])) ≡ None ∷ Some 7 ∷ []
+unfolding numeral digits_of
+place_out_of_range = refl

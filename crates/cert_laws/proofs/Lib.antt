@@ -8,3 +8,4 @@ pub mod Rows
 pub mod Aims
 pub mod Outcome
 pub mod Exact
+pub mod WorkedCases
