@@ -38,8 +38,8 @@ pub struct PricedBook {
 
 /// The core-selecting prices of the winners of a book, with the certificate that shows them.
 ///
-/// All nine tests of a certificate hold for it, its choices are the first of the greatest, and its tables are exact. Its
-/// denominator, rows and multipliers are those that pricing by rows found.
+/// All nine tests of a certificate hold for it, its choices are the first of the greatest, and its tables are exact. The rows and
+/// their multipliers are the ones that pricing kept; no clause but the tests binds them.
 ///
 /// Errors: `Winners` exactly where more than six win, with their number; `Memory` for want of memory.
 pub fn price_book(alloc: Global, book: &BidBook) -> Result<PricedBook, PriceStop>

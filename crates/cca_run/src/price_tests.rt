@@ -5,6 +5,8 @@ use crate::tests::{
     AT_RESERVE, DAY_CRAMTON, ELEVEN, EQUALS, LOCALS, NOBODY, SPECTRUM, TIE, joined, run_plain,
 };
 use bid_book::LimitKind;
+use std::alloc::Global;
+use std::process::Abort;
 use std::test::Fail;
 
 pub const TWO_GLOBALS: &str =
@@ -89,26 +91,49 @@ const PRICED: [(&str, &str, &str); 10] = [
 pub const PRICE: &[&str] = &["price", "BOOK", "CERT"];
 
 const PRICE_WITH_ROUNDS: &[&str] = &["price", "BOOK", "CERT", "--rounds"];
+
 /// The words of a run that tests a certificate.
 pub const CHECK: &[&str] = &["check", "BOOK", "CERT"];
+
+// What stands in the certificate's file after a run that ends with Done and prints these pieces.
+fn left_by(
+    rt: &impl Abort,
+    alloc: Global,
+    words: &[&str],
+    book: &str,
+    cert: Option<&[u8]>,
+    pieces: &[&str],
+) -> Result<Option<Vec<u8>>, Fail> {
+    let ended = run_plain(alloc, words, book, cert)?;
+    let printed = joined(alloc, pieces)?;
+    assert_eq!(rt; ended.status, Status::Done);
+    assert_eq!(rt; ended.printed.as_slice(), printed.as_slice());
+    Ok(ended.cert)
+}
 
 #[test]
 fn prices_and_checks(rt: HostRuntime) -> Result<(), Fail> {
     let alloc = rt.alloc();
     for (book, rounds, outcome) in PRICED {
-        let priced = run_plain(alloc, PRICE, book, None)?;
-        assert_eq!(rt; priced.status, Status::Done);
-        assert_eq!(rt; priced.printed.as_slice(), outcome.as_bytes());
-        let told = run_plain(alloc, PRICE_WITH_ROUNDS, book, None)?;
-        let printed = joined(alloc, &[rounds, outcome])?;
-        assert_eq!(rt; told.status, Status::Done);
-        assert_eq!(rt; told.printed.as_slice(), printed.as_slice());
-        assert_eq!(rt; told.cert.as_deref(), priced.cert.as_deref());
-        let checked = run_plain(alloc, CHECK, book, priced.cert.as_deref())?;
-        let printed = joined(alloc, &["yes\n", outcome])?;
-        assert_eq!(rt; checked.status, Status::Done);
-        assert_eq!(rt; checked.printed.as_slice(), printed.as_slice());
-        assert_eq!(rt; checked.cert.as_deref(), priced.cert.as_deref());
+        let cert = left_by(&rt, alloc, PRICE, book, None, &[outcome])?;
+        let told = left_by(
+            &rt,
+            alloc,
+            PRICE_WITH_ROUNDS,
+            book,
+            None,
+            &[rounds, outcome],
+        )?;
+        assert_eq!(rt; told.as_deref(), cert.as_deref());
+        let kept = left_by(
+            &rt,
+            alloc,
+            CHECK,
+            book,
+            cert.as_deref(),
+            &["yes\n", outcome],
+        )?;
+        assert_eq!(rt; kept.as_deref(), cert.as_deref());
     }
     Ok(())
 }
