@@ -18,10 +18,15 @@ factor_below d (suc q) k t e o l = omega (arith, e, l)
 one_abs : (k : ℤ) → pos 1 ≤ℤ k → 1 ≤ unsigned_abs k
 one_abs k h = omega (arith, ints, h)
 
-pub den_small : (top : ℕ) (ps : List Pivot) (den : ℤ) → HaveCommon top ps → ((k : ℤ) → AreWhole (length ps) ps k → (q : ℤ) × (k ≡ den *ℤ q)) → unsigned_abs den ≤ top
-den_small top ps den h least =
-    let w = least h.k h.whole in
-    factor_below (unsigned_abs den) (unsigned_abs w.0) (unsigned_abs h.k) top (ap unsigned_abs w.1 ∙ unsigned_abs-mul den w.0) (one_abs h.k h.positive) h.small
+-- a number that divides each k over which all are whole is at most such a k
+pub den_small : (ps : List Pivot) (den k : ℤ) (top : ℕ) → ((k : ℤ) → AreWhole (length ps) ps k → (q : ℤ) × (k ≡ den *ℤ q))
+    → pos 1 ≤ℤ k → AreWhole (length ps) ps k → unsigned_abs k ≤ top → unsigned_abs den ≤ top
+den_small ps den k top least p whole l =
+    let w = least k whole in
+    factor_below (unsigned_abs den) (unsigned_abs w.0) (unsigned_abs k) top (ap unsigned_abs w.1 ∙ unsigned_abs-mul den w.0) (one_abs k p) l
+
+pub den_common : (ps : List Pivot) (den : ℤ) (h : HaveCommon ps) → ((k : ℤ) → AreWhole (length ps) ps k → (q : ℤ) × (k ≡ den *ℤ q)) → unsigned_abs den ≤ unsigned_abs h.k
+den_common ps den h least = den_small ps den h.k (unsigned_abs h.k) least h.positive h.whole (omega arith)
 
 pub room_by : (x y : ℤ) (t : ℕ) → unsigned_abs x ≤ t → t * unsigned_abs y < 2 ^ 120 → unsigned_abs x * unsigned_abs y < 2 ^ 120
 room_by x y t l h = go (unsigned_abs x) (unsigned_abs y) t l h
@@ -32,8 +37,8 @@ room_by x y t l h = go (unsigned_abs x) (unsigned_abs y) t l h
     go : (a b t : ℕ) → a ≤ t → t * b < 2 ^ 120 → a * b < 2 ^ 120
     go a b t l h = omega (arith, mono a b t l, h)
 
-pub alone_small : (top : ℕ) (ps : List Pivot) (y : ℤ) → HaveCommon top ps → top * unsigned_abs y < 2 ^ 120 → unsigned_abs y < 2 ^ 120
-alone_small top ps y h l = go (unsigned_abs y) top (let a : 1 ≤ unsigned_abs h.k = one_abs h.k h.positive in omega (arith, a, h.small)) l
+pub alone_small : (ps : List Pivot) (y : ℤ) (h : HaveCommon ps) → unsigned_abs h.k * unsigned_abs y < 2 ^ 120 → unsigned_abs y < 2 ^ 120
+alone_small ps y h l = go (unsigned_abs y) (unsigned_abs h.k) (one_abs h.k h.positive) l
   where
     go : (b t : ℕ) → 1 ≤ t → t * b < 2 ^ 120 → b < 2 ^ 120
     go b (suc t) o l = omega (arith, l)
@@ -61,8 +66,8 @@ least_more i ps den d l least g k h =
 pub least_one : (ps : List Pivot) (k : ℤ) → AreWhole (length ps) ps k → (q : ℤ) × (k ≡ pos 1 *ℤ q)
 least_one ps k h = (k, sym (*ℤ_comm (pos 1) k ∙ *ℤ-one k))
 
-pub finished : (top i : ℕ) (ps : List Pivot) (den : ℤ) → HaveCommon top ps → i ≡ length ps → pos 1 ≤ℤ den → AreWhole i ps den → ((k : ℤ) → AreWhole (length ps) ps k → (q : ℤ) × (k ≡ den *ℤ q)) → IsCommonDen top ps den
-finished top i ps den h e p w least = record { positive = p; small = den_small top ps den h least; whole = subst (λ (n : ℕ). AreWhole n ps den) e w }
+pub finished : (i : ℕ) (ps : List Pivot) (den : ℤ) → i ≡ length ps → pos 1 ≤ℤ den → AreWhole i ps den → ((k : ℤ) → AreWhole (length ps) ps k → (q : ℤ) × (k ≡ den *ℤ q)) → IsCommonDen ps den
+finished i ps den e p w least = record { positive = p; whole = subst (λ (n : ℕ). AreWhole n ps den) e w; least = least }
 
 pub values_more : (ps : List Pivot) (den : ℤ) (i : ℕ) (xs ys : List Far) (f : Far) → ys ≡ xs ++ f ∷ [] → length xs ≡ i → AreValues ps den i (far_at xs) (near_at xs) →
     (pivot ps i).c *ℤ f.far ≡ den *ℤ (pivot ps i).far → (pivot ps i).c *ℤ f.near ≡ den *ℤ (pivot ps i).near → AreValues ps den (i + 1) (far_at ys) (near_at ys)

@@ -16,3 +16,4 @@ pub mod Shared
 pub mod Siegel
 pub mod Small
 pub mod Stages
+pub mod TestedSystem

@@ -1,5 +1,5 @@
--- The conditions of a system of at most six lines with entries up to 6 give the limits.
-use Rattle.std.proofs.Common.{◌≡◌, ℕ, ◌-◌, ◌*◌, ◌^◌, ◌<◌, ◌≤◌, ℤ, pos, ◌≤ℤ◌, sym, ◌∙◌, subst, arith, unsigned_abs, List, [], length, slice_index_or}
+-- The two cases of the conditions of a system, and the limits that they give.
+use Rattle.std.proofs.Common.{◌≡◌, ◌⊎◌, inl, inr, ℕ, ◌+◌, ◌-◌, ◌*◌, ◌^◌, ◌<◌, ◌≤◌, ℤ, pos, ◌≤ℤ◌, sym, ◌∙◌, subst, arith, unsigned_abs, List, [], length, slice_index_or}
 use Rattle.std.proofs.lemmas.Int.{ints}
 use Rattle.std.proofs.Math.Nat.{mul-le-mul, pow-le-pow_right, le_refl, le_trans, lt_of_le_of_lt}
 use Rattle.far_num.specs.declared.Far.{Far}
@@ -7,49 +7,93 @@ use Rattle.lin_solve.specs.declared.solved.Solved.{Solved}
 use Rattle.lin_solve.specs.declared.solved.Solved.TheVariants.{One, Dependent}
 use Rattle.lin_solve.specs.Matrix.{row}
 use Rattle.lin_solve.specs.Bounds.{size, bound, IsWithin}
-use Rattle.lin_solve.specs.Solved.{IsSmallSystem, IsWithinLimits, AreParts, IsSmallAnswer}
+use Rattle.lin_solve.specs.Solved.{IsSmallSystem, IsSystem, IsWithinLimits, AreParts, IsSmallAnswer, most}
 use Rattle.far_num.specs.Pairs.{far_at, near_at}
+use Rattle.lin_solve.specs.Elimination.{IsKernelRow}
+use Rattle.wide_num.specs.Sums.{nth}
 use Rattle.lin_solve.proofs.PivotFacts.{size_small}
 
-module _ (m : List (List ℤ)) (right : List Far) (ys zs : List ℤ) (long : length right ≡ length m) (sys : IsSmallSystem 6 6 (2 ^ 46) m right)
-    (n1 : 1 ≤ length m) (n6 : length m ≤ 6) (square : (k : ℕ) → k < length m → length (slice_index_or m k []) ≡ length m)
-    (py : AreParts (length right) (far_at right) ys) (pz : AreParts (length right) (near_at right) zs) where
-  h_le : bound 36 (length m) ≤ 36 ^ 5
-  h_le = let l : length m - 1 ≤ 5 = omega (arith, n6) in let o : 0 < 36 = omega arith in pow-le-pow_right o l
+-- at most `count` lines with entries up to `top`, and parts up to the edge: the limit is their product
+module _ (count top edge : ℕ) (m : List (List ℤ)) (right : List Far) (ys zs : List ℤ) (long : length right ≡ length m) (sys : IsSmallSystem count top edge m right)
+    (square : (k : ℕ) → k < length m → length (slice_index_or m k []) ≡ length m)
+    (py : AreParts (length right) (far_at right) ys) (pz : AreParts (length right) (near_at right) zs) (some : 1 ≤ count * top) where
+  row_le : (a : ℕ → ℤ) → IsWithin top (length m) a → size (length m) a ≤ count * top
+  row_le a w = le_trans {m = length m * top} (size_small (length m) top a w) (mul-le-mul sys.lines (le_refl top))
 
-  t_le : 36 ^ length m ≤ 36 ^ 6
-  t_le = let o : 0 < 36 = omega arith in pow-le-pow_right o n6
+  pub within_limits : IsWithinLimits (count * top) edge m ys zs
+  within_limits = record {
+    some = some;
+    sized = λ k l. row_le (row m k) (λ i li. sys.entries k i l li);
+    columns = λ i l. row_le (λ (k : ℕ). row m k i) (λ k lk. sys.entries k i lk l);
+    far_sizes = λ k l. subst (λ (x : ℤ). unsigned_abs x ≤ edge) (sym (py.is k (subst (λ (n : ℕ). k < n) (sym long) l))) (sys.fars k l);
+    near_sizes = λ k l. subst (λ (x : ℤ). unsigned_abs x ≤ edge) (sym (pz.is k (subst (λ (n : ℕ). k < n) (sym long) l))) (sys.nears k l);
+  }
 
-  row_le : (a : ℕ → ℤ) → IsWithin 6 (length m) a → size (length m) a ≤ 36
-  row_le a w = le_trans {m = length m * 6} (size_small (length m) 6 a w) (omega (arith, n6))
+  -- what a limit is at the greatest count of lines bounds it
+  bound_le : bound (count * top) (length m) ≤ bound (count * top) count
+  bound_le = let l : length m - 1 ≤ count - 1 = omega (arith, sys.lines) in pow-le-pow_right some l
 
-  part_le : length m * bound 36 (length m) * 2 ^ 46 ≤ 6 * 36 ^ 5 * 2 ^ 46
-  part_le = mul-le-mul (mul-le-mul n6 h_le) (le_refl (2 ^ 46))
+  pub den_le : (count * top) ^ length m ≤ (count * top) ^ count
+  den_le = pow-le-pow_right some sys.lines
 
-  pub first_limits : IsWithinLimits 36 (2 ^ 46) (36 ^ 6) m ys zs
-  first_limits = record {
-    bounded = record {
-      some = omega arith;
-      room = lt_of_le_of_lt {m = 2 * (36 * (36 ^ 5 * 36 ^ 5))} (mul-le-mul (le_refl 2) (mul-le-mul (le_refl 36) (mul-le-mul h_le h_le))) (omega arith);
-      wide = square;
-      sized = λ k l. row_le (row m k) (λ i li. sys.entries k i l li);
-      columns = λ i l. row_le (λ (k : ℕ). row m k i) (λ k lk. sys.entries k i lk l);
-    };
+  pub most_le : most (count * top) edge (length m) ≤ most (count * top) edge count
+  most_le = mul-le-mul den_le (mul-le-mul (mul-le-mul sys.lines bound_le) (le_refl edge))
+
+  pub is_system : 2 * (count * top * (bound (count * top) count * bound (count * top) count)) < 2 ^ 120 → most (count * top) edge count < 2 ^ 119
+      → (count * top) ^ count * (count * top * bound (count * top) count) < 2 ^ 120 → IsSystem m ys zs
+  is_system room parts cs = record {
+    limit = count * top;
+    edge = edge;
+    within = within_limits;
+    wide = square;
     signs = λ k i l li. let h : pos 0 ≤ℤ row m k i = sys.signs k i l li in omega (arith, ints, h);
     long_fars = py.long ∙ long;
     long_nears = pz.long ∙ long;
-    far_sizes = λ k l. subst (λ (x : ℤ). unsigned_abs x ≤ 2 ^ 46) (sym (py.is k (subst (λ (n : ℕ). k < n) (sym long) l))) (sys.fars k l);
-    near_sizes = λ k l. subst (λ (x : ℤ). unsigned_abs x ≤ 2 ^ 46) (sym (pz.is k (subst (λ (n : ℕ). k < n) (sym long) l))) (sys.nears k l);
-    reaches = lt_of_le_of_lt {m = 36 ^ 6 * (6 * 36 ^ 5 * 2 ^ 46)} (mul-le-mul t_le part_le) (omega arith);
-    tops = t_le;
-    cs = lt_of_le_of_lt {m = 36 ^ 6 * (36 * 36 ^ 5)} (mul-le-mul (le_refl (36 ^ 6)) (mul-le-mul (le_refl 36) h_le)) (omega arith);
-    parts = lt_of_le_of_lt {m = 36 ^ 6 * (6 * 36 ^ 5 * 2 ^ 46)} (mul-le-mul (le_refl (36 ^ 6)) part_le) (omega arith);
+    room = lt_of_le_of_lt {m = 2 * (count * top * (bound (count * top) count * bound (count * top) count))} (mul-le-mul (le_refl 2) (mul-le-mul (le_refl (count * top)) (mul-le-mul bound_le bound_le))) room;
+    parts = lt_of_le_of_lt {m = most (count * top) edge count} most_le parts;
+    cs = lt_of_le_of_lt {m = (count * top) ^ count * (count * top * bound (count * top) count)} (mul-le-mul den_le (mul-le-mul (le_refl (count * top)) bound_le)) cs;
   }
 
--- a wider bound on denominators
-pub wider_answer : (a b part : ℕ) (s : Solved) → a ≤ b → IsSmallAnswer a part s → IsSmallAnswer b part s
-wider_answer a b part (One den values) le h = (below_le h.0, h.1)
+-- a system of either case
+pub system_of : (m : List (List ℤ)) (right : List Far) (ys zs : List ℤ) → length right ≡ length m → IsSmallSystem 6 6 (2 ^ 46) m right ⊎ IsSmallSystem 4 80 (2 ^ 45) m right
+    → ((k : ℕ) → k < length m → length (slice_index_or m k []) ≡ length m) → AreParts (length right) (far_at right) ys → AreParts (length right) (near_at right) zs → IsSystem m ys zs
+system_of m right ys zs long (inl s) square py pz = is_system 6 6 (2 ^ 46) m right ys zs long s square py pz (omega arith) (omega arith) (omega arith) (omega arith)
+system_of m right ys zs long (inr s) square py pz = is_system 4 80 (2 ^ 45) m right ys zs long s square py pz (omega arith) (omega arith) (omega arith) (omega arith)
+
+-- wider bounds of an answer
+pub wider_answer : (a b p q : ℕ) (s : Solved) → a ≤ b → p ≤ q → IsSmallAnswer a p s → IsSmallAnswer b q s
+wider_answer a b p q (One den values) le more h = (below {b = a} le h.0, λ i l. let w = h.1 i l in (below {b = p} more w.0, below {b = p} more w.1))
   where
-    below_le : {x : ℕ} → x < a → x < b
-    below_le h = omega arith
-wider_answer a b part (Dependent v) le h = λ i l. let k = h i l in omega (arith, k)
+    below : {x b c : ℕ} → b ≤ c → x < b → x < c
+    below le h = omega arith
+wider_answer a b p q (Dependent v) le more h = λ i l. let k = h i l in omega (arith, k)
+
+-- a kernel row is small by each limit
+pub small_combination : (lines : List (List ℤ)) (fars nears v : List ℤ) → IsKernelRow (length lines) lines v → (limit edge : ℕ) → IsWithinLimits limit edge lines fars nears
+    → (i : ℕ) → i < length v → unsigned_abs (nth v i) < limit ^ length lines + 1
+small_combination lines fars nears v k limit edge w i l =
+    let b = k.small limit w.some w.sized i (let e = k.long in omega arith) in
+    let p : bound limit (length lines) ≤ limit ^ length lines = pow-le-pow_right w.some (omega arith) in
+    omega (arith, b, p)
+
+-- the answer of a system of one case is small by that case
+module _ (count top edge : ℕ) (m : List (List ℤ)) (right : List Far) (ys zs : List ℤ) (long : length right ≡ length m) (sys : IsSmallSystem count top edge m right)
+    (square : (k : ℕ) → k < length m → length (slice_index_or m k []) ≡ length m)
+    (py : AreParts (length right) (far_at right) ys) (pz : AreParts (length right) (near_at right) zs) (some : 1 ≤ count * top) (s : Solved)
+    (small : (limit edge : ℕ) → IsWithinLimits limit edge m ys zs → IsSmallAnswer (limit ^ length m + 1) (most limit edge (length m) + 1) s) where
+  pub small_of : (a p : ℕ) → (count * top) ^ count < a → most (count * top) edge count < p → IsSmallAnswer a p s
+  small_of a p la lp =
+      let d = den_le count top edge m right ys zs long sys square py pz some in
+      let o = most_le count top edge m right ys zs long sys square py pz some in
+      wider_answer ((count * top) ^ length m + 1) a (most (count * top) edge (length m) + 1) p s (omega (arith, d, la)) (omega (arith, o, lp))
+      (small (count * top) edge (within_limits count top edge m right ys zs long sys square py pz some))
+
+module _ (m : List (List ℤ)) (right : List Far) (ys zs : List ℤ) (long : length right ≡ length m) (square : (k : ℕ) → k < length m → length (slice_index_or m k []) ≡ length m)
+    (py : AreParts (length right) (far_at right) ys) (pz : AreParts (length right) (near_at right) zs) (s : Solved)
+    (small : (limit edge : ℕ) → IsWithinLimits limit edge m ys zs → IsSmallAnswer (limit ^ length m + 1) (most limit edge (length m) + 1) s) where
+  pub first_case : IsSmallSystem 6 6 (2 ^ 46) m right → IsSmallAnswer (2 ^ 32) (2 ^ 106) s
+  first_case sys = small_of 6 6 (2 ^ 46) m right ys zs long sys square py pz (omega arith) s small (2 ^ 32) (2 ^ 106) (omega arith) (omega arith)
+
+  pub either_case : IsSmallSystem 6 6 (2 ^ 46) m right ⊎ IsSmallSystem 4 80 (2 ^ 45) m right → IsSmallAnswer (320 ^ 4 + 1) (2 ^ 106) s
+  either_case (inl sys) = wider_answer (2 ^ 32) (320 ^ 4 + 1) (2 ^ 106) (2 ^ 106) s (omega arith) (omega arith) (first_case sys)
+  either_case (inr sys) = small_of 4 80 (2 ^ 45) m right ys zs long sys square py pz (omega arith) s small (320 ^ 4 + 1) (2 ^ 106) (omega arith) (omega arith)

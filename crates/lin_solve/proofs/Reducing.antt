@@ -1,5 +1,5 @@
 -- A row divided by its content is primitive.
-use Rattle.std.proofs.Common.{◌≡◌, ◌≢◌, ℕ, ◌+◌, ◌*◌, ◌<◌, ◌≤◌, ◌^◌, ℤ, pos, ◌-ℤ◌, ◌*ℤ◌, length, List, arith, ◌∙◌, sym, ap, subst, unsigned_abs, Result, Ok, Err, IfOk, Option, Some, None, MatchOption}
+use Rattle.std.proofs.Common.{◌≡◌, ◌≢◌, ℕ, ◌+◌, ◌*◌, ◌<◌, ◌≤◌, ◌^◌, ℤ, pos, ◌-ℤ◌, ◌*ℤ◌, length, List, arith, refl, ◌∙◌, sym, ap, subst, unsigned_abs, Result, Ok, Err, IfOk, Option, Some, None, MatchOption}
 use Rattle.std.proofs.lemmas.Int.{ints, unsigned_abs-mul}
 use Rattle.std.proofs.Math.IntN.{*ℤ_comm, *ℤ-zero}
 use Rattle.wide_num.proofs.Ints.{mul_cancel, *ℤ-one}
@@ -47,3 +47,11 @@ if_ok (Err e) P Q f h = h
 pub match_option : {T : Type 0} (r : Option T) (P P' : Type 0) (Q Q' : T → Type 0) → (P → P') → ((x : T) → Q x → Q' x) → MatchOption r P Q → MatchOption r P' Q'
 match_option None P P' Q Q' f g h = f h
 match_option (Some x) P P' Q Q' f g h = g x h
+
+-- a property of each answer that a call may give
+pub each_ok : {T E : Type 0} (r : Result T E) (P : T → Type 0) → ((x : T) → r ≡ Ok x → P x) → IfOk r P
+each_ok (Ok x) P f = f x refl
+each_ok (Err e) P f = tt
+
+pub at_ok : {T E : Type 0} (r : Result T E) (x : T) (P : T → Type 0) → r ≡ Ok x → IfOk r P → P x
+at_ok {T} {E} r x P e h = subst (λ (s : Result T E). IfOk s P) e h

@@ -3,23 +3,29 @@ use Rattle.std.proofs.Common.{◌≡◌, ◌≢◌, ℕ, zero, suc, ◌+◌, ◌
 use Rattle.std.proofs.Math.Nat.{mul-le-mul, one-le-pow}
 use Rattle.std.proofs.Math.IntN.{*ℤ-zero}
 use Rattle.wide_num.proofs.Ints.{lin, mul-zero_cases}
-use Rattle.lin_solve.specs.Bounds.{size, reach, bound, IsWithin}
+use Rattle.lin_solve.specs.Bounds.{nat_total, size, reach, bound, IsWithin}
 use Rattle.lin_solve.specs.Elimination.{product}
-use Rattle.wide_num.specs.Sums.{nth}
+use Rattle.wide_num.specs.Sums.{dot, nth}
 use Rattle.lin_solve.proofs.Siegel.{nat_total-le, abs_dot}
 use Rattle.lin_solve.proofs.Small.{le_mul, mul_le, nat_total-scale}
 
-pub reach_small : (a v : List ℤ) (s h : ℕ) → size (length a) (nth a) ≤ s → IsWithin h (length a) (nth v) → reach a v ≤ s * h
-reach_small a v s h sized small =
+sum_small : (n : ℕ) (a v : ℕ → ℤ) (s h : ℕ) → size n a ≤ s → IsWithin h n v → nat_total n (λ (i : ℕ). unsigned_abs (a i) * unsigned_abs (v i)) ≤ s * h
+sum_small n a v s h sized small =
     omega (
       arith,
-      nat_total-le (length a) (λ (i : ℕ). unsigned_abs (nth a i) * unsigned_abs (nth v i)) (λ (i : ℕ). unsigned_abs (nth a i) * h) (λ i l. le_mul (unsigned_abs (nth a i)) (unsigned_abs (nth v i)) h (small i l)),
-      nat_total-scale (length a) h (λ (i : ℕ). unsigned_abs (nth a i)),
-      mul_le h (size (length a) (nth a)) s sized,
+      nat_total-le n (λ (i : ℕ). unsigned_abs (a i) * unsigned_abs (v i)) (λ (i : ℕ). unsigned_abs (a i) * h) (λ i l. le_mul (unsigned_abs (a i)) (unsigned_abs (v i)) h (small i l)),
+      nat_total-scale n h (λ (i : ℕ). unsigned_abs (a i)),
+      mul_le h (size n a) s sized,
     )
 
+pub dot_small : (n : ℕ) (a v : ℕ → ℤ) (s h : ℕ) → size n a ≤ s → IsWithin h n v → unsigned_abs (dot n a v) ≤ s * h
+dot_small n a v s h sized small = omega (arith, abs_dot n a v, sum_small n a v s h sized small)
+
+pub reach_small : (a v : List ℤ) (s h : ℕ) → size (length a) (nth a) ≤ s → IsWithin h (length a) (nth v) → reach a v ≤ s * h
+reach_small a v s h sized small = sum_small (length a) (nth a) (nth v) s h sized small
+
 pub product_small : (a v : List ℤ) (s h : ℕ) → size (length a) (nth a) ≤ s → IsWithin h (length a) (nth v) → unsigned_abs (product a v) ≤ s * h
-product_small a v s h sized small = omega (arith, abs_dot (length a) (nth a) (nth v), reach_small a v s h sized small)
+product_small a v s h sized small = dot_small (length a) (nth a) (nth v) s h sized small
 
 four : (x y v w s h : ℕ) → x ≤ s * h → y ≤ s * h → v ≤ h → w ≤ h → x * v + y * w ≤ 2 * (s * (h * h))
 four x y v w s h a b c d =

@@ -16,6 +16,14 @@ size n a = nat_total n (λ (i : ℕ). unsigned_abs (a i))
 abbrev pub reach : List ℤ → List ℤ → ℕ
 reach a v = nat_total (length a) (λ (i : ℕ). unsigned_abs (nth a i) * unsigned_abs (nth v i))
 
+-- each line is of n numbers whose sizes sum to at most the limit
+abbrev pub AreSized : ℕ → ℕ → List (List ℤ) → Type 0
+AreSized limit n lines = (k : ℕ) → k < length lines → size n (row lines k) ≤ limit
+
+-- the sizes of each column of a square matrix sum to at most the limit
+abbrev pub HasSizedColumns : ℕ → List (List ℤ) → Type 0
+HasSizedColumns limit lines = (i : ℕ) → i < length lines → size (length lines) (λ (k : ℕ). row lines k i) ≤ limit
+
 -- how large a number of a kernel row may be, where the sizes of a line sum to at most the limit
 abbrev pub bound : ℕ → ℕ → ℕ
 bound limit n = limit ^ (n - 1)
@@ -28,21 +36,18 @@ IsWithin h n v = (i : ℕ) → i < n → unsigned_abs (v i) ≤ h
 abbrev pub HasRoom : ℕ → ℕ → Type 0
 HasRoom limit n = 2 * (limit * (bound limit n * bound limit n)) < 2 ^ 120
 
--- the products of a clearing row with a right side, times a denominator, stay in the range
-abbrev pub HasEdge : ℕ → ℕ → ℕ → Type 0
-HasEdge limit n edge = limit ^ n * (n * bound limit n * edge) < 2 ^ 119
-
--- lines of a square matrix, with lines and columns whose sizes sum to at most the limit
-pub record IsBounded (limit : ℕ) (lines : List (List ℤ)) : Type 0 where
+-- lines of a square matrix, whose columns keep some limit that leaves room
+pub record IsBounded (lines : List (List ℤ)) : Type 0 where
+  pub limit : ℕ
   pub some : 1 ≤ limit
   pub room : HasRoom limit (length lines)
   pub wide : (k : ℕ) → k < length lines → length (slice_index_or lines k []) ≡ length lines
-  pub sized : (k : ℕ) → k < length lines → size (length lines) (row lines k) ≤ limit
-  pub columns : (i : ℕ) → i < length lines → size (length lines) (λ (k : ℕ). row lines k i) ≤ limit
+  pub columns : HasSizedColumns limit lines
 
--- lines of n numbers whose sizes sum to at most the limit
-pub record AreLines (limit n : ℕ) (lines : List (List ℤ)) : Type 0 where
+-- lines of n numbers, which keep some limit that leaves room
+pub record AreLines (n : ℕ) (lines : List (List ℤ)) : Type 0 where
+  pub limit : ℕ
   pub some : 1 ≤ limit
   pub room : HasRoom limit n
   pub long : (k : ℕ) → k < length lines → length (slice_index_or lines k []) ≡ n
-  pub sized : (k : ℕ) → k < length lines → size n (row lines k) ≤ limit
+  pub sized : AreSized limit n lines

@@ -1,7 +1,7 @@
 -- Rows that clear all columns of a matrix but one, and the denominators that they give.
 use Rattle.lin_solve.specs.Matrix.{row}
-use Rattle.lin_solve.specs.Bounds.{bound, IsWithin}
-use Rattle.std.specs.Prelude.{List, length, pos, unsigned_abs, ℕ, ℤ, ◌*ℤ◌, ◌*◌, ◌<◌, ◌≡◌, ◌≢◌, ◌≤ℤ◌, ◌≤◌}
+use Rattle.lin_solve.specs.Bounds.{bound, HasSizedColumns, IsWithin}
+use Rattle.std.specs.Prelude.{List, length, pos, ℕ, ℤ, ◌*ℤ◌, ◌<◌, ◌≡◌, ◌≢◌, ◌≤ℤ◌, ◌≤◌}
 use Rattle.wide_num.specs.Sums.{dot, nth}
 
 -- y is column i of the lines
@@ -15,25 +15,22 @@ pub record IsKeptColumn (lines : List (List ℤ)) (left_out i : ℕ) (y : List �
   pub zero : i ≡ left_out → (k : ℕ) → k < length lines → nth y k ≡ pos 0
   pub is : i ≢ left_out → (k : ℕ) → k < length lines → nth y k ≡ row lines k i
 
--- f isn't zero, is small, and its product with each column but the one at i is 0
-pub record IsClearing (limit : ℕ) (lines : List (List ℤ)) (i : ℕ) (f : List ℤ) : Type 0 where
+-- f isn't zero, is small by each limit of the columns, and its product with each column but the one at i is 0
+pub record IsClearing (lines : List (List ℤ)) (i : ℕ) (f : List ℤ) : Type 0 where
   pub long : length f ≡ length lines
   pub place : ℕ
   pub below : place < length lines
   pub apart : nth f place ≢ pos 0
-  pub small : IsWithin (bound limit (length lines)) (length lines) (nth f)
+  pub small : (limit : ℕ) → 1 ≤ limit → HasSizedColumns limit lines → IsWithin (bound limit (length lines)) (length lines) (nth f)
   pub clear : (k : ℕ) → k < length lines → k ≢ i → dot (length lines) (nth f) (λ (m : ℕ). row lines m k) ≡ pos 0
 
 -- by some f that clears all columns but the one at i: its product with that column, and with the two parts of the right side
-pub record IsPivot (limit edge : ℕ) (lines : List (List ℤ)) (i : ℕ) (fars nears : ℕ → ℤ) (c far near : ℤ) : Type 0 where
+pub record IsPivot (lines : List (List ℤ)) (i : ℕ) (fars nears : ℕ → ℤ) (c far near : ℤ) : Type 0 where
   pub f : List ℤ
-  pub clearing : IsClearing limit lines i f
+  pub clearing : IsClearing lines i f
   pub c_is : c ≡ dot (length lines) (nth f) (λ (m : ℕ). row lines m i)
   pub far_is : far ≡ dot (length lines) (nth f) fars
   pub near_is : near ≡ dot (length lines) (nth f) nears
-  pub c_small : unsigned_abs c ≤ limit * bound limit (length lines)
-  pub far_small : unsigned_abs far ≤ length lines * bound limit (length lines) * edge
-  pub near_small : unsigned_abs near ≤ length lines * bound limit (length lines) * edge
 
 -- d is a multiple of den over which far / c and near / c are whole, and divides each k of that kind
 pub record IsGrown (den c far near d : ℤ) : Type 0 where

@@ -1,6 +1,6 @@
 -- The elimination: a row for each free coordinate, cleared line by line.
 use Rattle.lin_solve.specs.Matrix.{row, IsCleared}
-use Rattle.lin_solve.specs.Bounds.{size, bound, IsWithin, HasRoom}
+use Rattle.lin_solve.specs.Bounds.{size, bound, AreSized, IsWithin, HasRoom}
 use Rattle.std.specs.Prelude.{Bool, List, [], false, length, pos, slice_index_or, true, ℕ, ℤ, ◌*ℤ◌, ◌-ℤ◌, ◌<◌, ◌≡◌, ◌≢◌, ◌≤◌}
 use Rattle.wide_num.specs.Sums.{dot, nth}
 
@@ -11,6 +11,15 @@ product a v = dot (length a) (nth a) (nth v)
 -- some combination of the first n numbers of v is 1, so that no number but 1 and -1 divides them all
 abbrev pub IsPrimitive : ℕ → (ℕ → ℤ) → Type 0
 IsPrimitive n v = (e : ℕ → ℤ) × (dot n e v ≡ pos 1)
+
+-- a line and two rows of as many numbers, which keep some limit that leaves room to combine the rows
+pub record CanCombine (line v w : List ℤ) : Type 0 where
+  pub limit : ℕ
+  pub some : 1 ≤ limit
+  pub sized : size (length line) (nth line) ≤ limit
+  pub left : IsWithin (bound limit (length line)) (length line) (nth v)
+  pub right : IsWithin (bound limit (length line)) (length line) (nth w)
+  pub room : HasRoom limit (length line)
 
 -- y is s times v less t times w
 pub record IsMix (s t : ℤ) (v w y : List ℤ) : Type 0 where
@@ -50,7 +59,8 @@ abbrev pub flag : List Bool → ℕ → Bool
 flag free j = slice_index_or free j false
 
 -- the rows of the free coordinates, ready for a line: each is small, and of all free coordinates it isn't 0 at its own alone
-pub record Ready (limit : ℕ) (line : List ℤ) (basis : List (List ℤ)) (free : List Bool) : Type 0 where
+pub record Ready (line : List ℤ) (basis : List (List ℤ)) (free : List Bool) : Type 0 where
+  pub limit : ℕ
   pub long_line : length line ≡ length free
   pub long_basis : length basis ≡ length free
   pub some : 1 ≤ limit
@@ -79,11 +89,11 @@ pub record IsUnit (n j : ℕ) (v : List ℤ) : Type 0 where
   pub one : j < n → nth v j ≡ pos 1
   pub none : (i : ℕ) → i < n → i ≢ j → nth v i ≡ pos 0
 
--- v isn't zero, is small and is sent to 0 by all lines
-pub record IsKernelRow (limit n : ℕ) (lines : List (List ℤ)) (v : List ℤ) : Type 0 where
+-- v isn't zero, is small by each limit of the lines and is sent to 0 by all lines
+pub record IsKernelRow (n : ℕ) (lines : List (List ℤ)) (v : List ℤ) : Type 0 where
   pub long : length v ≡ n
   pub place : ℕ
   pub below : place < n
   pub apart : nth v place ≢ pos 0
-  pub small : IsWithin (bound limit n) n (nth v)
+  pub small : (limit : ℕ) → 1 ≤ limit → AreSized limit n lines → IsWithin (bound limit n) n (nth v)
   pub cleared : IsCleared n (length lines) lines (nth v)

@@ -1,10 +1,10 @@
 -- What the answers of a linear system say.
-use Rattle.std.specs.Prelude.{◌≡◌, ◌≢◌, ℕ, ◌*◌, ◌≤◌, ◌<◌, ◌^◌, ℤ, pos, ◌*ℤ◌, ◌≤ℤ◌, unsigned_abs, List, length}
+use Rattle.std.specs.Prelude.{◌≡◌, ◌≢◌, ℕ, ◌*◌, ◌≤◌, ◌<◌, ◌^◌, ℤ, pos, ◌*ℤ◌, ◌≤ℤ◌, unsigned_abs, List, [], length, slice_index_or}
 use Rattle.far_num.specs.declared.Far.{Far}
 use Rattle.lin_solve.specs.declared.solved.Solved.{Solved}
 use Rattle.lin_solve.specs.declared.solved.Solved.TheVariants.{One, Dependent}
 use Rattle.lin_solve.specs.Matrix.{row, IsCleared}
-use Rattle.lin_solve.specs.Bounds.{bound, IsBounded, IsWithin, HasEdge}
+use Rattle.lin_solve.specs.Bounds.{bound, AreSized, HasRoom, HasSizedColumns, IsWithin}
 use Rattle.far_num.specs.Pairs.{far_at, near_at}
 use Rattle.wide_num.specs.Sums.{nth, dot}
 
@@ -55,15 +55,27 @@ pub record AreParts (n : ℕ) (parts : ℕ → ℤ) (y : List ℤ) : Type 0 wher
   pub long : length y ≡ n
   pub is : (k : ℕ) → k < n → nth y k ≡ parts k
 
--- a system within a limit on lines and columns, an edge of the right side, and a top for the denominator
-pub record IsWithinLimits (limit edge top : ℕ) (lines : List (List ℤ)) (fars nears : List ℤ) : Type 0 where
-  pub bounded : IsBounded limit lines
+-- the sizes of each line and column sum to at most the limit, and the right side is at most the edge in size
+pub record IsWithinLimits (limit edge : ℕ) (lines : List (List ℤ)) (fars nears : List ℤ) : Type 0 where
+  pub some : 1 ≤ limit
+  pub sized : AreSized limit (length lines) lines
+  pub columns : HasSizedColumns limit lines
+  pub far_sizes : IsWithin edge (length lines) (nth fars)
+  pub near_sizes : IsWithin edge (length lines) (nth nears)
+
+-- the greatest size of a part of a value, over a denominator of at most the power of the limit
+abbrev pub most : ℕ → ℕ → ℕ → ℕ
+most limit edge n = limit ^ n * (n * bound limit n * edge)
+
+-- a square system without negative entries, whose limits leave room
+pub record IsSystem (lines : List (List ℤ)) (fars nears : List ℤ) : Type 0 where
+  pub limit : ℕ
+  pub edge : ℕ
+  pub within : IsWithinLimits limit edge lines fars nears
+  pub wide : (k : ℕ) → k < length lines → length (slice_index_or lines k []) ≡ length lines
   pub signs : (k i : ℕ) → k < length lines → i < length lines → pos (unsigned_abs (row lines k i)) ≡ row lines k i
   pub long_fars : length fars ≡ length lines
   pub long_nears : length nears ≡ length lines
-  pub far_sizes : IsWithin edge (length lines) (nth fars)
-  pub near_sizes : IsWithin edge (length lines) (nth nears)
-  pub reaches : HasEdge limit (length lines) edge
-  pub tops : limit ^ length lines ≤ top
-  pub cs : top * (limit * bound limit (length lines)) < 2 ^ 120
-  pub parts : top * (length lines * bound limit (length lines) * edge) < 2 ^ 106
+  pub room : HasRoom limit (length lines)
+  pub parts : most limit edge (length lines) < 2 ^ 119
+  pub cs : limit ^ length lines * (limit * bound limit (length lines)) < 2 ^ 120

@@ -68,19 +68,14 @@ fn kept_columns(
 }
 
 /// A small row whose product with each column but the one at `i` is 0.
-pub fn clearing(
-    alloc: Global,
-    limit: u64,
-    lines: &[NumList],
-    i: usize,
-) -> Result<NumList, AllocError>
-    requires bounded { IsBounded limit lines.now }
+pub fn clearing(alloc: Global, lines: &[NumList], i: usize) -> Result<NumList, AllocError>
+    requires bounded { IsBounded lines.now }
     requires only { OnlyZero (length lines.now) lines.now }
     requires within { i < length lines.now }
-    ensures { IfOk result (λ f. IsClearing limit lines.now i f) }
+    ensures { IfOk result (λ f. IsClearing lines.now i f) }
 {
     let columns = kept_columns(alloc, lines, i)?;
-    match kernel(alloc, limit, lines.len(), &columns)? {
+    match kernel(alloc, lines.len(), &columns)? {
         Some(row) => Ok(row),
         None => unreachable!(),
     }

@@ -1,7 +1,7 @@
 ghost use Rattle.far_num.specs.Pairs.{far_at, near_at};
 ghost use Rattle.lin_solve.specs.Pivots.{ArePivots, AreValues, HaveCommon, IsCommonDen};
 ghost use Rattle.lin_solve.specs.Matrix.{OnlyZero};
-ghost use Rattle.lin_solve.specs.Bounds.{HasEdge, IsBounded, IsWithin};
+ghost use Rattle.lin_solve.specs.Solved.{IsSystem};
 ghost use Rattle.std.specs.Prelude.{IfOk, length, pos, unsigned_abs, ◌*ℤ◌, ◌*◌, ◌<◌, ◌^◌, ◌≡◌, ◌≢◌};
 ghost use Rattle.wide_num.specs.Range.{Divides};
 ghost use Rattle.wide_num.specs.Sums.{nth};
@@ -15,33 +15,27 @@ use wide_num::{NumList, div_exact};
 /// The pivots of all places.
 pub fn all_pivots(
     alloc: Global,
-    limit: u64,
-    edge: u64,
     lines: &[NumList],
     fars: &[i128],
     nears: &[i128],
 ) -> Result<Vec<Pivot>, AllocError>
-    requires bounded { IsBounded limit lines.now }
+    requires system { IsSystem lines.now fars.now nears.now }
     requires only { OnlyZero (length lines.now) lines.now }
-    requires long { (length fars.now ≡ length lines.now) × (length nears.now ≡ length lines.now) }
-    requires fars { IsWithin edge (length lines.now) (nth fars.now) }
-    requires nears { IsWithin edge (length lines.now) (nth nears.now) }
-    requires edge { HasEdge limit (length lines.now) edge }
     ensures long { IfOk result (λ all. length all.items ≡ length lines.now) }
     ensures pivots { IfOk result (λ all.
-        ArePivots limit edge lines.now (nth fars.now) (nth nears.now) (length lines.now) all.items) }
+        ArePivots lines.now (nth fars.now) (nth nears.now) (length lines.now) all.items) }
 {
     let mut all = Vec::new(alloc);
     for i in 0..lines.len() {
-        all.push(pivot_at(alloc, limit, edge, lines, i, fars, nears)?)?;
+        all.push(pivot_at(alloc, lines, i, fars, nears)?)?;
     }
     Ok(all)
 }
 
-/// A denominator over which all values are whole, at most `top`.
-pub fn common_den(top: u64, pivots: &[Pivot]) -> i128
-    requires { HaveCommon top pivots.now }
-    ensures { IsCommonDen top pivots.now result }
+/// The least denominator over which all values are whole.
+pub fn common_den(pivots: &[Pivot]) -> i128
+    requires { HaveCommon pivots.now }
+    ensures { IsCommonDen pivots.now result }
 {
     let mut den = 1;
     for pivot in pivots {
@@ -62,9 +56,9 @@ fn quotient(den: i128, c: i128, part: i128) -> i128
 }
 
 /// The values over the denominator.
-pub fn values(alloc: Global, top: u64, den: i128, pivots: &[Pivot]) -> Result<FarList, AllocError>
-    requires common { HaveCommon top pivots.now }
-    requires den { IsCommonDen top pivots.now den }
+pub fn values(alloc: Global, den: i128, pivots: &[Pivot]) -> Result<FarList, AllocError>
+    requires common { HaveCommon pivots.now }
+    requires den { IsCommonDen pivots.now den }
     ensures long { IfOk result (λ out. length out ≡ length pivots.now) }
     ensures values { IfOk result (λ out. AreValues pivots.now den (length pivots.now) (far_at out) (near_at out)) }
 {

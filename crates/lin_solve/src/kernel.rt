@@ -1,6 +1,6 @@
 ghost use Rattle.lin_solve.specs.Matrix.{OnlyZero};
-ghost use Rattle.lin_solve.specs.Bounds.{AreLines, HasRoom, IsWithin, bound, size};
-ghost use Rattle.lin_solve.specs.Elimination.{CanClear, IsKernelRow, IsNext, IsUnit, NoneCanClear, Ready, Reduces, flag, product};
+ghost use Rattle.lin_solve.specs.Bounds.{AreLines};
+ghost use Rattle.lin_solve.specs.Elimination.{CanClear, CanCombine, IsKernelRow, IsNext, IsUnit, NoneCanClear, Ready, Reduces, flag, product};
 ghost use Rattle.std.specs.Prelude.{IfOk, MatchOption, [], false, length, pos, slice_index_or, true, ℕ, ◌<◌, ◌≡◌, ◌≢◌, ◌≤◌};
 ghost use Rattle.wide_num.specs.Sums.{nth};
 
@@ -9,19 +9,9 @@ use std::alloc::{AllocError, Global};
 use wide_num::NumList;
 
 /// The combination of the row `v` and the pivot's row `w` that `line` sends to 0, divided by what its numbers share.
-fn cleared_row(
-    alloc: Global,
-    limit: u64,
-    line: &[i128],
-    v: &[i128],
-    w: &[i128],
-) -> Result<NumList, AllocError>
+fn cleared_row(alloc: Global, line: &[i128], v: &[i128], w: &[i128]) -> Result<NumList, AllocError>
     requires long { (length line.now ≡ length v.now) × (length line.now ≡ length w.now) }
-    requires sized { size (length line.now) (nth line.now) ≤ limit }
-    requires some { 1 ≤ limit }
-    requires left { IsWithin (bound limit (length line.now)) (length line.now) (nth v.now) }
-    requires right { IsWithin (bound limit (length line.now)) (length line.now) (nth w.now) }
-    requires room { HasRoom limit (length line.now) }
+    requires small { CanCombine line.now v.now w.now }
     requires apart { (p : ℕ) × (p < length v.now) × (nth v.now p ≢ pos 0) × (nth w.now p ≡ pos 0)
         × (product line.now w.now ≢ pos 0) }
     ensures { IfOk result (λ y. Reduces (product line.now w.now) (product line.now v.now) v.now w.now y) }
@@ -32,8 +22,8 @@ fn cleared_row(
 }
 
 /// The first free coordinate whose row `line` doesn't send to 0.
-fn find_pivot(limit: u64, line: &[i128], basis: &[NumList], free: &[bool]) -> Option<usize>
-    requires { Ready limit line.now basis.now free.now }
+fn find_pivot(line: &[i128], basis: &[NumList], free: &[bool]) -> Option<usize>
+    requires { Ready line.now basis.now free.now }
     ensures { MatchOption result (NoneCanClear line.now basis.now free.now) (CanClear line.now basis.now free.now) }
 {
     for j in 0..free.len() {
@@ -50,20 +40,19 @@ fn find_pivot(limit: u64, line: &[i128], basis: &[NumList], free: &[bool]) -> Op
 /// The row of `j` after `line` is cleared at `pivot`, and an empty one where `j` isn't free or is the pivot.
 fn next_row(
     alloc: Global,
-    limit: u64,
     line: &[i128],
     pivot: usize,
     j: usize,
     basis: &[NumList],
     free: &[bool],
 ) -> Result<NumList, AllocError>
-    requires ready { Ready limit line.now basis.now free.now }
+    requires ready { Ready line.now basis.now free.now }
     requires pivot { CanClear line.now basis.now free.now pivot }
     requires within { j < length free.now }
     ensures { IfOk result (λ y. flag free.now j ≡ true → j ≢ pivot → IsNext line.now basis.now pivot j y) }
 {
     if free[j] && j != pivot {
-        cleared_row(alloc, limit, line, basis[j].items(), basis[pivot].items())
+        cleared_row(alloc, line, basis[j].items(), basis[pivot].items())
     } else {
         Ok(NumList::new(alloc))
     }
@@ -72,13 +61,12 @@ fn next_row(
 /// The rows after `line` is cleared at `pivot`.
 fn cleared(
     alloc: Global,
-    limit: u64,
     line: &[i128],
     pivot: usize,
     basis: &[NumList],
     free: &[bool],
 ) -> Result<Vec<NumList>, AllocError>
-    requires ready { Ready limit line.now basis.now free.now }
+    requires ready { Ready line.now basis.now free.now }
     requires pivot { CanClear line.now basis.now free.now pivot }
     ensures long { IfOk result (λ next. length next.items ≡ length free.now) }
     ensures rows { IfOk result (λ next. (j : ℕ) → j < length free.now → flag free.now j ≡ true → j ≢ pivot
@@ -86,7 +74,7 @@ fn cleared(
 {
     let mut next = Vec::new(alloc);
     for j in 0..free.len() {
-        next.push(next_row(alloc, limit, line, pivot, j, basis, free)?)?;
+        next.push(next_row(alloc, line, pivot, j, basis, free)?)?;
     }
     Ok(next)
 }
@@ -133,22 +121,17 @@ fn take_free(mut basis: Vec<NumList>, free: &[bool]) -> Option<NumList>
 ///
 /// There is one row for each coordinate, and a coordinate is free until a line is cleared at it. The rows of the free
 /// coordinates span what all lines so far send to 0, and each is 0 at the other free coordinates.
-pub fn kernel(
-    alloc: Global,
-    limit: u64,
-    width: usize,
-    lines: &[NumList],
-) -> Result<Option<NumList>, AllocError>
-    requires { AreLines limit width lines.now }
+pub fn kernel(alloc: Global, width: usize, lines: &[NumList]) -> Result<Option<NumList>, AllocError>
+    requires { AreLines width lines.now }
     ensures { IfOk result (λ found. MatchOption found (OnlyZero width lines.now)
-        (IsKernelRow limit width lines.now)) }
+        (IsKernelRow width lines.now)) }
 {
     let mut basis = units(alloc, width)?;
     let mut free = vec![in alloc; true; width]?;
     for line in lines {
         let numbers = line.items();
-        if let Some(pivot) = find_pivot(limit, numbers, &basis, &free) {
-            basis = cleared(alloc, limit, numbers, pivot, &basis, &free)?;
+        if let Some(pivot) = find_pivot(numbers, &basis, &free) {
+            basis = cleared(alloc, numbers, pivot, &basis, &free)?;
             free[pivot] = false;
         }
     }

@@ -6,8 +6,8 @@
 //! solution other than 0. So no number leaves the range, and there is no right side to carry along: where the matrix
 //! has no kernel row, each value of the solution comes from a row that clears all columns but one.
 //!
-//! `limit`, `edge` and `top` are read by no code. By them the contracts bound the sums of lines and columns, the parts
-//! of the right side and the denominator.
+//! A limit is a number that the sizes of each line and of each column sum to at most. Contracts ask for one that leaves
+//! room, and answers are small by each: a kernel row of `n` numbers by its power `n - 1`, a denominator by its power `n`.
 #![tactic(auto)]
 
 mod columns;

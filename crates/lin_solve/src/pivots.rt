@@ -1,6 +1,6 @@
 ghost use Rattle.lin_solve.specs.Matrix.{OnlyZero};
-ghost use Rattle.lin_solve.specs.Bounds.{HasEdge, IsBounded, IsWithin};
 ghost use Rattle.lin_solve.specs.Clearing.{IsGrown, IsPivot};
+ghost use Rattle.lin_solve.specs.Solved.{IsSystem};
 ghost use Rattle.std.specs.Prelude.{IfOk, length, pos, unsigned_abs, ◌*◌, ◌<◌, ◌^◌, ◌≡◌, ◌≢◌, ◌≤ℤ◌};
 ghost use Rattle.wide_num.specs.Sums.{nth};
 
@@ -23,23 +23,17 @@ pub struct Pivot {
 /// The products of the row that clears all columns but the one at `i`.
 pub fn pivot_at(
     alloc: Global,
-    limit: u64,
-    edge: u64,
     lines: &[NumList],
     i: usize,
     fars: &[i128],
     nears: &[i128],
 ) -> Result<Pivot, AllocError>
-    requires bounded { IsBounded limit lines.now }
+    requires system { IsSystem lines.now fars.now nears.now }
     requires only { OnlyZero (length lines.now) lines.now }
     requires within { i < length lines.now }
-    requires long { (length fars.now ≡ length lines.now) × (length nears.now ≡ length lines.now) }
-    requires fars { IsWithin edge (length lines.now) (nth fars.now) }
-    requires nears { IsWithin edge (length lines.now) (nth nears.now) }
-    requires edge { HasEdge limit (length lines.now) edge }
-    ensures { IfOk result (λ p. IsPivot limit edge lines.now i (nth fars.now) (nth nears.now) p.c p.far p.near) }
+    ensures { IfOk result (λ p. IsPivot lines.now i (nth fars.now) (nth nears.now) p.c p.far p.near) }
 {
-    let row = clearing(alloc, limit, lines, i)?;
+    let row = clearing(alloc, lines, i)?;
     let own = column(alloc, lines, i)?;
     let c = dot(own.items(), row.items());
     let far = dot(row.items(), fars);

@@ -1,7 +1,7 @@
 ghost use Rattle.far_num.specs.Pairs.{far_at, near_at};
-ghost use Rattle.lin_solve.specs.Solved.{AreParts, IsAnswer, IsSmallAnswer, IsSmallSystem, IsWithinLimits};
+ghost use Rattle.lin_solve.specs.Solved.{AreParts, IsAnswer, IsSmallAnswer, IsSmallSystem, IsSystem, IsWithinLimits, most};
 ghost use Rattle.lin_solve.specs.Matrix.{OnlyZero};
-ghost use Rattle.std.specs.Prelude.{IfOk, length, ◌+◌, ◌^◌, ◌≡◌};
+ghost use Rattle.std.specs.Prelude.{IfOk, length, ℕ, ◌+◌, ◌^◌, ◌≡◌, ◌⊎◌};
 ghost use Rattle.wide_num.specs.Sums.{nth};
 
 use crate::common::{all_pivots, common_den, values};
@@ -10,15 +10,6 @@ use crate::square::Square;
 use far_num::{Far, FarList};
 use std::alloc::{AllocError, Global};
 use wide_num::NumList;
-
-/// The greatest sum of a line or a column of at most six entries from 0 to 6.
-const LINE_LIMIT: u64 = 36;
-
-/// The greatest size of a part of the right side.
-const PART_LIMIT: u64 = 1 << 46;
-
-/// The sixth power of `LINE_LIMIT`, which no denominator exceeds.
-const DEN_LIMIT: u64 = 2_176_782_336;
 
 /// What a linear system has: one solution, or a dependence.
 #[derive(Debug, Drop)]
@@ -32,41 +23,37 @@ pub enum Solved {
 /// The only solution, where the lines send only 0 to 0.
 fn one_solution(
     alloc: Global,
-    limit: u64,
-    edge: u64,
-    top: u64,
     lines: &[NumList],
     fars: &[i128],
     nears: &[i128],
 ) -> Result<Solved, AllocError>
-    requires limits { IsWithinLimits limit edge top lines.now fars.now nears.now }
+    requires system { IsSystem lines.now fars.now nears.now }
     requires only { OnlyZero (length lines.now) lines.now }
     ensures answer { IfOk result (λ s. IsAnswer lines.now (nth fars.now) (nth nears.now) s) }
-    ensures small { IfOk result (λ s. IsSmallAnswer (top + 1) (2 ^ 106) s) }
+    ensures small { (limit edge : ℕ) → IsWithinLimits limit edge lines.now fars.now nears.now
+        → IfOk result (λ s. IsSmallAnswer (limit ^ length lines.now + 1) (most limit edge (length lines.now) + 1) s) }
 {
-    let pivots = all_pivots(alloc, limit, edge, lines, fars, nears)?;
-    let den = common_den(top, &pivots);
-    let values = values(alloc, top, den, &pivots)?;
+    let pivots = all_pivots(alloc, lines, fars, nears)?;
+    let den = common_den(&pivots);
+    let values = values(alloc, den, &pivots)?;
     Ok(Solved::One { den, values })
 }
 
-/// The answer for a system whose sizes stay within the limits. The limits serve the contracts alone.
+/// The answer for a system whose limits leave room. By each limit of the system the answer is small.
 fn solve_within(
     alloc: Global,
-    limit: u64,
-    edge: u64,
-    top: u64,
     lines: &[NumList],
     fars: &[i128],
     nears: &[i128],
 ) -> Result<Solved, AllocError>
-    requires { IsWithinLimits limit edge top lines.now fars.now nears.now }
+    requires { IsSystem lines.now fars.now nears.now }
     ensures answer { IfOk result (λ s. IsAnswer lines.now (nth fars.now) (nth nears.now) s) }
-    ensures small { IfOk result (λ s. IsSmallAnswer (top + 1) (2 ^ 106) s) }
+    ensures small { (limit edge : ℕ) → IsWithinLimits limit edge lines.now fars.now nears.now
+        → IfOk result (λ s. IsSmallAnswer (limit ^ length lines.now + 1) (most limit edge (length lines.now) + 1) s) }
 {
-    match kernel(alloc, limit, lines.len(), lines)? {
+    match kernel(alloc, lines.len(), lines)? {
         Some(combination) => Ok(Solved::Dependent { combination }),
-        None => one_solution(alloc, limit, edge, top, lines, fars, nears),
+        None => one_solution(alloc, lines, fars, nears),
     }
 }
 
@@ -94,21 +81,17 @@ fn near_parts(alloc: Global, right: &[Far]) -> Result<NumList, AllocError>
 ///
 /// Where the only row that the matrix sends to 0 is 0 itself, the answer is the only solution, and else a row other
 /// than 0 that the matrix sends to 0. The method and its bounds are told at the head of this crate.
+///
+/// The entries aren't negative. Either there are at most six lines with entries up to 6 and a right side up to 2^46 in
+/// size, or at most four lines with entries up to 80 and a right side up to 2^45.
 pub fn solve(alloc: Global, matrix: &Square, right: &[Far]) -> Result<Solved, AllocError>
     requires long { length right.now ≡ length matrix.now }
-    requires small { IsSmallSystem 6 6 (2 ^ 46) matrix.now right.now }
+    requires small { IsSmallSystem 6 6 (2 ^ 46) matrix.now right.now ⊎ IsSmallSystem 4 80 (2 ^ 45) matrix.now right.now }
     ensures answer { IfOk result (λ s. IsAnswer matrix.now (far_at right.now) (near_at right.now) s) }
-    ensures bounds { IfOk result (λ s. IsSmallAnswer (2 ^ 32) (2 ^ 106) s) }
+    ensures bounds { IfOk result (λ s. IsSmallAnswer (320 ^ 4 + 1) (2 ^ 106) s) }
+    ensures smaller { IsSmallSystem 6 6 (2 ^ 46) matrix.now right.now → IfOk result (λ s. IsSmallAnswer (2 ^ 32) (2 ^ 106) s) }
 {
     let fars = far_parts(alloc, right)?;
     let nears = near_parts(alloc, right)?;
-    solve_within(
-        alloc,
-        LINE_LIMIT,
-        PART_LIMIT,
-        DEN_LIMIT,
-        matrix.lines(),
-        fars.items(),
-        nears.items(),
-    )
+    solve_within(alloc, matrix.lines(), fars.items(), nears.items())
 }

@@ -10,34 +10,36 @@ use std::test::Fail;
 
 const MOST: i128 = 1 << 46;
 
+const HALF: i128 = 1 << 45;
+
 fn pair(far: i128, near: i128) -> Far {
     Far { far, near }
 }
 
-fn are_small(entries: &[i128]) -> bool
+fn are_small(top: u128, entries: &[i128]) -> bool
     ensures { IsTrue result → (k : ℕ) → k < length entries.now
-        → (pos 0 ≤ℤ nth entries.now k) × (unsigned_abs (nth entries.now k) ≤ 6) }
+        → (pos 0 ≤ℤ nth entries.now k) × (unsigned_abs (nth entries.now k) ≤ top) }
 {
     for x in entries {
         if *x < 0 {
             return false;
         }
-        if *x > 6 {
+        if x.unsigned_abs() > top {
             return false;
         }
     }
     true
 }
 
-fn have_small_parts(right: &[Far]) -> bool
+fn have_small_parts(edge: u128, right: &[Far]) -> bool
     ensures { IsTrue result → (k : ℕ) → k < length right.now
-        → (unsigned_abs (far_at right.now k) ≤ 2 ^ 46) × (unsigned_abs (near_at right.now k) ≤ 2 ^ 46) }
+        → (unsigned_abs (far_at right.now k) ≤ edge) × (unsigned_abs (near_at right.now k) ≤ edge) }
 {
     for x in right {
-        if x.far.unsigned_abs() > 1 << 46 {
+        if x.far.unsigned_abs() > edge {
             return false;
         }
-        if x.near.unsigned_abs() > 1 << 46 {
+        if x.near.unsigned_abs() > edge {
             return false;
         }
     }
@@ -56,8 +58,26 @@ fn answer(
     assert!(rt; size <= 6);
     assert_eq!(rt; entries.len(), size * size);
     assert_eq!(rt; right.len(), size);
-    assert!(rt; are_small(entries));
-    assert!(rt; have_small_parts(right));
+    assert!(rt; are_small(6, entries));
+    assert!(rt; have_small_parts(1 << 46, right));
+    let matrix = Square::new(alloc, size, entries)?;
+    solve(alloc, &matrix, right)
+}
+
+// Tests the conditions of the second case, and calls `solve`.
+fn weighed_answer(
+    rt: &impl Abort,
+    alloc: Global,
+    size: usize,
+    entries: &[i128],
+    right: &[Far],
+) -> Result<Solved, AllocError> {
+    assert!(rt; size >= 1);
+    assert!(rt; size <= 4);
+    assert_eq!(rt; entries.len(), size * size);
+    assert_eq!(rt; right.len(), size);
+    assert!(rt; are_small(80, entries));
+    assert!(rt; have_small_parts(1 << 45, right));
     let matrix = Square::new(alloc, size, entries)?;
     solve(alloc, &matrix, right)
 }
@@ -166,6 +186,38 @@ fn regular_systems(rt: HostRuntime) -> Result<(), Fail> {
         match answer(&rt, rt.alloc(), size, entries, right)? {
             Solved::One { den, values } => assert_solves(&rt, entries, right, den, values.items()),
             Solved::Dependent { .. } => panic!(&rt; "a regular matrix of size {size}"),
+        }
+    }
+    Ok(())
+}
+
+#[test]
+fn weighed_systems(rt: HostRuntime) -> Result<(), Fail> {
+    let table: [(usize, &[i128], &[Far]); 3] = [
+        (1, &[80], &[pair(HALF, -HALF)]),
+        (2, &[80, 20, 20, 60], &[pair(HALF, 1), pair(-HALF, 2)]),
+        (
+            4,
+            &[80, 0, 79, 78, 1, 80, 0, 77, 80, 2, 76, 0, 0, 75, 3, 80],
+            &[
+                pair(HALF, -HALF),
+                pair(-HALF, HALF),
+                pair(HALF, HALF),
+                pair(1, -HALF),
+            ],
+        ),
+    ];
+    for (size, entries, right) in table {
+        match weighed_answer(&rt, rt.alloc(), size, entries, right)? {
+            Solved::One { den, values } => assert_solves(&rt, entries, right, den, values.items()),
+            Solved::Dependent { .. } => panic!(&rt; "a regular matrix of size {size}"),
+        }
+    }
+    let entries = [40, 60, 20, 30];
+    match weighed_answer(&rt, rt.alloc(), 2, &entries, &[pair(1, 2), pair(3, 4)])? {
+        Solved::One { den, .. } => panic!(&rt; "a dependent matrix with den {den}"),
+        Solved::Dependent { combination } => {
+            assert_depends(&rt, &entries, combination.items());
         }
     }
     Ok(())

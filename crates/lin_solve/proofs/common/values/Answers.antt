@@ -1,8 +1,8 @@
-use Rattle.std.proofs.Common.{◌≡◌, ℕ, ◌+◌, length, rules, FitsSigned, [], ◌∷◌, ◌++◌, ◌∙◌, ap}
+use Rattle.std.proofs.Common.{◌≡◌, ℕ, ◌+◌, length, unsigned_abs, rules, FitsSigned, [], ◌∷◌, ◌++◌, ◌∙◌, ap}
 use Rattle.std.specs.Int.{w128}
 use Rattle.std.proofs.lemmas.Int.{to_z-of_z}
 use Rattle.lin_solve.specs.Pivots.{pivot}
-use Rattle.lin_solve.proofs.CommonFacts.{room_by, values_more}
+use Rattle.lin_solve.proofs.CommonFacts.{den_common, room_by, values_more}
 use Rattle.far_num.specs.declared.Far.{Far}
 use Rattle.std.proofs.lemmas.List.{length_push}
 use Rattle.lin_solve.proofs.common.values.Goals as goal
@@ -11,7 +11,7 @@ pub quotient-far-requires-clause-room : goal.quotient-far-requires-clause-room
 quotient-far-requires-clause-room c =
     let d = c.ranges.den in
     let f : FitsSigned w128 (pivot c.args.pivots.now c.loop-pivot.pivot-index).far = search rules in
-    simp to_z-of_z (room_by c.args.den (pivot c.args.pivots.now c.loop-pivot.pivot-index).far c.args.top c.requires.den.small (c.requires.common.fars c.loop-pivot.pivot-index c.loop-pivot-test.true))
+    simp to_z-of_z (room_by c.args.den (pivot c.args.pivots.now c.loop-pivot.pivot-index).far (unsigned_abs c.requires.common.k) (den_common c.args.pivots.now c.args.den c.requires.common c.requires.den.least) (c.requires.common.fars c.loop-pivot.pivot-index c.loop-pivot-test.true))
 
 pub quotient-far-requires-clause-whole : goal.quotient-far-requires-clause-whole
 quotient-far-requires-clause-whole c =
@@ -24,7 +24,7 @@ pub quotient-near-requires-clause-room : goal.quotient-near-requires-clause-room
 quotient-near-requires-clause-room c =
     let d = c.ranges.den in
     let f : FitsSigned w128 (pivot c.args.pivots.now c.loop-pivot.pivot-index).near = search rules in
-    simp to_z-of_z (room_by c.args.den (pivot c.args.pivots.now c.loop-pivot.pivot-index).near c.args.top c.requires.den.small (c.requires.common.nears c.loop-pivot.pivot-index c.loop-pivot-test.true))
+    simp to_z-of_z (room_by c.args.den (pivot c.args.pivots.now c.loop-pivot.pivot-index).near (unsigned_abs c.requires.common.k) (den_common c.args.pivots.now c.args.den c.requires.common c.requires.den.least) (c.requires.common.nears c.loop-pivot.pivot-index c.loop-pivot-test.true))
 
 pub quotient-near-requires-clause-whole : goal.quotient-near-requires-clause-whole
 quotient-near-requires-clause-whole c =

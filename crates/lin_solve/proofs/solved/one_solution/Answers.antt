@@ -1,42 +1,35 @@
-use Rattle.std.proofs.Common.{arith, rules, FitsSigned}
+use Rattle.std.proofs.Common.{rules, FitsSigned}
 use Rattle.std.specs.Int.{w128}
 use Rattle.std.proofs.lemmas.Int.{to_z-of_z}
-use Rattle.wide_num.specs.Sums.{nth}
-use Rattle.lin_solve.proofs.Assembly.{have_common, one_solution, small_values}
+use Rattle.lin_solve.proofs.Assembly.{have_common, one_solution, small_answer}
 use Rattle.lin_solve.proofs.solved.one_solution.Goals as goal
 
 pub common_den-den-requires : goal.common_den-den-requires
 common_den-den-requires c =
-    let k = c.requires.limits in
     rw c.deref.ensures.value
-    (have_common c.args.limit c.args.edge c.args.top c.args.lines.now (nth c.args.fars.now) (nth c.args.nears.now) c.in_ok-pivots.pivots.items k.bounded c.requires.only k.signs c.in_ok-pivots.ensures.long c.in_ok-pivots.ensures.pivots k.tops k.cs k.parts)
+    (have_common c.args.lines.now c.args.fars.now c.args.nears.now c.in_ok-pivots.pivots.items c.requires.system c.requires.only c.in_ok-pivots.ensures.long c.in_ok-pivots.ensures.pivots)
 
 pub values-requires-clause-common : goal.values-requires-clause-common
 values-requires-clause-common c =
-    let k = c.requires.limits in
     rw c.deref-2.ensures.value
-    (have_common c.args.limit c.args.edge c.args.top c.args.lines.now (nth c.args.fars.now) (nth c.args.nears.now) c.in_ok-pivots.pivots.items k.bounded c.requires.only k.signs c.in_ok-pivots.ensures.long c.in_ok-pivots.ensures.pivots k.tops k.cs k.parts)
+    (have_common c.args.lines.now c.args.fars.now c.args.nears.now c.in_ok-pivots.pivots.items c.requires.system c.requires.only c.in_ok-pivots.ensures.long c.in_ok-pivots.ensures.pivots)
 
 pub returns-clause-answer : goal.returns-clause-answer
 returns-clause-answer c =
-    let k = c.requires.limits in
     let d : FitsSigned w128 c.common_den-den.result = search rules in
     let cd = rw c.deref.ensures.value at c.common_den-den.ensures in
     let lv = rw c.deref-2.ensures.value at c.in_ok-values.ensures.long in
     let av = simp to_z-of_z at (rw c.deref-2.ensures.value at c.in_ok-values.ensures.values) in
     simp to_z-of_z
-    (one_solution c.args.limit c.args.edge c.args.top c.args.lines.now (nth c.args.fars.now) (nth c.args.nears.now) c.in_ok-pivots.pivots.items k.bounded c.requires.only k.signs c.in_ok-pivots.ensures.long c.in_ok-pivots.ensures.pivots k.tops k.cs k.parts
+    (one_solution c.args.lines.now c.args.fars.now c.args.nears.now c.in_ok-pivots.pivots.items c.requires.system c.requires.only c.in_ok-pivots.ensures.long c.in_ok-pivots.ensures.pivots
     c.common_den-den.result c.in_ok-values.values cd lv av)
 
 pub returns-clause-small : goal.returns-clause-small
-returns-clause-small c =
-    let k = c.requires.limits in
+returns-clause-small c = λ limit edge w.
     let d : FitsSigned w128 c.common_den-den.result = search rules in
     let cd = rw c.deref.ensures.value at c.common_den-den.ensures in
     let lv = rw c.deref-2.ensures.value at c.in_ok-values.ensures.long in
     let av = simp to_z-of_z at (rw c.deref-2.ensures.value at c.in_ok-values.ensures.values) in
-    simp to_z-of_z (
-      omega (arith, cd.small),
-      small_values c.args.limit c.args.edge c.args.top c.args.lines.now (nth c.args.fars.now) (nth c.args.nears.now) c.in_ok-pivots.pivots.items k.bounded c.requires.only k.signs c.in_ok-pivots.ensures.long c.in_ok-pivots.ensures.pivots k.tops k.cs k.parts
-          c.common_den-den.result c.in_ok-values.values cd lv av,
-    )
+    simp to_z-of_z
+    (small_answer c.args.lines.now c.args.fars.now c.args.nears.now c.in_ok-pivots.pivots.items c.requires.system c.requires.only c.in_ok-pivots.ensures.long c.in_ok-pivots.ensures.pivots
+    c.common_den-den.result c.in_ok-values.values cd lv av limit edge w)
