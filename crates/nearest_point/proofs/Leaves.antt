@@ -1,9 +1,9 @@
 -- What the numbers of one row and one coordinate come to, and their sizes.
-use Rattle.std.proofs.Common.{◌≡◌, ℕ, zero, suc, ◌*◌, ◌^◌, ◌<◌, ◌≤◌, refl, sym, arith, ap, ◌∙◌, ◌⊎◌, inl, inr, to_z, of_z, unsigned_abs, List, [], ◌∷◌, length}
+use Rattle.std.proofs.Common.{◌≡◌, FitsSigned, subst, ℕ, zero, suc, ◌*◌, ◌^◌, ◌<◌, ◌≤◌, refl, sym, arith, ap, ◌∙◌, ◌⊎◌, inl, inr, to_z, of_z, unsigned_abs, List, [], ◌∷◌, length}
 use Rattle.std.specs.Prelude.{ℤ, pos, ◌+ℤ◌, ◌-ℤ◌, ◌*ℤ◌, ◌≤ℤ◌, ◌<ℤ◌, min}
 use Rattle.std.specs.Int.{bit_at, w128}
 use Rattle.std.specs.Int.Bits.{bit_and}
-use Rattle.std.proofs.lemmas.Int.{ints, unsigned_abs-mul}
+use Rattle.std.proofs.lemmas.Int.{ints, fits_signed_from_abs, to_z_pos, unsigned_abs-mul}
 use Rattle.std.proofs.lemmas.Nat.{mul-le}
 use Rattle.std.proofs.lemmas.Nat.Bits.{bit_at_and, bit_at-lt}
 use Rattle.far_num.specs.Members.{holds}
@@ -30,15 +30,15 @@ part_or s j x = elim (holds_or s j) [
   | inr e ↦ inr (ap (λ (z : ℤ). z *ℤ x) e ∙ omega (arith, ints))
 ]
 
--- a sum of numbers -1
-pub minus_ones : (k s : ℕ) (l : ℕ → ℤ) → ((j : ℕ) → j < k → l j ≡ pos 0 -ℤ pos 1) → (dot k (holds s) l ≤ℤ pos 0) × ((pos 0 -ℤ pos k) ≤ℤ dot k (holds s) l)
-minus_ones zero s l h = (omega (arith, ints), omega (arith, ints))
-minus_ones (suc k) s l h = more (minus_ones k s l (λ j lt. h j (omega arith))) (h k (omega arith)) (part_or s k (l k))
+-- a sum of numbers below 0 by at most t
+pub sum_below : (t k s : ℕ) (l : ℕ → ℤ) → ((j : ℕ) → j < k → ((pos 0 -ℤ pos t) ≤ℤ l j) × (l j ≤ℤ pos 0)) → (dot k (holds s) l ≤ℤ pos 0) × ((pos 0 -ℤ pos (k * t)) ≤ℤ dot k (holds s) l)
+sum_below t zero s l h = (omega (arith, ints), omega (arith, ints))
+sum_below t (suc k) s l h = more (sum_below t k s l (λ j lt. h j (omega arith))) (h k (omega arith)) (part_or s k (l k))
   where
-    more : (dot k (holds s) l ≤ℤ pos 0) × ((pos 0 -ℤ pos k) ≤ℤ dot k (holds s) l) → l k ≡ pos 0 -ℤ pos 1 → (holds s k *ℤ l k ≡ pos 0) ⊎ (holds s k *ℤ l k ≡ l k)
-        → (dot (suc k) (holds s) l ≤ℤ pos 0) × ((pos 0 -ℤ pos (suc k)) ≤ℤ dot (suc k) (holds s) l)
-    more p e (inl f) = let a = p.0 in let b = p.1 in (omega (arith, ints), omega (arith, ints))
-    more p e (inr f) = let a = p.0 in let b = p.1 in (omega (arith, ints), omega (arith, ints))
+    more : (dot k (holds s) l ≤ℤ pos 0) × ((pos 0 -ℤ pos (k * t)) ≤ℤ dot k (holds s) l) → ((pos 0 -ℤ pos t) ≤ℤ l k) × (l k ≤ℤ pos 0) → (holds s k *ℤ l k ≡ pos 0) ⊎ (holds s k *ℤ l k ≡ l k)
+        → (dot (suc k) (holds s) l ≤ℤ pos 0) × ((pos 0 -ℤ pos (suc k * t)) ≤ℤ dot (suc k) (holds s) l)
+    more p e (inl f) = let a = p.0 in let b = p.1 in let c = e.0 in let d = e.1 in (omega (arith, ints), omega (arith, ints))
+    more p e (inr f) = let a = p.0 in let b = p.1 in let c = e.0 in let d = e.1 in (omega (arith, ints), omega (arith, ints))
 
 -- the sum over some members of numbers that aren't negative
 pub some_of : (k s : ℕ) (t : ℕ → ℤ) → ((j : ℕ) → j < k → pos 0 ≤ℤ t j) → (pos 0 ≤ℤ dot k (holds s) t) × (dot k (holds s) t ≤ℤ total k t)
@@ -80,35 +80,50 @@ common_is m a b l =
     ∙ ring (holds a j ∷ holds b j ∷ l j ∷ []) (add (mul (var 0) (mul (sub (con (pos 0)) (var 2)) (var 1))) (mul (mul (var 0) (var 1)) (var 2))) (con (pos 0)) refl) in
     omega (arith, ints)
 
-product_small : (d a : ℤ) → pos 0 <ℤ d → d <ℤ pos (2 ^ 32) → unsigned_abs a ≤ 2 ^ 46 → unsigned_abs (d *ℤ a) ≤ 2 ^ 32 * 2 ^ 46
+product_small : (d a : ℤ) → pos 0 <ℤ d → d ≤ℤ pos (320 ^ 4) → unsigned_abs a ≤ 2 ^ 46 → unsigned_abs (d *ℤ a) ≤ 320 ^ 4 * 2 ^ 46
 product_small d a p q h =
     let e = unsigned_abs-mul d a in
-    let l : unsigned_abs d ≤ 2 ^ 32 = omega (arith, ints) in
-    let m = mul-le (unsigned_abs d) (unsigned_abs a) (2 ^ 32) (2 ^ 46) l h in
+    let l : unsigned_abs d ≤ 320 ^ 4 = omega (arith, ints) in
+    let m = mul-le (unsigned_abs d) (unsigned_abs a) (320 ^ 4) (2 ^ 46) l h in
     omega (arith, e, m)
 
-sum_small : (x m : ℤ) → unsigned_abs x ≤ 2 ^ 32 * 2 ^ 46 → unsigned_abs m ≤ 6 * 2 ^ 106 → unsigned_abs (x +ℤ m) < 2 ^ 109
+pub weighed_small : (w : ℕ) (m : ℤ) → w ≤ 20 → unsigned_abs m ≤ 6 * 2 ^ 106 → unsigned_abs (pos w *ℤ m) ≤ 120 * 2 ^ 106
+weighed_small w m h k =
+    let e = unsigned_abs-mul (pos w) m in
+    let p = mul-le w (unsigned_abs m) 20 (6 * 2 ^ 106) h k in
+    omega (arith, e, p)
+
+sum_small : (x m : ℤ) → unsigned_abs x ≤ 320 ^ 4 * 2 ^ 46 → unsigned_abs m ≤ 120 * 2 ^ 106 → unsigned_abs (x +ℤ m) < 2 ^ 113
 sum_small x m p q = omega (arith, ints)
 
-pub moved_small : (d a m : ℤ) (w : ℕ) → pos 0 <ℤ d → d <ℤ pos (2 ^ 32) → unsigned_abs a ≤ 2 ^ 46 → w ≡ 1 → unsigned_abs m ≤ 6 * 2 ^ 106
-    → unsigned_abs (d *ℤ a +ℤ pos w *ℤ m) < 2 ^ 109
-moved_small d a m w p q h e k =
-    let one : pos w *ℤ m ≡ m = ap (λ (n : ℕ). pos n *ℤ m) e ∙ omega (arith, ints) in
-    rw one (sum_small (d *ℤ a) m (product_small d a p q h) k)
+pub moved_small : (d a m : ℤ) (w : ℕ) → pos 0 <ℤ d → d ≤ℤ pos (320 ^ 4) → unsigned_abs a ≤ 2 ^ 46 → w ≤ 20 → unsigned_abs m ≤ 6 * 2 ^ 106
+    → unsigned_abs (d *ℤ a +ℤ pos w *ℤ m) < 2 ^ 113
+moved_small d a m w p q h e k = sum_small (d *ℤ a) (pos w *ℤ m) (product_small d a p q h) (weighed_small w m e k)
 
-pub moved_back : (d a m : ℤ) (w : ℕ) → pos 0 <ℤ d → d <ℤ pos (2 ^ 32) → unsigned_abs a ≤ 2 ^ 46 → w ≡ 1 → unsigned_abs m ≤ 6 * 2 ^ 106
-    → to_z w128 (of_z w128 (to_z w128 (of_z w128 (to_z w128 (of_z w128 d) *ℤ to_z w128 (of_z w128 a))) +ℤ to_z w128 (of_z w128 (to_z w128 w *ℤ to_z w128 (of_z w128 m))))) ≡ d *ℤ a +ℤ pos w *ℤ m
-moved_back d a m w p q h e k =
+-- the code's sum before it is read back
+sum_is : (d a m : ℤ) (w : ℕ) → pos 0 <ℤ d → d ≤ℤ pos (320 ^ 4) → unsigned_abs a ≤ 2 ^ 46 → w ≤ 20 → unsigned_abs m ≤ 6 * 2 ^ 106
+    → to_z w128 (of_z w128 (to_z w128 (of_z w128 d) *ℤ to_z w128 (of_z w128 a))) +ℤ to_z w128 (of_z w128 (to_z w128 w *ℤ to_z w128 (of_z w128 m))) ≡ d *ℤ a +ℤ pos w *ℤ m
+sum_is d a m w p q h e k =
     let d' : to_z w128 (of_z w128 d) ≡ d = omega (arith, ints) in
     let a' : to_z w128 (of_z w128 a) ≡ a = omega (arith, ints) in
     let m' : to_z w128 (of_z w128 m) ≡ m = omega (arith, ints) in
-    let w' : to_z w128 w ≡ pos 1 = ap (to_z w128) e in
-    let one : pos w *ℤ m ≡ m = ap (λ (n : ℕ). pos n *ℤ m) e ∙ omega (arith, ints) in
+    let w' : to_z w128 w ≡ pos w = to_z_pos w128 w (omega arith) in
     let da = product_small d a p q h in
+    let wm = weighed_small w m e k in
     let left : to_z w128 (of_z w128 (to_z w128 (of_z w128 d) *ℤ to_z w128 (of_z w128 a))) ≡ d *ℤ a =
     ap (λ (z : ℤ). to_z w128 (of_z w128 (z *ℤ to_z w128 (of_z w128 a)))) d' ∙ ap (λ (z : ℤ). to_z w128 (of_z w128 (d *ℤ z))) a' ∙ back (d *ℤ a) (omega (arith, da)) in
-    let right : to_z w128 (of_z w128 (to_z w128 w *ℤ to_z w128 (of_z w128 m))) ≡ m =
-    ap (λ (z : ℤ). to_z w128 (of_z w128 (z *ℤ to_z w128 (of_z w128 m)))) w' ∙ ap (λ (z : ℤ). to_z w128 (of_z w128 (pos 1 *ℤ z))) m'
-    ∙ ap (λ (z : ℤ). to_z w128 (of_z w128 z)) (let o : pos 1 *ℤ m ≡ m = omega (arith, ints) in o) ∙ m' in
-    ap (λ (z : ℤ). to_z w128 (of_z w128 (z +ℤ to_z w128 (of_z w128 (to_z w128 w *ℤ to_z w128 (of_z w128 m)))))) left ∙ ap (λ (z : ℤ). to_z w128 (of_z w128 (d *ℤ a +ℤ z))) right
-    ∙ back (d *ℤ a +ℤ m) (let s = sum_small (d *ℤ a) m da k in omega (arith, s)) ∙ ap (λ (z : ℤ). d *ℤ a +ℤ z) (sym one)
+    let right : to_z w128 (of_z w128 (to_z w128 w *ℤ to_z w128 (of_z w128 m))) ≡ pos w *ℤ m =
+    ap (λ (z : ℤ). to_z w128 (of_z w128 (z *ℤ to_z w128 (of_z w128 m)))) w' ∙ ap (λ (z : ℤ). to_z w128 (of_z w128 (pos w *ℤ z))) m' ∙ back (pos w *ℤ m) (omega (arith, wm)) in
+    ap (λ (z : ℤ). z +ℤ to_z w128 (of_z w128 (to_z w128 w *ℤ to_z w128 (of_z w128 m)))) left ∙ ap (λ (z : ℤ). d *ℤ a +ℤ z) right
+
+pub moved_back : (d a m : ℤ) (w : ℕ) → pos 0 <ℤ d → d ≤ℤ pos (320 ^ 4) → unsigned_abs a ≤ 2 ^ 46 → w ≤ 20 → unsigned_abs m ≤ 6 * 2 ^ 106
+    → to_z w128 (of_z w128 (to_z w128 (of_z w128 (to_z w128 (of_z w128 d) *ℤ to_z w128 (of_z w128 a))) +ℤ to_z w128 (of_z w128 (to_z w128 w *ℤ to_z w128 (of_z w128 m))))) ≡ d *ℤ a +ℤ pos w *ℤ m
+moved_back d a m w p q h e k =
+    ap (λ (z : ℤ). to_z w128 (of_z w128 z)) (sum_is d a m w p q h e k)
+    ∙ back (d *ℤ a +ℤ pos w *ℤ m) (let s = moved_small d a m w p q h e k in omega (arith, s))
+
+pub moved_fits : (d a m : ℤ) (w : ℕ) → pos 0 <ℤ d → d ≤ℤ pos (320 ^ 4) → unsigned_abs a ≤ 2 ^ 46 → w ≤ 20 → unsigned_abs m ≤ 6 * 2 ^ 106
+    → FitsSigned w128 (to_z w128 (of_z w128 (to_z w128 (of_z w128 d) *ℤ to_z w128 (of_z w128 a))) +ℤ to_z w128 (of_z w128 (to_z w128 w *ℤ to_z w128 (of_z w128 m))))
+moved_fits d a m w p q h e k =
+    subst (FitsSigned w128) (sym (sum_is d a m w p q h e k))
+    (fits_signed_from_abs w128 (d *ℤ a +ℤ pos w *ℤ m) (let s = moved_small d a m w p q h e k in omega (arith, s)))

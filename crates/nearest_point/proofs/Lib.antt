@@ -8,6 +8,7 @@ pub mod Places
 pub mod SetStep
 pub mod Settling
 pub mod Sizes
+pub mod SmallSystems
 pub mod Steps
 pub mod Taking
 pub mod Vectors

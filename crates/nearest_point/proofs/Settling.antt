@@ -1,5 +1,5 @@
 -- The system of the forced rows, and the point that its solution gives.
-use Rattle.std.proofs.Common.{◌≡◌, ℕ, ◌^◌, ◌<◌, sym, arith, ap, ◌∙◌, subst, List, length, to_z, of_z}
+use Rattle.std.proofs.Common.{◌≡◌, ℕ, ◌+◌, ◌^◌, ◌<◌, sym, arith, ap, ◌∙◌, subst, List, length, to_z, of_z}
 use Rattle.std.specs.Int.{w128}
 use Rattle.std.specs.Prelude.{ℤ, pos, ◌+ℤ◌, ◌-ℤ◌, ◌*ℤ◌, ◌<ℤ◌}
 use Rattle.std.proofs.lemmas.Int.{ints}
@@ -15,7 +15,7 @@ use Rattle.wide_num.proofs.Sums.{dot-same, total-same}
 use Rattle.nearest_point.specs.declared.settle.Held.{Held}
 use Rattle.nearest_point.specs.declared.settle.Multipliers.{Multipliers}
 use Rattle.nearest_point.specs.Numbers.{AreBelow, at_t, large, place}
-use Rattle.nearest_point.specs.Problem.{bounds, coefficients, weight_at}
+use Rattle.nearest_point.specs.Problem.{AreOnes, bounds, coefficients, weight_at}
 use Rattle.nearest_point.specs.Search.{ByParts, Independent, Solved, gram}
 use Rattle.nearest_point.specs.Found.{AreMultipliers, AreWithin, HasParts, IsLowered, IsNear, IsPart, Solves, common, row_of}
 use Rattle.nearest_point.proofs.Parts.{dot-at_t, settled, solved-at_t}
@@ -73,9 +73,10 @@ of_one : (target : List ℤ) (weights : List ℕ) (rows : List Row) (forced : Li
     → IsGram (length target) (length forced) (row_of rows forced) (weight_at weights) matrix
     → ((i : ℕ) → i < length forced → far_at right i ≡ pos 0 -ℤ dot (length target) (row_of rows forced i) (nth lowered))
     → ((i : ℕ) → i < length forced → near_at right i ≡ bounds rows (place forced i) -ℤ dot (length target) (row_of rows forced i) (nth target))
-    → IsOneSolution matrix (far_at right) (near_at right) den values → IsSmallAnswer (2 ^ 32) (2 ^ 106) (One den values) → IsRead values den f
+    → IsOneSolution matrix (far_at right) (near_at right) den values → IsSmallAnswer (320 ^ 4 + 1) (2 ^ 106) (One den values)
+    → (AreOnes (length target) weights → IsSmallAnswer (2 ^ 32) (2 ^ 106) (One den values)) → IsRead values den f
     → AreMultipliers target weights rows forced f
-of_one target weights rows forced lowered low len matrix right values den f g fars nears one small r =
+of_one target weights rows forced lowered low len matrix right values den f g fars nears one small smaller r =
     let m = length target in
     let n = length forced in
     let d = r.den_is in
@@ -85,6 +86,7 @@ of_one target weights rows forced lowered low len matrix right values den f g fa
     record {
       positive = omega (arith, ints);
       small_den = omega (arith, ints);
+      ones_den = λ ones. (let s = (smaller ones).0 in omega (arith, ints));
       long_first = r.long_first ∙ long;
       long_second = r.long_second ∙ long;
       far = solves_part m n (row_of rows forced) (weight_at weights) matrix f.den (far_at values) (nth f.first.items) (λ j. pos 0 -ℤ weight_at weights j) (λ i. pos 0) (far_at right) g
@@ -101,10 +103,12 @@ pub multipliers_of : (target : List ℤ) (weights : List ℕ) (rows : List Row) 
     → IsGram (length target) (length forced) (row_of rows forced) (weight_at weights) matrix
     → ((i : ℕ) → i < length forced → far_at right i ≡ pos 0 -ℤ dot (length target) (row_of rows forced i) (nth lowered))
     → ((i : ℕ) → i < length forced → near_at right i ≡ bounds rows (place forced i) -ℤ dot (length target) (row_of rows forced i) (nth target))
-    → IsAnswer matrix (far_at right) (near_at right) s → IsSmallAnswer (2 ^ 32) (2 ^ 106) s → s ≡ One den values → IsRead values den f
+    → IsAnswer matrix (far_at right) (near_at right) s → IsSmallAnswer (320 ^ 4 + 1) (2 ^ 106) s → (AreOnes (length target) weights → IsSmallAnswer (2 ^ 32) (2 ^ 106) s)
+    → s ≡ One den values → IsRead values den f
     → AreMultipliers target weights rows forced f
-multipliers_of target weights rows forced lowered low len matrix right values den f s g fars nears answer small e r =
-    of_one target weights rows forced lowered low len matrix right values den f g fars nears (subst (IsAnswer matrix (far_at right) (near_at right)) e answer) (subst (IsSmallAnswer (2 ^ 32) (2 ^ 106)) e small) r
+multipliers_of target weights rows forced lowered low len matrix right values den f s g fars nears answer small smaller e r =
+    of_one target weights rows forced lowered low len matrix right values den f g fars nears (subst (IsAnswer matrix (far_at right) (near_at right)) e answer) (subst (IsSmallAnswer (320 ^ 4 + 1) (2 ^ 106)) e small)
+    (λ ones. subst (IsSmallAnswer (2 ^ 32) (2 ^ 106)) e (smaller ones)) r
 
 -- the point of solved multipliers, part by part
 by_parts : (target : List ℤ) (weights : List ℕ) (rows : List Row) (forced : List ℕ) (lowered : List ℤ) → IsLowered weights lowered → length lowered ≡ length target
@@ -162,7 +166,7 @@ settled_near target weights rows forced lowered f h s ind =
     tight ind)
 
 pub settled_parts : (target : List ℤ) (weights : List ℕ) (rows : List Row) (forced : List ℕ) (lowered : List ℤ) (f : Multipliers) (h : Held) → IsSettled target weights rows forced lowered f h
-    → AreWithin forced rows → AreBelow (2 ^ 109) h.far.items → AreBelow (2 ^ 109) h.near.items → HasParts target weights rows h
+    → AreWithin forced rows → AreBelow (2 ^ 113) h.far.items → AreBelow (2 ^ 113) h.near.items → HasParts target weights rows h
 settled_parts target weights rows forced lowered f h s within far near = record {
   long_far = s.far.long ∙ s.long;
   long_near = s.near.long;
@@ -171,6 +175,7 @@ settled_parts target weights rows forced lowered f h s within far near = record 
   within = subst (λ (l : List ℕ). AreWithin l rows) (sym s.rows_are) within;
   parts = parts_are target weights rows forced lowered f h s;
   small_den = (let a = s.den_is in let b = s.solved.small_den in omega (arith, ints));
+  ones_den = λ ones. (let a = s.den_is in let b = s.solved.ones_den ones in omega (arith, ints));
   small_far = far;
   small_near = near;
   small_first = subst (AreBelow (2 ^ 106)) (sym s.first_is) s.solved.small_first;
@@ -187,11 +192,11 @@ is_gram target weights rows forced lowered low len matrix long all = record {
       ∙ gram_is (length target) (row_of rows forced i) (row_of rows forced k) weights lowered low len;
 }
 
-pub den_back : (matrix : List (List ℤ)) (fars nears : ℕ → ℤ) (den : ℤ) (values : List Far) (s : Answer) → IsAnswer matrix fars nears s → IsSmallAnswer (2 ^ 32) (2 ^ 106) s → s ≡ One den values
+pub den_back : (matrix : List (List ℤ)) (fars nears : ℕ → ℤ) (den : ℤ) (values : List Far) (s : Answer) → IsAnswer matrix fars nears s → IsSmallAnswer (320 ^ 4 + 1) (2 ^ 106) s → s ≡ One den values
     → to_z w128 (of_z w128 den) ≡ den
 den_back matrix fars nears den values s answer small e =
     let a : IsOneSolution matrix fars nears den values = subst (IsAnswer matrix fars nears) e answer in
-    let b : IsSmallAnswer (2 ^ 32) (2 ^ 106) (One den values) = subst (IsSmallAnswer (2 ^ 32) (2 ^ 106)) e small in
+    let b : IsSmallAnswer (320 ^ 4 + 1) (2 ^ 106) (One den values) = subst (IsSmallAnswer (320 ^ 4 + 1) (2 ^ 106)) e small in
     let p = a.positive in
     let q = b.0 in
     omega (arith, ints)

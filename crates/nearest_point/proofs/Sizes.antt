@@ -13,12 +13,12 @@ total_more n f = rw add-one refl
 pub back : (x : ℤ) → unsigned_abs x ≤ 2 ^ 117 → to_z w128 (of_z w128 x) ≡ x
 back x h = omega (arith, ints)
 
-pub product_within : (d b : ℤ) → pos 0 <ℤ d → d <ℤ pos (2 ^ 32) → pos 0 ≤ℤ b → b ≤ℤ pos (2 ^ 46) → unsigned_abs (d *ℤ b) ≤ 2 ^ 117
-product_within (pos a) (pos c) p q r s = let m = mul-le a c (2 ^ 32) (2 ^ 46) (omega (arith, ints)) (omega (arith, ints)) in omega (arith, ints)
+pub product_within : (d b : ℤ) → pos 0 <ℤ d → d ≤ℤ pos (320 ^ 4) → pos 0 ≤ℤ b → b ≤ℤ pos (2 ^ 46) → unsigned_abs (d *ℤ b) ≤ 2 ^ 117
+product_within (pos a) (pos c) p q r s = let m = mul-le a c (320 ^ 4) (2 ^ 46) (omega (arith, ints)) (omega (arith, ints)) in omega (arith, ints)
 product_within (pos a) (negsuc c) p q r s = absurd (omega (arith, ints))
 product_within (negsuc a) b p q r s = absurd (omega (arith, ints))
 
-pub product_back : (d b : ℤ) → pos 0 <ℤ d → d <ℤ pos (2 ^ 32) → pos 0 ≤ℤ b → b ≤ℤ pos (2 ^ 46)
+pub product_back : (d b : ℤ) → pos 0 <ℤ d → d ≤ℤ pos (320 ^ 4) → pos 0 ≤ℤ b → b ≤ℤ pos (2 ^ 46)
     → to_z w128 (of_z w128 (to_z w128 (of_z w128 d) *ℤ to_z w128 (of_z w128 b))) ≡ d *ℤ b
 product_back d b p q r s =
     let e : to_z w128 (of_z w128 d) ≡ d = omega (arith, ints) in

@@ -30,7 +30,7 @@ force_near target weights rows forced k q y x e lt problem near parts violated f
     let near' : IsNear target weights rows forced (suc k) y = subst (λ (t : ℕ). IsNear target weights rows forced t y) e near in
     let violated' : dot (length target) (coefficients rows k) (point_at y) <ℤ (y.den *ℤ bounds rows k) = subst (λ (t : ℕ). dot t (coefficients rows k) (point_at y) <ℤ (y.den *ℤ bounds rows k)) parts.long_far violated in
     let found' : IsNear target weights rows (forced ++ k ∷ []) (suc k) x = subst (λ (t : ℕ). IsNear target weights rows (forced ++ k ∷ []) t x) (omega arith) found in
-    near_force (length target) (length rows) (coefficients rows) (bounds rows) (at_t large (λ j. pos 0 -ℤ weight_at weights j) (nth target)) (weight_at weights) (have_weights (length target) weights problem.ones)
+    near_force (length target) (length rows) (coefficients rows) (bounds rows) (at_t large (λ j. pos 0 -ℤ weight_at weights j) (nth target)) (weight_at weights) (have_weights (length target) weights problem.weighed)
     forced k lt y.rows.items y.den (point_at y) (multiplier_at y) near' violated' x.rows.items x.den (point_at x) (multiplier_at x) found'
 
 pub take_near : (target : List ℤ) (weights : List ℕ) (rows : List Row) (forced : List ℕ) (k q : ℕ) (h : Held) → q ≡ suc k

@@ -1,11 +1,11 @@
 -- What the search holds: a point and its multipliers by parts, the rows that made it, and their sizes.
 use Rattle.far_num.specs.declared.Row.{Row}
 use Rattle.nearest_point.specs.Numbers.{AreBelow, at_t, large, place}
-use Rattle.nearest_point.specs.Problem.{bounds, coefficients, weight_at}
+use Rattle.nearest_point.specs.Problem.{AreOnes, bounds, coefficients, weight_at}
 use Rattle.nearest_point.specs.Search.{ByParts, Near, Owed, gram}
 use Rattle.nearest_point.specs.declared.settle.Held.{Held}
 use Rattle.nearest_point.specs.declared.settle.Multipliers.{Multipliers}
-use Rattle.std.specs.Prelude.{List, length, pos, ℕ, ℤ, ◌*ℤ◌, ◌+ℤ◌, ◌-ℤ◌, ◌<ℤ◌, ◌<◌, ◌^◌, ◌≡◌}
+use Rattle.std.specs.Prelude.{List, length, pos, ℕ, ℤ, ◌*ℤ◌, ◌+ℤ◌, ◌-ℤ◌, ◌<ℤ◌, ◌<◌, ◌^◌, ◌≡◌, ◌≤ℤ◌}
 use Rattle.wide_num.specs.Sums.{dot, nth, total}
 
 -- each place is one of a row
@@ -40,9 +40,10 @@ pub record HasParts (target : List ℤ) (weights : List ℕ) (rows : List Row) (
   pub long_second : length h.second.items ≡ length h.rows.items
   pub within : AreWithin h.rows.items rows
   pub parts : ByParts (length target) (coefficients rows) (bounds rows) (nth target) (weight_at weights) h.rows.items h.den (nth h.far.items) (nth h.near.items) (nth h.first.items) (nth h.second.items)
-  pub small_den : h.den <ℤ pos (2 ^ 32)
-  pub small_far : AreBelow (2 ^ 109) h.far.items
-  pub small_near : AreBelow (2 ^ 109) h.near.items
+  pub small_den : h.den ≤ℤ pos (320 ^ 4)
+  pub ones_den : AreOnes (length target) weights → h.den <ℤ pos (2 ^ 32)
+  pub small_far : AreBelow (2 ^ 113) h.far.items
+  pub small_near : AreBelow (2 ^ 113) h.near.items
   pub small_first : AreBelow (2 ^ 106) h.first.items
   pub small_second : AreBelow (2 ^ 106) h.second.items
 
@@ -51,9 +52,14 @@ pub record IsLowered (weights : List ℕ) (lowered : List ℤ) : Type 0 where
   pub long : length lowered ≡ length weights
   pub is : (j : ℕ) → j < length lowered → nth lowered j ≡ pos 0 -ℤ weight_at weights j
 
--- each number is -1
-abbrev pub IsMinusOne : List ℤ → Type 0
-IsMinusOne lowered = (j : ℕ) → j < length lowered → nth lowered j ≡ pos 0 -ℤ pos 1
+-- each number is below 0 by at most the top
+abbrev pub IsBelowBy : ℕ → List ℤ → Type 0
+IsBelowBy top lowered = (j : ℕ) → j < length lowered → ((pos 0 -ℤ pos top) ≤ℤ nth lowered j) × (nth lowered j ≤ℤ pos 0)
+
+-- neither the sum of the targets nor a bound is above the edge
+pub record IsEdge (edge : ℕ) (target : List ℤ) (rows : List Row) : Type 0 where
+  pub sum : total (length target) (nth target) ≤ℤ pos edge
+  pub small : (i : ℕ) → i < length rows → bounds rows i ≤ℤ pos edge
 
 -- what the common members of two rows weigh, each weight written below 0
 abbrev pub common : ℕ → (ℕ → ℤ) → (ℕ → ℤ) → (ℕ → ℤ) → ℤ
@@ -66,7 +72,8 @@ Solves m n a weight den multipliers target bound = (i : ℕ) → i < n → total
 -- the multipliers of the forced rows by parts, and their sizes
 pub record AreMultipliers (target : List ℤ) (weights : List ℕ) (rows : List Row) (forced : List ℕ) (f : Multipliers) : Type 0 where
   pub positive : pos 0 <ℤ f.den
-  pub small_den : f.den <ℤ pos (2 ^ 32)
+  pub small_den : f.den ≤ℤ pos (320 ^ 4)
+  pub ones_den : AreOnes (length target) weights → f.den <ℤ pos (2 ^ 32)
   pub long_first : length f.first.items ≡ length forced
   pub long_second : length f.second.items ≡ length forced
   pub far : Solves (length target) (length forced) (row_of rows forced) (weight_at weights) f.den (nth f.first.items) (λ j. pos 0 -ℤ weight_at weights j) (λ i. pos 0)

@@ -1,7 +1,8 @@
 -- What the search for the nearest point is given: targets, weights, and rows as sets of bits with bounds.
 use Rattle.far_num.specs.Members.{holds}
 use Rattle.far_num.specs.declared.Row.{Row}
-use Rattle.std.specs.Prelude.{List, length, pos, slice_index_or, ℕ, ℤ, ◌<◌, ◌^◌, ◌≡◌, ◌≤ℤ◌, ◌≤◌}
+use Rattle.point_laws.specs.Points.{share}
+use Rattle.std.specs.Prelude.{List, length, pos, slice_index_or, ℕ, ℤ, ◌<◌, ◌^◌, ◌≡◌, ◌≤ℤ◌, ◌≤◌, ◌⊎◌}
 use Rattle.wide_num.specs.Sums.{nth, total}
 
 -- the weight of a coordinate
@@ -19,10 +20,19 @@ coefficients rows i = holds (row_at rows i).members
 abbrev pub bounds : List Row → ℕ → ℤ
 bounds rows i = (row_at rows i).bound
 
--- one weight of 1 for each of m coordinates
-pub record AreOnes (m : ℕ) (weights : List ℕ) : Type 0 where
+-- one weight of 1 to 20 for each of m coordinates
+pub record AreWeights (m : ℕ) (weights : List ℕ) : Type 0 where
   pub long : length weights ≡ m
-  pub one : (j : ℕ) → j < m → slice_index_or weights j 0 ≡ 1
+  pub some : (j : ℕ) → j < m → 1 ≤ slice_index_or weights j 0
+  pub most : (j : ℕ) → j < m → slice_index_or weights j 0 ≤ 20
+
+-- the weight of each coordinate is 1
+abbrev pub AreOnes : ℕ → List ℕ → Type 0
+AreOnes m weights = (j : ℕ) → j < m → slice_index_or weights j 0 ≡ 1
+
+-- how often the square at a coordinate counts
+abbrev pub share_at : List ℕ → ℕ → ℤ
+share_at weights j = share (slice_index_or weights j 0)
 
 -- no target is negative, and their sum is at most 2^46
 pub record AreTargets (target : List ℤ) : Type 0 where
@@ -33,6 +43,12 @@ pub record AreTargets (target : List ℤ) : Type 0 where
 pub record AreBounds (rows : List Row) : Type 0 where
   pub not_negative : (i : ℕ) → i < length rows → pos 0 ≤ℤ bounds rows i
   pub small : (i : ℕ) → i < length rows → bounds rows i ≤ℤ pos (2 ^ 46)
+
+-- at most four coordinates, and neither the sum of the targets nor a bound is above 2^45
+pub record IsNarrow (target : List ℤ) (rows : List Row) : Type 0 where
+  pub few : length target ≤ 4
+  pub sum : total (length target) (nth target) ≤ℤ pos (2 ^ 45)
+  pub small : (i : ℕ) → i < length rows → bounds rows i ≤ℤ pos (2 ^ 45)
 
 -- each row has a member, and none is past the coordinates
 abbrev pub HasMembers : ℕ → List Row → Type 0
@@ -45,6 +61,7 @@ HasSingles m rows = (j : ℕ) → j < m → (i : ℕ) × (i < length rows) × ((
 -- what the search needs of all this
 pub record IsProblem (target : List ℤ) (weights : List ℕ) (rows : List Row) : Type 0 where
   pub few : length target ≤ 6
-  pub ones : AreOnes (length target) weights
+  pub weighed : AreWeights (length target) weights
   pub targets : AreTargets target
   pub row_bounds : AreBounds rows
+  pub sizes : AreOnes (length target) weights ⊎ IsNarrow target rows

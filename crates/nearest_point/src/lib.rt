@@ -5,12 +5,12 @@
 //! are pairs: the far part is the first multiplier, the near part the second.
 #![tactic(auto)]
 
-ghost use Rattle.nearest_point.specs.Problem.{AreBounds, AreOnes, AreTargets, HasMembers, HasSingles, bounds, coefficients, weight_at};
+ghost use Rattle.nearest_point.specs.Problem.{AreBounds, AreOnes, AreTargets, AreWeights, HasMembers, HasSingles, IsNarrow, bounds, coefficients, share_at, weight_at};
 ghost use Rattle.nearest_point.specs.Found.{HasParts, IsNear};
 ghost use Rattle.nearest_point.specs.Numbers.{AreBelow, pairs_used};
 ghost use Rattle.point_laws.specs.Multipliers.{AreFirst, AreSecond, SumsTo};
 ghost use Rattle.point_laws.specs.Points.{HasLeastSum, IsNearestTo, MeetsRows};
-ghost use Rattle.std.specs.Prelude.{IfOk, [], length, pos, ◌<ℤ◌, ◌^◌, ◌≡◌, ◌≤◌};
+ghost use Rattle.std.specs.Prelude.{IfOk, [], length, pos, ◌<ℤ◌, ◌^◌, ◌≡◌, ◌≤ℤ◌, ◌≤◌, ◌⊎◌};
 ghost use Rattle.wide_num.specs.Sums.{nth};
 
 use far_num::Row;
@@ -31,13 +31,14 @@ use search::search_from;
 use settle::Held;
 use spread::spread_out;
 
-/// The point of least sum that meets all rows, and of these the nearest to the target by squares, with one first and one
-/// second multiplier for each row.
+/// The point of least sum that meets all rows, and of these the nearest to the target by the sum of squares, each divided
+/// by its weight; with one first and one second multiplier for each row.
 ///
-/// `target` and `weights` have one number for each of 1 to 6 coordinates, and each weight is 1. Bit `j` of the members of
-/// a row stands for coordinate `j`. Each row has a member, and each single coordinate is a row, so a point exists. No
-/// target and no bound is negative, and neither the sum of the targets nor a bound is above 2^46. The only error is want
-/// of memory.
+/// `target` and `weights` have one number for each of 1 to 6 coordinates, and each weight is 1 to 20. Bit `j` of the
+/// members of a row stands for coordinate `j`. Each row has a member, and each single coordinate is a row, so a point
+/// exists. No target and no bound is negative, and neither the sum of the targets nor a bound is above 2^46. Where a
+/// weight isn't 1, there are at most four coordinates, and neither that sum nor a bound is above 2^45. The only error is
+/// want of memory.
 ///
 /// The rule is that of Day and Cramton (Quadratic core-selecting payment rules for combinatorial auctions, Operations
 /// Research 60, 2012).
@@ -48,11 +49,12 @@ pub fn nearest(
     rows: &[Row],
 ) -> Result<Nearest, AllocError>
     requires coordinates { (1 ≤ length target.now) × (length target.now ≤ 6) }
-    requires weights { AreOnes (length target.now) weights.now }
+    requires weights { AreWeights (length target.now) weights.now }
     requires members { HasMembers (length target.now) rows.now }
     requires singles { HasSingles (length target.now) rows.now }
     requires targets { AreTargets target.now }
     requires bounds { AreBounds rows.now }
+    requires sizes { AreOnes (length target.now) weights.now ⊎ IsNarrow target.now rows.now }
     ensures lengths { IfOk result (λ p. (length p.at ≡ length target.now) × (length p.first ≡ length rows.now) × (length p.second ≡ length rows.now)) }
     ensures meets { IfOk result (λ p. MeetsRows (length target.now) (length rows.now) (coefficients rows.now) (bounds rows.now) p.den (nth p.at)) }
     ensures first { IfOk result (λ p. AreFirst (length target.now) (length rows.now) (coefficients rows.now) (bounds rows.now) p.den (nth p.at) (nth p.first)) }
@@ -60,8 +62,9 @@ pub fn nearest(
     ensures second { IfOk result (λ p. AreSecond (length target.now) (length rows.now) (coefficients rows.now) (bounds rows.now) p.den (nth p.at) (nth p.first) (nth p.second) (nth target.now) (weight_at weights.now)) }
     ensures few { IfOk result (λ p. pairs_used (length rows.now) (nth p.first) (nth p.second) ≤ length target.now) }
     ensures least { IfOk result (λ p. HasLeastSum (length target.now) (MeetsRows (length target.now) (length rows.now) (coefficients rows.now) (bounds rows.now)) p.den (nth p.at)) }
-    ensures nearest { IfOk result (λ p. IsNearestTo (length target.now) (λ j. pos 1) (nth target.now) (MeetsRows (length target.now) (length rows.now) (coefficients rows.now) (bounds rows.now)) p.den (nth p.at)) }
-    ensures denominator { IfOk result (λ p. p.den <ℤ pos (2 ^ 32)) }
+    ensures nearest { IfOk result (λ p. IsNearestTo (length target.now) (share_at weights.now) (nth target.now) (MeetsRows (length target.now) (length rows.now) (coefficients rows.now) (bounds rows.now)) p.den (nth p.at)) }
+    ensures denominator { IfOk result (λ p. p.den ≤ℤ pos (320 ^ 4)) }
+    ensures denominator_of_ones { AreOnes (length target.now) weights.now → IfOk result (λ p. p.den <ℤ pos (2 ^ 32)) }
     ensures small { IfOk result (λ p. AreBelow (2 ^ 109) p.at × AreBelow (2 ^ 109) p.first × AreBelow (2 ^ 109) p.second) }
 {
     let held = search_all(alloc, target, weights, rows, &mut 0)?;
@@ -84,10 +87,11 @@ fn search_all(
     systems: &mut u32,
 ) -> Result<Held, AllocError>
     requires coordinates { (1 ≤ length target.now) × (length target.now ≤ 6) }
-    requires weights { AreOnes (length target.now) weights.now }
+    requires weights { AreWeights (length target.now) weights.now }
     requires members { HasMembers (length target.now) rows.now }
     requires targets { AreTargets target.now }
     requires bounds { AreBounds rows.now }
+    requires sizes { AreOnes (length target.now) weights.now ⊎ IsNarrow target.now rows.now }
     ensures near { IfOk result (λ h. IsNear target.now weights.now rows.now [] 0 h) }
     ensures parts { IfOk result (λ h. HasParts target.now weights.now rows.now h) }
 {

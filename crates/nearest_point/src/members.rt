@@ -24,9 +24,9 @@ pub(crate) fn member_part(members: u16, j: usize, x: i128) -> i128
 /// The sum of the numbers of the members.
 pub(crate) fn sum_over(members: u16, list: &[i128]) -> i128
     requires few { length list.now ≤ 6 }
-    requires small { AreBelow (2 ^ 109) list.now }
+    requires small { AreBelow (2 ^ 113) list.now }
     ensures value { result ≡ dot (length list.now) (holds members) (nth list.now) }
-    ensures small { unsigned_abs result ≤ 6 * 2 ^ 109 }
+    ensures small { unsigned_abs result ≤ 6 * 2 ^ 113 }
 {
     let mut sum: i128 = 0;
     for (j, x) in list.iter().enumerate() {
@@ -38,9 +38,9 @@ pub(crate) fn sum_over(members: u16, list: &[i128]) -> i128
 /// Whether the sum over the row is below its bound times the denominator, the far parts compared first.
 pub(crate) fn is_below(far: &[i128], near: &[i128], den: i128, row: Row) -> bool
     requires few { (length far.now ≤ 6) × (length near.now ≡ length far.now) }
-    requires far { AreBelow (2 ^ 109) far.now }
-    requires near { AreBelow (2 ^ 109) near.now }
-    requires den { (pos 0 <ℤ den) × (den <ℤ pos (2 ^ 32)) }
+    requires far { AreBelow (2 ^ 113) far.now }
+    requires near { AreBelow (2 ^ 113) near.now }
+    requires den { (pos 0 <ℤ den) × (den ≤ℤ pos (320 ^ 4)) }
     requires bound { (pos 0 ≤ℤ row.bound) × (row.bound ≤ℤ pos (2 ^ 46)) }
     ensures below { IsTrue result → dot (length far.now) (holds row.members) (at_t large (nth far.now) (nth near.now)) <ℤ (den *ℤ row.bound) }
     ensures above { IsTrue (not result) → (den *ℤ row.bound) ≤ℤ dot (length far.now) (holds row.members) (at_t large (nth far.now) (nth near.now)) }

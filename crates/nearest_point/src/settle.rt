@@ -1,6 +1,6 @@
 ghost use Rattle.nearest_point.specs.Found.{AreMultipliers, AreWithin, HasParts, IsLowered, IsNear, IsPart, point_at, row_of};
 ghost use Rattle.nearest_point.specs.Numbers.{AreBelow};
-ghost use Rattle.nearest_point.specs.Problem.{AreOnes, IsProblem, bounds, coefficients, weight_at};
+ghost use Rattle.nearest_point.specs.Problem.{AreWeights, IsProblem, bounds, coefficients, weight_at};
 ghost use Rattle.nearest_point.specs.Search.{Independent};
 ghost use Rattle.std.specs.Prelude.{IfOk, IsTrue, length, not, pos, unsigned_abs, ℕ, ◌*ℤ◌, ◌*◌, ◌+ℤ◌, ◌<ℤ◌, ◌<◌, ◌^◌, ◌≡◌, ◌≤ℤ◌, ◌≤◌};
 ghost use Rattle.wide_num.specs.Sums.{dot, nth, total};
@@ -27,9 +27,9 @@ pub(crate) struct Held {
 pub(crate) fn is_violated(held: &Held, rows: &[Row], k: usize) -> bool
     requires k { k < length rows.now }
     requires few { (length held.now.far.items ≤ 6) × (length held.now.near.items ≡ length held.now.far.items) }
-    requires far { AreBelow (2 ^ 109) held.now.far.items }
-    requires near { AreBelow (2 ^ 109) held.now.near.items }
-    requires den { (pos 0 <ℤ held.now.den) × (held.now.den <ℤ pos (2 ^ 32)) }
+    requires far { AreBelow (2 ^ 113) held.now.far.items }
+    requires near { AreBelow (2 ^ 113) held.now.near.items }
+    requires den { (pos 0 <ℤ held.now.den) × (held.now.den ≤ℤ pos (320 ^ 4)) }
     requires bound { (pos 0 ≤ℤ bounds rows.now k) × (bounds rows.now k ≤ℤ pos (2 ^ 46)) }
     ensures below { IsTrue result → dot (length held.now.far.items) (coefficients rows.now k) (point_at held.now) <ℤ (held.now.den *ℤ bounds rows.now k) }
     ensures above { IsTrue (not result) → (held.now.den *ℤ bounds rows.now k) ≤ℤ dot (length held.now.far.items) (coefficients rows.now k) (point_at held.now) }
@@ -146,13 +146,13 @@ fn point_part(
     multipliers: &[i128],
 ) -> Result<Vec<i128>, AllocError>
     requires few { (length target.now ≤ 6) × (length forced.now ≤ 6) × (length multipliers.now ≡ length forced.now) }
-    requires ones { AreOnes (length target.now) weights.now }
+    requires weights { AreWeights (length target.now) weights.now }
     requires within { AreWithin forced.now rows.now }
-    requires den { (pos 0 <ℤ den) × (den <ℤ pos (2 ^ 32)) }
+    requires den { (pos 0 <ℤ den) × (den ≤ℤ pos (320 ^ 4)) }
     requires target { (j : ℕ) → j < length target.now → unsigned_abs (nth target.now j) ≤ 2 ^ 46 }
     requires multipliers { AreBelow (2 ^ 106) multipliers.now }
     ensures part { IfOk result (λ v. IsPart rows.now forced.now (weight_at weights.now) den target.now multipliers.now v.items) }
-    ensures small { IfOk result (λ v. AreBelow (2 ^ 109) v.items) }
+    ensures small { IfOk result (λ v. AreBelow (2 ^ 113) v.items) }
 {
     let mut out = Vec::new(alloc);
     for (j, aim) in target.iter().enumerate() {
@@ -163,12 +163,12 @@ fn point_part(
 }
 
 fn coordinate(den: i128, aim: i128, weight: u32, moved: i128) -> i128
-    requires den { (pos 0 <ℤ den) × (den <ℤ pos (2 ^ 32)) }
+    requires den { (pos 0 <ℤ den) × (den ≤ℤ pos (320 ^ 4)) }
     requires aim { unsigned_abs aim ≤ 2 ^ 46 }
-    requires weight { weight ≡ 1 }
+    requires weight { weight ≤ 20 }
     requires moved { unsigned_abs moved ≤ 6 * 2 ^ 106 }
     ensures value { result ≡ (den *ℤ aim) +ℤ (pos weight *ℤ moved) }
-    ensures small { unsigned_abs result < 2 ^ 109 }
+    ensures small { unsigned_abs result < 2 ^ 113 }
 {
     den * aim + weight as i128 * moved
 }

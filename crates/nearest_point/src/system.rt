@@ -1,11 +1,11 @@
 ghost use Rattle.far_num.specs.Members.{holds};
 ghost use Rattle.far_num.specs.Pairs.{far_at, near_at};
 ghost use Rattle.lin_solve.specs.Matrix.{row};
-ghost use Rattle.nearest_point.specs.Found.{AreWithin, IsMinusOne, common, row_of};
+ghost use Rattle.nearest_point.specs.Found.{AreWithin, IsBelowBy, IsEdge, common, row_of};
 ghost use Rattle.nearest_point.specs.Numbers.{place};
 ghost use Rattle.nearest_point.specs.Problem.{AreBounds, AreTargets, bounds};
-ghost use Rattle.std.specs.Prelude.{IfOk, length, pos, unsigned_abs, ℕ, ◌-ℤ◌, ◌<◌, ◌^◌, ◌≡◌, ◌≤ℤ◌, ◌≤◌};
-ghost use Rattle.wide_num.specs.Sums.{dot, nth};
+ghost use Rattle.std.specs.Prelude.{IfOk, length, pos, unsigned_abs, ℕ, ◌*◌, ◌-ℤ◌, ◌<◌, ◌^◌, ◌≡◌, ◌≤ℤ◌, ◌≤◌};
+ghost use Rattle.wide_num.specs.Sums.{dot, nth, total};
 
 use crate::members::sum_over;
 use far_num::{Far, FarList, Row};
@@ -20,12 +20,13 @@ pub(crate) fn gram_matrix(
     forced: &[usize],
 ) -> Result<Square, AllocError>
     requires few { (length lowered.now ≤ 6) × (1 ≤ length forced.now) × (length forced.now ≤ 6) }
-    requires lowered { IsMinusOne lowered.now }
+    requires lowered { IsBelowBy 20 lowered.now }
     requires within { AreWithin forced.now rows.now }
     ensures long { IfOk result (λ m. length m ≡ length forced.now) }
     ensures entries { IfOk result (λ m. (i k : ℕ) → i < length forced.now → k < length forced.now
         → row m i k ≡ common (length lowered.now) (row_of rows.now forced.now i) (row_of rows.now forced.now k) (nth lowered.now)) }
-    ensures small { IfOk result (λ m. (i k : ℕ) → i < length forced.now → k < length forced.now → (pos 0 ≤ℤ row m i k) × (row m i k ≤ℤ pos 6)) }
+    ensures small { IfOk result (λ m. (top i k : ℕ) → IsBelowBy top lowered.now → i < length forced.now → k < length forced.now
+        → (pos 0 ≤ℤ row m i k) × (row m i k ≤ℤ pos (length lowered.now * top))) }
 {
     let size = forced.len();
     let mut entries = Vec::new(alloc);
@@ -40,9 +41,9 @@ pub(crate) fn gram_matrix(
 // What the common members weigh.
 fn common_weight(one: Row, other: Row, lowered: &[i128]) -> i128
     requires few { length lowered.now ≤ 6 }
-    requires lowered { IsMinusOne lowered.now }
+    requires lowered { IsBelowBy 20 lowered.now }
     ensures value { result ≡ common (length lowered.now) (holds one.members) (holds other.members) (nth lowered.now) }
-    ensures small { (pos 0 ≤ℤ result) × (result ≤ℤ pos 6) }
+    ensures small { (top : ℕ) → IsBelowBy top lowered.now → (pos 0 ≤ℤ result) × (result ≤ℤ pos (length lowered.now * top)) }
 {
     -sum_over(one.members & other.members, lowered)
 }
@@ -56,14 +57,15 @@ pub(crate) fn right_sides(
     forced: &[usize],
 ) -> Result<FarList, AllocError>
     requires few { (length target.now ≤ 6) × (length lowered.now ≡ length target.now) }
-    requires lowered { IsMinusOne lowered.now }
+    requires lowered { IsBelowBy 20 lowered.now }
     requires target { AreTargets target.now }
     requires bounds { AreBounds rows.now }
     requires within { AreWithin forced.now rows.now }
     ensures long { IfOk result (λ y. length y ≡ length forced.now) }
     ensures far { IfOk result (λ y. (i : ℕ) → i < length forced.now → far_at y i ≡ pos 0 -ℤ dot (length target.now) (row_of rows.now forced.now i) (nth lowered.now)) }
     ensures near { IfOk result (λ y. (i : ℕ) → i < length forced.now → near_at y i ≡ bounds rows.now (place forced.now i) -ℤ dot (length target.now) (row_of rows.now forced.now i) (nth target.now)) }
-    ensures small { IfOk result (λ y. (i : ℕ) → i < length forced.now → (unsigned_abs (far_at y i) ≤ 2 ^ 46) × (unsigned_abs (near_at y i) ≤ 2 ^ 46)) }
+    ensures small_far { IfOk result (λ y. (i : ℕ) → i < length forced.now → unsigned_abs (far_at y i) ≤ 120) }
+    ensures small_near { IfOk result (λ y. (edge i : ℕ) → IsEdge edge target.now rows.now → i < length forced.now → unsigned_abs (near_at y i) ≤ edge) }
 {
     let mut out = FarList::new(alloc);
     for place in forced {
@@ -75,12 +77,13 @@ pub(crate) fn right_sides(
 // What one row asks for beyond the lowered target.
 fn right_side(lowered: &[i128], target: &[i128], row: Row) -> Far
     requires few { (length target.now ≤ 6) × (length lowered.now ≡ length target.now) }
-    requires lowered { IsMinusOne lowered.now }
+    requires lowered { IsBelowBy 20 lowered.now }
     requires target { AreTargets target.now }
     requires bound { (pos 0 ≤ℤ row.bound) × (row.bound ≤ℤ pos (2 ^ 46)) }
     ensures far { result.far ≡ pos 0 -ℤ dot (length target.now) (holds row.members) (nth lowered.now) }
     ensures near { result.near ≡ row.bound -ℤ dot (length target.now) (holds row.members) (nth target.now) }
-    ensures small { (unsigned_abs result.far ≤ 2 ^ 46) × (unsigned_abs result.near ≤ 2 ^ 46) }
+    ensures small_far { unsigned_abs result.far ≤ 120 }
+    ensures small_near { (edge : ℕ) → total (length target.now) (nth target.now) ≤ℤ pos edge → row.bound ≤ℤ pos edge → unsigned_abs result.near ≤ edge }
 {
     let far = -sum_over(row.members, lowered);
     let near = row.bound - sum_over(row.members, target);

@@ -1,4 +1,5 @@
 pub mod Order
 pub mod PointLaws
 pub mod Ring
+pub mod Shares
 pub mod Sums

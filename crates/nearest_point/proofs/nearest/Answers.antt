@@ -1,12 +1,12 @@
-use Rattle.std.proofs.Common.{◌≡◌, length, arith, ◌∙◌, subst, to_z, of_z}
-use Rattle.std.specs.Prelude.{ℤ}
+use Rattle.std.proofs.Common.{◌≡◌, ◌^◌, length, arith, ap, ◌∙◌, subst, to_z, of_z}
+use Rattle.std.specs.Prelude.{ℤ, pos, ◌≤ℤ◌}
 use Rattle.std.specs.Int.{w128}
 use Rattle.std.proofs.lemmas.Int.{ints}
 use Rattle.wide_num.specs.Sums.{nth}
 use Rattle.nearest_point.specs.Problem.{weight_at, coefficients, bounds}
 use Rattle.nearest_point.specs.Numbers.{place, spread}
 use Rattle.nearest_point.proofs.Answer.{Answer, answer_same}
-use Rattle.nearest_point.proofs.Whole.{answer_of, few_rows, spread_same, has_least_sum, is_nearest}
+use Rattle.nearest_point.proofs.Whole.{answer_of, below_top, few_rows, spread_same, has_least_sum, is_nearest}
 use Rattle.nearest_point.proofs.nearest.Goals as goal
 
 pub spread_out-requires-clause-few : goal.spread_out-requires-clause-few
@@ -55,6 +55,18 @@ returns-clause-few c = let f = found c in f.few
 
 pub returns-clause-least : goal.returns-clause-least
 returns-clause-least c = has_least_sum c.args.target.now c.args.rows.now (weight_at c.args.weights.now) (to_z w128 (of_z w128 c.in_ok-held.held.den)) (nth c.from_vec.result) (nth c.from_vec-2.result) (nth c.from_vec-3.result) (found c)
+
+pub returns-clause-small : goal.returns-clause-small
+returns-clause-small c =
+    let p = c.in_ok-held.ensures.parts in
+    let small = p.small_den in
+    let positive = p.parts.far.positive in
+    let den : to_z w128 (of_z w128 c.in_ok-held.held.den) ≤ℤ pos (320 ^ 4) = omega (arith, ints) in (
+      below_top c.args.target.now c.args.rows.now (weight_at c.args.weights.now) c.requires.coordinates.1 c.requires.members c.requires.singles c.requires.bounds (to_z w128 (of_z w128 c.in_ok-held.held.den)) c.from_vec.result (nth c.from_vec-2.result) (nth c.from_vec-3.result)
+          (ap length c.from_vec.ensures ∙ p.long_near) den (found c),
+      rw c.from_vec-2.ensures c.in_ok-first.ensures.small,
+      rw c.from_vec-3.ensures c.in_ok-second.ensures.small,
+    )
 
 pub returns-clause-nearest : goal.returns-clause-nearest
 returns-clause-nearest c = is_nearest c.args.target.now c.args.weights.now c.args.rows.now c.requires.weights (to_z w128 (of_z w128 c.in_ok-held.held.den)) (nth c.from_vec.result) (nth c.from_vec-2.result) (nth c.from_vec-3.result) (found c)

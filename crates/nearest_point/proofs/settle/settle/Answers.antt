@@ -11,7 +11,7 @@ use Rattle.nearest_point.proofs.settle.settle.Goals as goal
 pub point_part-requires-clause-few : goal.point_part-requires-clause-few
 point_part-requires-clause-few c =
     let six = c.requires.problem.few in
-    let long = c.in_ok-lowered.ensures.long ∙ c.requires.problem.ones.long in
+    let long = c.in_ok-lowered.ensures.long ∙ c.requires.problem.weighed.long in
     let le = independent_le (length c.args.target.now) (length c.args.forced.now) (row_of c.args.rows.now c.args.forced.now) c.requires.independent in
     let f = c.in_ok-found.ensures.long_first in
     rw (c.deref-2.ensures.value, c.deref-3.ensures.value) (omega arith, omega arith, f)
@@ -32,7 +32,7 @@ settled c =
     let den = den_returns c.args.target.now c.args.weights.now c.args.rows.now c.args.forced.now c.in_ok-found.found c.in_ok-found.ensures in
     record {
       low = c.in_ok-lowered.ensures;
-      long = c.in_ok-lowered.ensures.long ∙ c.requires.problem.ones.long;
+      long = c.in_ok-lowered.ensures.long ∙ c.requires.problem.weighed.long;
       solved = c.in_ok-found.ensures;
       far = part_same c.args.rows.now c.args.forced.now (weight_at c.args.weights.now) (to_z w128 (of_z w128 c.in_ok-found.found.den)) c.in_ok-found.found.den c.deref-2.result.now c.in_ok-lowered.lowered.items c.deref-3.result.now c.in_ok-found.found.first.items c.in_ok-far.far.items
           den c.deref-2.ensures.value c.deref-3.ensures.value c.in_ok-far.ensures.part;

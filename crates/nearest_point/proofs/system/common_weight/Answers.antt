@@ -4,7 +4,7 @@ use Rattle.std.specs.Int.{w128}
 use Rattle.std.specs.Int.Bits.{bit_and}
 use Rattle.std.proofs.lemmas.Int.{ints}
 use Rattle.wide_num.specs.Sums.{nth}
-use Rattle.nearest_point.proofs.Leaves.{common_is, minus_ones}
+use Rattle.nearest_point.proofs.Leaves.{common_is, sum_below}
 use Rattle.nearest_point.proofs.system.common_weight.Goals as goal
 
 pub returns-clause-value : goal.returns-clause-value
@@ -16,10 +16,10 @@ returns-clause-value c =
     omega (arith, ints)
 
 pub returns-clause-small : goal.returns-clause-small
-returns-clause-small c =
+returns-clause-small c = λ top h.
     let v = c.sum_over.ensures.value in
-    let six = c.requires.few in
-    let k = minus_ones (length c.args.lowered.now) (bit_and c.args.one.members c.args.other.members) (nth c.args.lowered.now) c.requires.lowered in
+    let b = c.sum_over.ensures.small in
+    let k = sum_below top (length c.args.lowered.now) (bit_and c.args.one.members c.args.other.members) (nth c.args.lowered.now) h in
     let low = k.0 in
     let high = k.1 in
     (omega (arith, ints), omega (arith, ints))

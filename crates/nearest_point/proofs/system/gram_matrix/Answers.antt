@@ -6,7 +6,7 @@ use Rattle.lin_solve.specs.Matrix.{row}
 use Rattle.lin_solve.proofs.Pushed.{grown, grown_length}
 use Rattle.lin_solve.proofs.Reducing.{if_ok}
 use Rattle.wide_num.specs.Sums.{nth}
-use Rattle.nearest_point.specs.Found.{common, row_of}
+use Rattle.nearest_point.specs.Found.{IsBelowBy, common, row_of}
 use Rattle.nearest_point.proofs.Grams.{entry_at}
 use Rattle.nearest_point.proofs.system.gram_matrix.Goals as goal
 
@@ -21,7 +21,7 @@ loop-place-preserved c =
       long = grown_length c.loop-place.entries.items c.push.new.self.items x c.loop-place.place c.in_ok-push.ensures.items all.long;
       entries = grown (λ p z. z ≡ common (length c.args.lowered.now) (row_of c.args.rows.now c.args.forced.now (p / n)) (row_of c.args.rows.now c.args.forced.now (p % n)) (nth c.args.lowered.now))
           c.loop-place.entries.items c.push.new.self.items x c.loop-place.place c.in_ok-push.ensures.items all.long all.entries (back ∙ c.common_weight.ensures.value);
-      small = grown (λ p z. (pos 0 ≤ℤ z) × (z ≤ℤ pos 6)) c.loop-place.entries.items c.push.new.self.items x c.loop-place.place c.in_ok-push.ensures.items all.long all.small (let a = s.0 in let b = s.1 in (omega (arith, ints), omega (arith, ints)));
+      small = grown (λ p z. (top : ℕ) → IsBelowBy top c.args.lowered.now → (pos 0 ≤ℤ z) × (z ≤ℤ pos (length c.args.lowered.now * top))) c.loop-place.entries.items c.push.new.self.items x c.loop-place.place c.in_ok-push.ensures.items all.long all.small (λ top h. (let a = (s top h).0 in let b = (s top h).1 in (omega (arith, ints), omega (arith, ints))));
     }
 
 pub returns-clause-entries : goal.returns-clause-entries
@@ -38,9 +38,9 @@ pub returns-clause-small : goal.returns-clause-small
 returns-clause-small c =
     let n = length c.args.forced.now in
     if_ok c.new.result (λ m. (k i : ℕ) → k < n → i < n → row m k i ≡ nth c.deref.result.now (k * n + i))
-    (λ m. (i k : ℕ) → i < n → k < n → (pos 0 ≤ℤ row m i k) × (row m i k ≤ℤ pos 6))
-    (λ m h i k li lk.
+    (λ m. (top i k : ℕ) → IsBelowBy top c.args.lowered.now → i < n → k < n → (pos 0 ≤ℤ row m i k) × (row m i k ≤ℤ pos (length c.args.lowered.now * top)))
+    (λ m h top i k w li lk.
     let e : row m i k ≡ nth c.loop-place.entries.items (i * n + k) = h i k li lk ∙ ap (λ (xs : List ℤ). nth xs (i * n + k)) c.deref.ensures.value in
-    let s = entry_at n c.loop-place.place c.loop-place.entries.items (λ i k z. (pos 0 ≤ℤ z) × (z ≤ℤ pos 6)) c.loop-place.invariant.small (omega arith) i k li lk in
-    let a = s.0 in let b = s.1 in (omega (arith, ints), omega (arith, ints)))
+    let s = entry_at n c.loop-place.place c.loop-place.entries.items (λ i k z. (top : ℕ) → IsBelowBy top c.args.lowered.now → (pos 0 ≤ℤ z) × (z ≤ℤ pos (length c.args.lowered.now * top))) c.loop-place.invariant.small (omega arith) i k li lk in
+    let a = (s top w).0 in let b = (s top w).1 in (omega (arith, ints), omega (arith, ints)))
     c.new.ensures.entries
