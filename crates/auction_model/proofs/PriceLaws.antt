@@ -70,7 +70,7 @@ vickrey-one m z j v w p q = by (cases_Bool (uses z j))
 
 -- sums over bidders
 
-over-same : (s : ℕ → Bool) (f g : ℕ → ℤ) (n : ℕ) → ((j : ℕ) → 0 < j → j ≤ n → f j ≡ g j) → sum_over s f n ≡ sum_over s g n
+pub over-same : (s : ℕ → Bool) (f g : ℕ → ℤ) (n : ℕ) → ((j : ℕ) → 0 < j → j ≤ n → f j ≡ g j) → sum_over s f n ≡ sum_over s g n
 over-same s f g zero same = refl
 over-same s f g (suc n) same =
     let rest = over-same s f g n (λ j some low. same j some (omega (arith, low))) in
@@ -169,15 +169,15 @@ module _ (m : Market) (law : IsMarket m) (z : List ℕ) (g : IsWinning m z) wher
           by (suc i) none = absurd (false≢true (sym none ∙ not_from_false (suc i == 0) (ne_eqb (suc i) 0 (λ e. omega (arith, e)))))
 
 -- two core outcomes are the same point
-module _ (m : Market) (law : IsMarket m) (z : List ℕ) (p q : Point) (a : IsCoreOutcome m z p) (b : IsCoreOutcome m z q) where
+module _ (m : Market) (law : IsMarket m) (w : ℕ → ℕ) (z : List ℕ) (p q : Point) (a : IsCoreOutcome m w z p) (b : IsCoreOutcome m w z q) where
   not_apart : (SamePoint m p q → ⊥) → ⊥
   not_apart apart =
       let v = vickrey-exist m law z in
       let low : (q.den *ℤ paid m p) ≤ℤ (p.den *ℤ paid m q) = a.least q b.core in
       let high : (p.den *ℤ paid m q) ≤ℤ (q.den *ℤ paid m p) = b.least p a.core in
       let sums : q.den *ℤ paid m p ≡ p.den *ℤ paid m q = omega (arith, ints, low, high) in
-      let nearer : ((q.den *ℤ q.den) *ℤ square_distance m v.0 p) <ℤ ((p.den *ℤ p.den) *ℤ square_distance m v.0 q) = a.nearest v.0 v.1 q b.core sums apart in
-      let farther : ((p.den *ℤ p.den) *ℤ square_distance m v.0 q) <ℤ ((q.den *ℤ q.den) *ℤ square_distance m v.0 p) = b.nearest v.0 v.1 p a.core (sym sums) (λ same. apart (λ j some inside. sym (same j some inside))) in
+      let nearer : ((q.den *ℤ q.den) *ℤ square_distance m w v.0 p) <ℤ ((p.den *ℤ p.den) *ℤ square_distance m w v.0 q) = a.nearest v.0 v.1 q b.core sums apart in
+      let farther : ((p.den *ℤ p.den) *ℤ square_distance m w v.0 q) <ℤ ((q.den *ℤ q.den) *ℤ square_distance m w v.0 p) = b.nearest v.0 v.1 p a.core (sym sums) (λ same. apart (λ j some inside. sym (same j some inside))) in
       strict _ _ nearer farther
     where
       strict : (x y : ℤ) → x <ℤ y → y <ℤ x → ⊥

@@ -1,7 +1,7 @@
--- Prices of a market at a choice z: blocking coalitions, core points, Vickrey prices, least sum, the nearest point, the core
--- outcome. Payments are net of reserve. (Day and Cramton, Quadratic core-selecting payment rules for combinatorial
+-- Prices of a market at a choice z: blocking coalitions, core points, Vickrey prices, least sum, the nearest point with weights,
+-- the core outcome. Payments are net of reserve. (Day and Cramton, Quadratic core-selecting payment rules for combinatorial
 -- auctions, Operations Research 60, 2012, with the seller's value at reserve.)
-use Rattle.std.specs.Prelude.{◌≡◌, ℕ, zero, suc, ◌<◌, ◌≤◌, Bool, true, IsTrue, IsFalse, List, length, ℤ, pos, ◌+ℤ◌, ◌-ℤ◌, ◌*ℤ◌, ◌≤ℤ◌, ◌<ℤ◌, if◌then◌else◌, not, ◌&&◌}
+use Rattle.std.specs.Prelude.{◌≡◌, ℕ, zero, suc, ◌<◌, ◌≤◌, Bool, true, IsTrue, IsFalse, List, length, ℤ, pos, ◌/◌, ◌+ℤ◌, ◌-ℤ◌, ◌*ℤ◌, ◌≤ℤ◌, ◌<ℤ◌, if◌then◌else◌, not, ◌&&◌}
 use Rattle.auction_model.specs.Market.{Market, value_of, worth_in, uses}
 use Rattle.auction_model.specs.Greatest.{IsGreatest, IsGreatestValue}
 use Rattle.auction_model.specs.Lowered.{of_bidder}
@@ -70,26 +70,39 @@ SamePoint m p q = (j : ℕ) → 0 < j → j ≤ m.bidders → q.den *ℤ of_bidd
 abbrev pub HasLeastSum : Market → (Point → Type 0) → Point → Type 0
 HasLeastSum m Among p = (q : Point) → Among q → (q.den *ℤ paid m p) ≤ℤ (p.den *ℤ paid m q)
 
--- the square of the distance from the prices v, times the square of the denominator
-abbrev pub square_distance : Market → (ℕ → ℤ) → Point → ℤ
-square_distance m v p = sum_over everyone (λ j. let off = of_bidder p.at j -ℤ (p.den *ℤ v j) in off *ℤ off) m.bidders
+-- each bidder has a weight of 1 to 20
+abbrev pub AreWeights : Market → (ℕ → ℕ) → Type 0
+AreWeights m w = (j : ℕ) → 0 < j → j ≤ m.bidders → (1 ≤ w j) × (w j ≤ 20)
+
+-- all bidders weigh 1
+abbrev pub alike : ℕ → ℕ
+alike j = 1
+
+-- one part in so many as the weight says, of the least number that 1 to 20 all divide
+abbrev pub share : ℕ → ℤ
+share weight = pos (232792560 / weight)
+
+-- The square of the distance from the prices v, where the square of each bidder is divided by its weight; times the square of
+-- the denominator, and times 232,792,560, so that it is whole.
+abbrev pub square_distance : Market → (ℕ → ℕ) → (ℕ → ℤ) → Point → ℤ
+square_distance m w v p = sum_over everyone (λ j. let off = of_bidder p.at j -ℤ (p.den *ℤ v j) in share (w j) *ℤ (off *ℤ off)) m.bidders
 
 -- of these points every other one of the same sum is farther from the prices v
-abbrev pub IsNearestTo : Market → (ℕ → ℤ) → (Point → Type 0) → Point → Type 0
-IsNearestTo m v Among p =
-    (q : Point) → Among q → q.den *ℤ paid m p ≡ p.den *ℤ paid m q → (SamePoint m p q → ⊥) → ((q.den *ℤ q.den) *ℤ square_distance m v p) <ℤ ((p.den *ℤ p.den) *ℤ square_distance m v q)
+abbrev pub IsNearestTo : Market → (ℕ → ℕ) → (ℕ → ℤ) → (Point → Type 0) → Point → Type 0
+IsNearestTo m w v Among p =
+    (q : Point) → Among q → q.den *ℤ paid m p ≡ p.den *ℤ paid m q → (SamePoint m p q → ⊥) → ((q.den *ℤ q.den) *ℤ square_distance m w v p) <ℤ ((p.den *ℤ p.den) *ℤ square_distance m w v q)
 
 -- no core point has a smaller sum
 abbrev pub IsLeastSum : Market → List ℕ → Point → Type 0
 IsLeastSum m z p = HasLeastSum m (IsCorePoint m z) p
 
 -- every other core point of the same sum is farther from the Vickrey prices v
-abbrev pub IsNearest : Market → List ℕ → (ℕ → ℤ) → Point → Type 0
-IsNearest m z v p = IsNearestTo m v (IsCorePoint m z) p
+abbrev pub IsNearest : Market → (ℕ → ℕ) → List ℕ → (ℕ → ℤ) → Point → Type 0
+IsNearest m w z v p = IsNearestTo m w v (IsCorePoint m z) p
 
--- the outcome that the quadratic core-selecting rule asks for
-pub record IsCoreOutcome (m : Market) (z : List ℕ) (p : Point) : Type 0 where
+-- the outcome that the quadratic core-selecting rule asks for, with these weights
+pub record IsCoreOutcome (m : Market) (w : ℕ → ℕ) (z : List ℕ) (p : Point) : Type 0 where
   pub greatest : IsGreatest m.allowed (value_of m) z
   pub core : IsCorePoint m z p
   pub least : IsLeastSum m z p
-  pub nearest : (v : ℕ → ℤ) → AreVickreyPrices m z v → IsNearest m z v p
+  pub nearest : (v : ℕ → ℤ) → AreVickreyPrices m z v → IsNearest m w z v p

@@ -25,11 +25,11 @@ pub record MeetsRows (m : Market) (z : List ℕ) (rows : List Row) (p : Point) :
   pub losers : (j : ℕ) → 0 < j → j ≤ m.bidders → IsFalse (uses z j) → of_bidder p.at j ≡ pos 0
   pub each : AllByRecursion (MeetsRow m p) rows
 
--- the point of a turn: of the points of least sum that meet the rows, the one nearest to the prices v
-pub record IsTurnPoint (m : Market) (z : List ℕ) (v : ℕ → ℤ) (rows : List Row) (p : Point) : Type 0 where
+-- the point of a turn: of the points of least sum that meet the rows, the one nearest to the prices v by the weights
+pub record IsTurnPoint (m : Market) (w : ℕ → ℕ) (z : List ℕ) (v : ℕ → ℤ) (rows : List Row) (p : Point) : Type 0 where
   pub meets : MeetsRows m z rows p
   pub least : HasLeastSum m (MeetsRows m z rows) p
-  pub nearest : IsNearestTo m v (MeetsRows m z rows) p
+  pub nearest : IsNearestTo m w v (MeetsRows m z rows) p
 
 -- the first rows, k bidders being passed: each winner alone, in order, with its price
 abbrev pub single_rows : (ℕ → ℤ) → ℕ → List ℕ → List Row
@@ -54,13 +54,13 @@ pub record IsBlockOf (m : Market) (z : List ℕ) (p : Point) (b : Block) : Type 
 
 -- The turns go on from these rows: each has the point of the rows so far. Where no excess is above 0, it is the last; else
 -- its block gives the next turn one row more.
-abbrev pub GoOn : Market → List ℕ → (ℕ → ℤ) → List Row → List Turn → Type 0
-GoOn m z v rows [] = ⊥
-GoOn m z v rows (t ∷ turns) =
-    IsTurnPoint m z v rows t.point
-    × MatchOption t.block ((turns ≡ []) × IsGreatestExcess m z t.point (pos 0)) (λ b. IsBlockOf m z t.point b × GoOn m z v (rows ++ b.row ∷ []) turns)
+abbrev pub GoOn : Market → (ℕ → ℕ) → List ℕ → (ℕ → ℤ) → List Row → List Turn → Type 0
+GoOn m w z v rows [] = ⊥
+GoOn m w z v rows (t ∷ turns) =
+    IsTurnPoint m w z v rows t.point
+    × MatchOption t.block ((turns ≡ []) × IsGreatestExcess m z t.point (pos 0)) (λ b. IsBlockOf m z t.point b × GoOn m w z v (rows ++ b.row ∷ []) turns)
 
--- the turns of pricing the winning choice z, from the rows of each winner alone with its Vickrey price
-pub record IsPricingRun (m : Market) (z : List ℕ) (turns : List Turn) : Type 0 where
+-- the turns of pricing the winning choice z with these weights, from the rows of each winner alone with its Vickrey price
+pub record IsPricingRun (m : Market) (w : ℕ → ℕ) (z : List ℕ) (turns : List Turn) : Type 0 where
   pub winning : IsWinning m z
-  pub turns_of : (v : ℕ → ℤ) → AreVickreyPrices m z v → GoOn m z v (single_rows v 0 z) turns
+  pub turns_of : (v : ℕ → ℤ) → AreVickreyPrices m z v → GoOn m w z v (single_rows v 0 z) turns

@@ -3,12 +3,13 @@
 //! Each function here is a law: it does nothing, and its contract is what holds of every market.
 #![tactic(auto)]
 
-ghost use Rattle.std.specs.Prelude.{◌≡◌, ℕ, ◌<◌, ◌≤◌, ◌^◌, Bool, List, ℤ, length, pos, ◌≤ℤ◌};
+ghost use Rattle.std.specs.Prelude.{◌≡◌, ℕ, ◌<◌, ◌≤◌, ◌^◌, Bool, List, ℤ, length, pos, ◌*ℤ◌, ◌-ℤ◌, ◌≤ℤ◌};
+ghost use Rattle.auction_model.specs.Lowered.{of_bidder};
 ghost use Rattle.auction_model.specs.Market.{Market};
 ghost use Rattle.auction_model.specs.Greatest.{IsWinning};
 ghost use Rattle.auction_model.specs.Lawful.{IsMarket};
 ghost use Rattle.auction_model.specs.Book.{Book, bids_of, net_of, market_of};
-ghost use Rattle.auction_model.specs.Prices.{Point, IsBlocking, IsUnblocked, IsCorePoint, AreVickreyPrices, SamePoint, IsCoreOutcome};
+ghost use Rattle.auction_model.specs.Prices.{Point, IsBlocking, IsUnblocked, IsCorePoint, AreVickreyPrices, SamePoint, IsCoreOutcome, alike, everyone, share, square_distance, sum_over};
 
 /// Every market has one winning choice.
 pub fn winning_choice()
@@ -27,9 +28,18 @@ pub fn core_points()
     ensures { (m : Market) (z : List ℕ) → IsMarket m → IsWinning m z → (p : Point) × IsCorePoint m z p }
 {}
 
-/// All core outcomes of a choice are the same point.
+/// All core outcomes of a choice with the same weights are the same point. The weights of the bidders alone count.
 pub fn core_outcome()
-    ensures { (m : Market) (z : List ℕ) (p q : Point) → IsMarket m → IsCoreOutcome m z p → IsCoreOutcome m z q → SamePoint m p q }
+    ensures one { (m : Market) (w : ℕ → ℕ) (z : List ℕ) (p q : Point) → IsMarket m → IsCoreOutcome m w z p → IsCoreOutcome m w z q → SamePoint m p q }
+    ensures weights { (m : Market) (w y : ℕ → ℕ) (z : List ℕ) (p : Point) → ((j : ℕ) → 0 < j → j ≤ m.bidders → w j ≡ y j) → IsCoreOutcome m w z p → IsCoreOutcome m y z p }
+{}
+
+/// A share times its weight is the same number for all weights of 1 to 20, so squares count by what is divided by the weight.
+/// Where all weigh 1, the square distance is the sum of the squares times that number.
+pub fn weighted_distance()
+    ensures share { (n : ℕ) → 1 ≤ n → n ≤ 20 → share n *ℤ pos n ≡ pos 232792560 }
+    ensures plain { (m : Market) (v : ℕ → ℤ) (p : Point)
+        → square_distance m alike v p ≡ pos 232792560 *ℤ sum_over everyone (λ j. (of_bidder p.at j -ℤ (p.den *ℤ v j)) *ℤ (of_bidder p.at j -ℤ (p.den *ℤ v j))) m.bidders }
 {}
 
 /// A point is unblocked exactly where no coalition blocks it with any choice.
