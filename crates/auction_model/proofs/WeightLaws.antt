@@ -1,10 +1,10 @@
 -- Weights of the distance: the shares are whole, and only the weights of bidders count.
-use Rattle.std.specs.Prelude.{◌≡◌, ℕ, zero, suc, ◌+◌, ◌≤◌, ◌<◌, Bool, true, false, List, refl, ℤ, pos, ◌+ℤ◌, ◌-ℤ◌, ◌*ℤ◌, ◌<ℤ◌}
-use Rattle.std.proofs.Common.{sym, ◌∙◌, ap, arith, subst}
+use Rattle.std.specs.Prelude.{◌≡◌, ℕ, zero, suc, ◌≤◌, ◌<◌, List, refl, ℤ, pos, ◌+ℤ◌, ◌-ℤ◌, ◌*ℤ◌, ◌<ℤ◌}
+use Rattle.std.proofs.Common.{ap, arith, subst}
 use Rattle.std.proofs.lemmas.Int.{ints}
 use Rattle.auction_model.specs.Market.{Market}
 use Rattle.auction_model.specs.Lowered.{of_bidder}
-use Rattle.auction_model.specs.Prices.{Point, sum_over, everyone, paid, SamePoint, IsCoreOutcome, IsNearestTo, alike, share, square_distance}
+use Rattle.auction_model.specs.Prices.{Point, sum_over, everyone, IsCoreOutcome, IsNearestTo, alike, share, square_distance}
 use Rattle.auction_model.proofs.PriceLaws.{over-same}
 
 -- what holds of each number from 1 to 20 holds of a weight

@@ -1,7 +1,7 @@
 -- Prices of a market at a choice z: blocking coalitions, core points, Vickrey prices, least sum, the nearest point with weights,
 -- the core outcome. Payments are net of reserve. (Day and Cramton, Quadratic core-selecting payment rules for combinatorial
 -- auctions, Operations Research 60, 2012, with the seller's value at reserve.)
-use Rattle.std.specs.Prelude.{◌≡◌, ℕ, zero, suc, ◌<◌, ◌≤◌, Bool, true, IsTrue, IsFalse, List, length, ℤ, pos, ◌/◌, ◌+ℤ◌, ◌-ℤ◌, ◌*ℤ◌, ◌≤ℤ◌, ◌<ℤ◌, if◌then◌else◌, not, ◌&&◌}
+use Rattle.std.specs.Prelude.{◌≡◌, ℕ, zero, suc, ◌-◌, ◌<◌, ◌≤◌, Bool, true, IsTrue, IsFalse, List, length, slice_index_or, ℤ, pos, ◌/◌, ◌+ℤ◌, ◌-ℤ◌, ◌*ℤ◌, ◌≤ℤ◌, ◌<ℤ◌, if◌then◌else◌, not, ◌&&◌}
 use Rattle.auction_model.specs.Market.{Market, value_of, worth_in, uses}
 use Rattle.auction_model.specs.Greatest.{IsGreatest, IsGreatestValue}
 use Rattle.auction_model.specs.Lowered.{of_bidder}
@@ -73,6 +73,10 @@ HasLeastSum m Among p = (q : Point) → Among q → (q.den *ℤ paid m p) ≤ℤ
 -- each bidder has a weight of 1 to 20
 abbrev pub AreWeights : Market → (ℕ → ℕ) → Type 0
 AreWeights m w = (j : ℕ) → 0 < j → j ≤ m.bidders → (1 ≤ w j) × (w j ≤ 20)
+
+-- the weight of bidder j in a list with one weight for each bidder
+abbrev pub weight_of : List ℕ → ℕ → ℕ
+weight_of weights j = slice_index_or weights (j - 1) 0
 
 -- all bidders weigh 1
 abbrev pub alike : ℕ → ℕ

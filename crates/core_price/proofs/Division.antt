@@ -1,11 +1,11 @@
 -- The answer of a turn divided by a common divisor is an answer again: each of its clauses is linear.
-use Rattle.std.specs.Prelude.{◌≡◌, ◌≢◌, ℕ, zero, suc, ◌<◌, ◌≤◌, ◌^◌, List, length, ℤ, pos, negsuc, ◌-ℤ◌, ◌*ℤ◌, ◌≤ℤ◌, ◌<ℤ◌, unsigned_abs, refl}
+use Rattle.std.specs.Prelude.{◌≡◌, ◌≢◌, ℕ, zero, suc, ◌+◌, ◌<◌, ◌≤◌, ◌^◌, List, length, ℤ, pos, negsuc, ◌-ℤ◌, ◌*ℤ◌, ◌≤ℤ◌, ◌<ℤ◌, unsigned_abs, refl}
 use Rattle.std.proofs.Common.{sym, ◌∙◌, ap, arith, subst}
 use Rattle.std.proofs.lemmas.Int.{ints, unsigned_abs-mul}
 use Rattle.std.proofs.Math.IntN.{*ℤ-zero}
 use Rattle.far_num.specs.declared.Row.{Row}
 use Rattle.nearest_point.specs.Numbers.{is_zero, pairs_used}
-use Rattle.nearest_point.specs.Problem.{bounds, coefficients}
+use Rattle.nearest_point.specs.Problem.{bounds, coefficients, weight_at}
 use Rattle.point_laws.specs.Multipliers.{sum_at}
 use Rattle.point_laws.proofs.Order.{cancel_nonneg}
 use Rattle.wide_num.proofs.Ints.{lin, mul_assoc, mul_cancel, mul-sub, mul-zero_cases, swap_mul}
@@ -61,8 +61,8 @@ pairs_same zero first second all_first all_second f s = refl
 pairs_same (suc n) first second all_first all_second f s =
     rw (pairs_same n first second all_first all_second (λ i lt. f i (omega (arith, lt))) (λ i lt. s i (omega (arith, lt))), f n (omega arith), s n (omega arith)) refl
 
-module _ (prices : List ℤ) (rows : List Row) (g den : ℤ) (at first second : List ℤ) (all_den : ℤ) (all_at all_first all_second : List ℤ)
-    (h : IsMultiple g den at first second all_den all_at all_first all_second) (a : IsAnswer prices rows all_den all_at all_first all_second) where
+module _ (prices : List ℤ) (weights : List ℕ) (rows : List Row) (g den : ℤ) (at first second : List ℤ) (all_den : ℤ) (all_at all_first all_second : List ℤ)
+    (h : IsMultiple g den at first second all_den all_at all_first all_second) (a : IsAnswer prices weights rows all_den all_at all_first all_second) where
   some : g ≢ pos 0
   some = not-zero g h.positive
 
@@ -98,18 +98,21 @@ module _ (prices : List ℤ) (rows : List Row) (g den : ℤ) (at first second : 
   other-too : (x y : ℤ) → g *ℤ x ≡ y → x ≢ pos 0 → y ≢ pos 0
   other-too x y e d z = d (mul-zero_cases g x (e ∙ z) some)
 
-  second-sum : (j : ℕ) → j < length prices → pos 1 *ℤ sum_at (length rows) (coefficients rows) (nth second) j ≡ nth at j -ℤ den *ℤ nth prices j
+  second-sum : (j : ℕ) → j < length prices → weight_at weights j *ℤ sum_at (length rows) (coefficients rows) (nth second) j ≡ nth at j -ℤ den *ℤ nth prices j
   second-sum j lt =
       let n = h.at_is.each j (omega (arith, lt, a.long_at)) in
-      mul_cancel g (pos 1 *ℤ sum_at (length rows) (coefficients rows) (nth second) j) (nth at j -ℤ den *ℤ nth prices j) some
-      (swap_mul g (pos 1) (sum_at (length rows) (coefficients rows) (nth second) j)
-      ∙ ap (λ (t : ℤ). pos 1 *ℤ t) (sym (sum-times second all_second h.second_is a.long_second j))
+      mul_cancel g (weight_at weights j *ℤ sum_at (length rows) (coefficients rows) (nth second) j) (nth at j -ℤ den *ℤ nth prices j) some
+      (swap_mul g (weight_at weights j) (sum_at (length rows) (coefficients rows) (nth second) j)
+      ∙ ap (λ (t : ℤ). weight_at weights j *ℤ t) (sym (sum-times second all_second h.second_is a.long_second j))
       ∙ a.seconds.sums j lt
       ∙ ap (λ (t : ℤ). t -ℤ all_den *ℤ nth prices j) (sym n)
       ∙ ap (λ (t : ℤ). g *ℤ nth at j -ℤ t) (ap (λ (t : ℤ). t *ℤ nth prices j) (sym h.den_is) ∙ mul_assoc g den (nth prices j))
       ∙ sym (mul-sub g (nth at j) (den *ℤ nth prices j)))
 
-  pub answer-divided : IsAnswer prices rows den at first second
+  den-below : (top : ℕ) → all_den <ℤ pos top → den <ℤ pos top
+  den-below top small = size-below den top (let f = factor_size g den h.positive in let e = ap unsigned_abs h.den_is in let k = below-size all_den top a.meets.positive small in omega (arith, f, e, k))
+
+  pub answer-divided : IsAnswer prices weights rows den at first second
   answer-divided = record {
     long_at = h.at_is.long ∙ a.long_at;
     long_first = h.first_is.long ∙ a.long_first;
@@ -129,7 +132,8 @@ module _ (prices : List ℤ) (rows : List Row) (g den : ℤ) (at first second : 
       tight = λ i lt d. tight-too i (a.seconds.tight i lt (other-too (nth second i) (nth all_second i) (second-is i lt) d));
       sums = second-sum;
     };
-    small_den = size-below den (2 ^ 32) (let f = factor_size g den h.positive in let e = ap unsigned_abs h.den_is in let k = below-size all_den (2 ^ 32) a.meets.positive a.small_den in omega (arith, f, e, k));
+    small_den = (let k = den-below (320 ^ 4 + 1) (let s = a.small_den in omega (arith, ints, s)) in omega (arith, ints, k));
+    den_of_ones = λ ones. den-below (2 ^ 32) (a.den_of_ones ones);
     small_at = λ i lt. (let l : i < length all_at = omega (arith, lt, h.at_is.long) in let f = factor_size g (nth at i) h.positive in let e = ap unsigned_abs (h.at_is.each i l) in let k = a.small_at i l in omega (arith, f, e, k));
     small_second = λ i lt. (let l : i < length all_second = omega (arith, lt, h.second_is.long) in let f = factor_size g (nth second i) h.positive in let e = ap unsigned_abs (h.second_is.each i l) in let k = a.small_second i l in omega (arith, f, e, k));
     few =

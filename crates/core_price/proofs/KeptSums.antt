@@ -171,12 +171,12 @@ module _ (m : ℕ) (rows : List Row) (choices : List (List ℕ)) (first second :
       tight = λ i lt some. subst (λ (r : Row). dot m (holds r.members) at ≡ den *ℤ r.bound) (sym (row-in (kept_of rows choices first second) i lt)) (each-at (λ x. x.first ≢ pos 0 → dot m (holds x.row.members) at ≡ den *ℤ x.row.bound) (kept_of rows choices first second) (kept-each (λ x. x.first ≢ pos 0 → dot m (holds x.row.members) at ≡ den *ℤ x.row.bound) rows choices first second long (λ j lj u d. a.tight j lj d)) i lt (λ z. some (first-in (kept_of rows choices first second) i lt ∙ z)));
     }
 
-    module _ (target : ℕ → ℤ) (b : AreSecond m (length rows) (coefficients rows) (bounds rows) den at (nth first) (nth second) target (λ j. pos 1)) where
-      pub kept-second : AreSecond m (length (kept_of rows choices first second)) (coefficients (rows_in (kept_of rows choices first second))) (bounds (rows_in (kept_of rows choices first second))) den at (nth (firsts (kept_of rows choices first second))) (nth (seconds (kept_of rows choices first second))) target (λ j. pos 1)
+    module _ (target weight : ℕ → ℤ) (b : AreSecond m (length rows) (coefficients rows) (bounds rows) den at (nth first) (nth second) target weight) where
+      pub kept-second : AreSecond m (length (kept_of rows choices first second)) (coefficients (rows_in (kept_of rows choices first second))) (bounds (rows_in (kept_of rows choices first second))) den at (nth (firsts (kept_of rows choices first second))) (nth (seconds (kept_of rows choices first second))) target weight
       kept-second = record {
         sign = λ i lt z. subst (λ (t : ℤ). pos 0 ≤ℤ t) (sym (second-in (kept_of rows choices first second) i lt)) (each-at (λ x. x.first ≡ pos 0 → pos 0 ≤ℤ x.second) (kept_of rows choices first second) (kept-each (λ x. x.first ≡ pos 0 → pos 0 ≤ℤ x.second) rows choices first second long (λ j lj u e. b.sign j lj e)) i lt (sym (first-in (kept_of rows choices first second) i lt) ∙ z));
         tight = λ i lt some. subst (λ (r : Row). dot m (holds r.members) at ≡ den *ℤ r.bound) (sym (row-in (kept_of rows choices first second) i lt)) (each-at (λ x. x.second ≢ pos 0 → dot m (holds x.row.members) at ≡ den *ℤ x.row.bound) (kept_of rows choices first second) (kept-each (λ x. x.second ≢ pos 0 → dot m (holds x.row.members) at ≡ den *ℤ x.row.bound) rows choices first second long (λ j lj u d. b.tight j lj d)) i lt (λ z. some (second-in (kept_of rows choices first second) i lt ∙ z)));
-        sums = λ j lt. ap (λ (t : ℤ). pos 1 *ℤ t) (second_sum j) ∙ b.sums j lt;
+        sums = λ j lt. ap (λ (t : ℤ). weight j *ℤ t) (second_sum j) ∙ b.sums j lt;
       }
 
       -- each used row is tight

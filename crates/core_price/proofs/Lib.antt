@@ -19,3 +19,4 @@ mod StartLaws
 mod StopLaws
 mod TurnLaws
 mod VickreyLaws
+pub mod WeightLaws

@@ -30,11 +30,11 @@ abs-sum : (n : ℕ) (f : ℕ → ℕ) (b : ℕ) → ((j : ℕ) → 0 < j → j �
 abs-sum zero f b h = omega arith
 abs-sum (suc n) f b h = let r = abs-sum n f b (λ j q le. h j q (omega arith)) in let o = h (suc n) (omega arith) (omega arith) in omega arith
 
-pub small-product : (d w : ℤ) → pos 0 ≤ℤ d → d <ℤ pos (2 ^ 32) → pos 0 ≤ℤ w → w ≤ℤ pos (2 ^ 46) → (d *ℤ w) ≤ℤ pos (2 ^ 78)
+pub small-product : (d w : ℤ) → pos 0 ≤ℤ d → d ≤ℤ pos (320 ^ 4) → pos 0 ≤ℤ w → w ≤ℤ pos (2 ^ 46) → (d *ℤ w) ≤ℤ pos (2 ^ 80)
 small-product (negsuc d) w a b p q = absurd (omega (arith, ints))
 small-product (pos d) (negsuc w) a b p q = absurd (omega (arith, ints))
 small-product (pos d) (pos w) a b p q =
-    let r : d * w ≤ 2 ^ 32 * 2 ^ 46 = (let x : d ≤ 2 ^ 32 = omega (arith, ints) in let y : w ≤ 2 ^ 46 = omega (arith, ints) in mul-le-mul x y) in
+    let r : d * w ≤ 320 ^ 4 * 2 ^ 46 = (let x : d ≤ 320 ^ 4 = omega (arith, ints) in let y : w ≤ 2 ^ 46 = omega (arith, ints) in mul-le-mul x y) in
     omega (arith, ints)
 
 abs-of : (x : ℤ) (b : ℕ) → x ≤ℤ pos b → (pos 0 -ℤ pos b) ≤ℤ x → unsigned_abs x ≤ b
@@ -45,18 +45,18 @@ below-of : (x : ℤ) (b : ℕ) → unsigned_abs x < b → x <ℤ pos b
 below-of (pos a) b p = omega (arith, ints)
 below-of (negsuc a) b p = omega (arith, ints)
 
-whole-range : (n d v s : ℕ) → n ≤ 64 → d < 2 ^ 32 → v ≤ 2 ^ 46 → s ≤ n * 2 ^ 110 → n * d * v + s < 2 ^ 120
+whole-range : (n d v s : ℕ) → n ≤ 64 → d ≤ 320 ^ 4 → v ≤ 2 ^ 46 → s ≤ n * 2 ^ 110 → n * d * v + s < 2 ^ 120
 whole-range n d v s a b c e =
-    let p : n * d ≤ 64 * 2 ^ 32 = (let x : d ≤ 2 ^ 32 = omega arith in mul-le-mul a x) in
-    let q : n * d * v ≤ 64 * 2 ^ 32 * 2 ^ 46 = mul-le-mul p c in
+    let p : n * d ≤ 64 * 320 ^ 4 = (let x : d ≤ 320 ^ 4 = omega arith in mul-le-mul a x) in
+    let q : n * d * v ≤ 64 * 320 ^ 4 * 2 ^ 46 = mul-le-mul p c in
     omega arith
 
 -- den times one more than the value is in the range
-pub value-range : (d v : ℤ) (w : ℕ) → pos 1 ≤ℤ d → d <ℤ pos (2 ^ 32) → pos 0 ≤ℤ v → v ≤ℤ pos (w * 2 ^ 42) → w ≤ 6 → (d *ℤ (v +ℤ pos 1)) <ℤ pos (2 ^ 120)
+pub value-range : (d v : ℤ) (w : ℕ) → pos 1 ≤ℤ d → d ≤ℤ pos (320 ^ 4) → pos 0 ≤ℤ v → v ≤ℤ pos (w * 2 ^ 42) → w ≤ 6 → (d *ℤ (v +ℤ pos 1)) <ℤ pos (2 ^ 120)
 value-range d v w a b p q few = let r = small-product d (v +ℤ pos 1) (omega (arith, ints)) b (omega (arith, ints)) (omega (arith, ints)) in omega (arith, ints)
 
 module _ (m : Market) (lawful : IsMarket m) (z : List ℕ) (win : IsWinning m z) (small : m.bidders ≤ 64) (few : winners_in z ≤ 6) (worth : value_of m z ≤ℤ pos (winners_in z * 2 ^ 42)) (den : ℤ) (at : List ℤ) (long : length at ≡ winners_in z)
-    (dp : pos 1 ≤ℤ den) (dm : den <ℤ pos (2 ^ 32)) (low : (i : ℕ) → i < winners_in z → pos 0 ≤ℤ nth at i) (below : AreBelow (2 ^ 109) at) where
+    (dp : pos 1 ≤ℤ den) (dm : den ≤ℤ pos (320 ^ 4)) (low : (i : ℕ) → i < winners_in z → pos 0 ≤ℤ nth at i) (below : AreBelow (2 ^ 109) at) where
   len : length z ≡ m.bidders
   len = lawful.lengths z win.passed
 
@@ -95,7 +95,7 @@ module _ (m : Market) (lawful : IsMarket m) (z : List ℕ) (win : IsWinning m z)
     };
   }
     where
-      den-abs : (d : ℤ) → pos 1 ≤ℤ d → d <ℤ pos (2 ^ 32) → unsigned_abs d < 2 ^ 32
+      den-abs : (d : ℤ) → pos 1 ≤ℤ d → d ≤ℤ pos (320 ^ 4) → unsigned_abs d ≤ 320 ^ 4
       den-abs (pos d) a b = omega (arith, ints)
       den-abs (negsuc d) a b = absurd (omega (arith, ints))
 

@@ -7,7 +7,7 @@ use Rattle.auction_model.specs.Market.{Market, value_of}
 use Rattle.auction_model.specs.Greatest.{IsWinning}
 use Rattle.auction_model.specs.Lawful.{IsMarket}
 use Rattle.auction_model.specs.Lowered.{of_bidder}
-use Rattle.auction_model.specs.Prices.{AreVickreyPrices, IsCoreOutcome, IsCorePoint, Point}
+use Rattle.auction_model.specs.Prices.{AreVickreyPrices, IsCoreOutcome, IsCorePoint, Point, weight_of}
 use Rattle.auction_model.specs.PricingRun.{IsPricingRun}
 use Rattle.far_num.specs.declared.Row.{Row}
 use Rattle.nearest_point.specs.Problem.{row_at}
@@ -21,8 +21,8 @@ use Rattle.core_price.proofs.Core.{core-of}
 use Rattle.core_price.proofs.LookLaws.{value-range}
 use Rattle.core_price.proofs.Points.{MeetsBits, firsts, least-of, nearest-of, sums}
 
-module _ (m : Market) (lawful : IsMarket m) (z : List ℕ) (win : IsWinning m z) (prices : List ℤ) (can : CanTurn m z prices) (rows : List Row) (choices : List (List ℕ)) (turns : List Turn) (den : ℤ) (at first second : List ℤ)
-    (ended : HasEnded m z prices rows choices turns den at first second) where
+module _ (m : Market) (lawful : IsMarket m) (z : List ℕ) (win : IsWinning m z) (prices : List ℤ) (weights : List ℕ) (can : CanTurn m z prices weights) (rows : List Row) (choices : List (List ℕ)) (turns : List Turn) (den : ℤ) (at first second : List ℤ)
+    (ended : HasEnded m z prices weights rows choices turns den at first second) where
   len : length z ≡ m.bidders
   len = lawful.lengths z win.passed
 
@@ -36,19 +36,19 @@ module _ (m : Market) (lawful : IsMarket m) (z : List ℕ) (win : IsWinning m z)
     above = λ i lt. core-meets m lawful z len q core (row_at rows i) (choice_at choices i) (ended.given i lt);
   }
 
-  pub run : IsPricingRun m z (turns_of z turns)
+  pub run : IsPricingRun m (weight_of weights) z (turns_of z turns)
   run = record { winning = win; turns_of = ended.run }
 
-  pub outcome : IsCoreOutcome m z (point_of z den at)
+  pub outcome : IsCoreOutcome m (weight_of weights) z (point_of z den at)
   outcome = record {
     greatest = record { passed = win.passed; greatest = win.greatest };
-    core = core-of m lawful z win rows choices ended.given den at first (firsts m z len prices can.long rows den at first second ended.answer) (sums m z len prices can.long rows den at first second ended.answer) ended.free den-positive ended.not_negative;
-    least = λ q core. least-of m z len prices can.long rows den at first second ended.answer q (core-bits q core);
-    nearest = λ v ps q core same other. nearest-of m z len prices can.long rows den at first second ended.answer v (priced v ps) q (core-bits q core) same other;
+    core = core-of m lawful z win rows choices ended.given den at first (firsts m z len weights can.weighing prices can.long rows den at first second ended.answer) (sums m z len weights can.weighing prices can.long rows den at first second ended.answer) ended.free den-positive ended.not_negative;
+    least = λ q core. least-of m z len weights can.weighing prices can.long rows den at first second ended.answer q (core-bits q core);
+    nearest = λ v ps q core same other. nearest-of m z len weights can.weighing prices can.long rows den at first second ended.answer v (priced v ps) q (core-bits q core) same other;
   }
     where
       priced : (v : ℕ → ℤ) → AreVickreyPrices m z v → (k : ℕ) → k < m.bidders → v (suc k) ≡ of_bidder (for_bidders z prices) (suc k)
       priced v ps k lt = vickrey-one m z (suc k) (v (suc k)) (of_bidder (for_bidders z prices) (suc k)) (ps (suc k) (omega arith) (omega arith)) (can.vickrey (suc k) (omega arith) (omega arith))
 
   pub range : (den *ℤ (value_of m z +ℤ pos 1)) <ℤ pos (2 ^ 120)
-  range = value-range den (value_of m z) (winners_in z) den-positive ended.answer.small_den (worth-nonneg m lawful z win.passed) can.worth can.few
+  range = value-range den (value_of m z) (winners_in z) den-positive ended.answer.small_den (worth-nonneg m lawful z win.passed) can.worth can.few.0

@@ -1,26 +1,30 @@
 -- Points that ask nothing of losers, as points with a number for each winner: the answer of a turn is of least sum and nearest
 -- among those that meet its rows.
-use Rattle.std.specs.Prelude.{◌≡◌, ℕ, zero, suc, ◌-◌, ◌<◌, true, false, List, length, ℤ, pos, ◌-ℤ◌, ◌*ℤ◌, ◌≤ℤ◌, refl}
+use Rattle.std.specs.Prelude.{◌≡◌, ℕ, zero, suc, ◌-◌, ◌<◌, true, false, List, get_or, length, ℤ, pos, ◌-ℤ◌, ◌*ℤ◌, ◌≤ℤ◌, refl}
 use Rattle.std.proofs.Common.{sym, ◌∙◌, ap, arith, subst, ◌⊎◌, inl, inr}
 use Rattle.std.proofs.lemmas.Int.{ints}
 use Rattle.std.proofs.lemmas.Bool.{cases_Bool}
 use Rattle.auction_model.specs.Market.{Market, uses}
 use Rattle.auction_model.specs.Lowered.{of_bidder}
-use Rattle.auction_model.specs.Prices.{Point, everyone, paid, sum_over, square_distance, SamePoint, HasLeastSum, IsNearestTo}
+use Rattle.auction_model.specs.Prices.{Point, everyone, paid, share, sum_over, square_distance, SamePoint, HasLeastSum, IsNearestTo, weight_of}
 use Rattle.far_num.specs.declared.Row.{Row}
-use Rattle.nearest_point.specs.Problem.{bounds, coefficients, row_at}
-use Rattle.point_laws.specs.Multipliers.{AreFirst, AreSecond, SumsTo}
+use Rattle.nearest_point.specs.Problem.{bounds, coefficients, row_at, share_at, weight_at}
+use Rattle.point_laws.specs.Multipliers.{AreFirst, AreSecond, AreShares, SumsTo}
 use Rattle.point_laws.specs.Points.{MeetsRows, SamePoint as SameNumbers, square_distance as distance}
 use Rattle.point_laws.proofs.PointLaws.{least, nearest, at_each}
+use Rattle.point_laws.proofs.Shares.{share-positive, share-whole}
 use Rattle.row_laws.specs.Rows.{Meets}
 use Rattle.row_laws.specs.Surplus.{AsksWinnersOnly}
 use Rattle.row_laws.specs.Winners.{for_bidders, for_winners, winners_in}
 use Rattle.row_laws.proofs.Sums.{over-is}
-use Rattle.row_laws.proofs.Winners.{there-and-back, paid-zip, everyone-zip, loser-zero, all-bidders}
+use Rattle.row_laws.proofs.Winners.{there-and-back, paid-zip, loser-zero, all-bidders}
 use Rattle.wide_num.specs.Sums.{nth, total}
-use Rattle.wide_num.proofs.Sums.{total-same}
 use Rattle.core_price.specs.Answers.{IsAnswer}
 use Rattle.core_price.specs.Turns.{point_of}
+use Rattle.core_price.specs.Weights.{CanWeigh, weights_in}
+use Rattle.core_price.proofs.Spots.{spot, spot-inside, spot-number}
+use Rattle.core_price.proofs.WeightLaws.{sum-spots, weight-is, weights-at}
+use Rattle.std.proofs.Math.IntN.{*ℤ-zero}
 use Rattle.core_price.proofs.Places.{place-of}
 
 -- a point that asks nothing of losers and meets the rows, with its numbers for winners
@@ -54,15 +58,15 @@ module _ (m : Market) (z : List ℕ) (len : length z ≡ m.bidders) where
   paid-asks q asks = ap (λ l. paid m (record { den = q.den; at = l })) (sym (back-of q asks)) ∙ paid-own q.den (for_winners z q.at)
 
 -- the answer of a turn, its prices being those of the winners
-module _ (m : Market) (z : List ℕ) (len : length z ≡ m.bidders) (prices : List ℤ) (some : length prices ≡ winners_in z) (rows : List Row) (den : ℤ) (at first second : List ℤ) (answer : IsAnswer prices rows den at first second) where
+module _ (m : Market) (z : List ℕ) (len : length z ≡ m.bidders) (weights : List ℕ) (weighed : CanWeigh m z weights) (prices : List ℤ) (some : length prices ≡ winners_in z) (rows : List Row) (den : ℤ) (at first second : List ℤ) (answer : IsAnswer prices (weights_in z weights) rows den at first second) where
   pub firsts : AreFirst (winners_in z) (length rows) (coefficients rows) (bounds rows) den (nth at) (nth first)
   firsts = subst (λ w. AreFirst w (length rows) (coefficients rows) (bounds rows) den (nth at) (nth first)) some answer.firsts
 
   pub sums : SumsTo (winners_in z) (length rows) (coefficients rows) den (nth first)
   sums = subst (λ w. SumsTo w (length rows) (coefficients rows) den (nth first)) some answer.sums
 
-  pub seconds : AreSecond (winners_in z) (length rows) (coefficients rows) (bounds rows) den (nth at) (nth first) (nth second) (nth prices) (λ j. pos 1)
-  seconds = subst (λ w. AreSecond w (length rows) (coefficients rows) (bounds rows) den (nth at) (nth first) (nth second) (nth prices) (λ j. pos 1)) some answer.seconds
+  pub seconds : AreSecond (winners_in z) (length rows) (coefficients rows) (bounds rows) den (nth at) (nth first) (nth second) (nth prices) (weight_at (weights_in z weights))
+  seconds = subst (λ w. AreSecond w (length rows) (coefficients rows) (bounds rows) den (nth at) (nth first) (nth second) (nth prices) (weight_at (weights_in z weights))) some answer.seconds
 
   pub meets : MeetsRows (winners_in z) (length rows) (coefficients rows) (bounds rows) den (nth at)
   meets = subst (λ w. MeetsRows w (length rows) (coefficients rows) (bounds rows) den (nth at)) some answer.meets
@@ -85,15 +89,34 @@ module _ (m : Market) (z : List ℕ) (len : length z ≡ m.bidders) (prices : Li
     square-none : (d : ℤ) → square d (pos 0) (pos 0) ≡ pos 0
     square-none d = let e : pos 0 -ℤ d *ℤ pos 0 ≡ pos 0 = omega (arith, ints) in ap (λ (x : ℤ). x *ℤ x) e
 
-    square-is : (d : ℤ) (xs : List ℤ) → square_distance m v (point_of z d xs) ≡ distance (winners_in z) (λ j. pos 1) (nth prices) d (nth xs)
+    -- what bidder k + 1 counts
+    abbrev term : ℤ → List ℤ → ℕ → ℤ
+    term d xs k = share (weight_of weights (suc k)) *ℤ ((of_bidder (for_bidders z xs) (suc k) -ℤ d *ℤ v (suc k)) *ℤ (of_bidder (for_bidders z xs) (suc k) -ℤ d *ℤ v (suc k)))
+
+    won-term : (d : ℤ) (xs : List ℤ) (i : ℕ) → i < winners_in z → term d xs (spot z i) ≡ share_at (weights_in z weights) i *ℤ square d (nth xs i) (nth prices i)
+    won-term d xs i lt =
+        let inside = spot-inside z i lt in
+        let w : weight_of weights (suc (spot z i)) ≡ get_or (weights_in z weights) i 0 = weight-is weights (spot z i) ∙ sym (weights-at z weights i lt) in
+        let x : of_bidder (for_bidders z xs) (suc (spot z i)) ≡ nth xs i = at-bidder z xs (spot z i) ∙ spot-number z i xs lt in
+        let p : v (suc (spot z i)) ≡ nth prices i = priced (spot z i) (omega (arith, inside, len)) ∙ at-bidder z prices (spot z i) ∙ spot-number z i prices lt in
+        ap (λ n. share n *ℤ square d (of_bidder (for_bidders z xs) (suc (spot z i))) (v (suc (spot z i)))) w
+        ∙ ap (λ (t : ℤ). share_at (weights_in z weights) i *ℤ square d t (v (suc (spot z i)))) x
+        ∙ ap (λ (t : ℤ). share_at (weights_in z weights) i *ℤ square d (nth xs i) t) p
+
+    lost-term : (d : ℤ) (xs : List ℤ) (k : ℕ) → k < length z → uses z (suc k) ≡ false → term d xs k ≡ pos 0
+    lost-term d xs k lt loses =
+        let x : of_bidder (for_bidders z xs) (suc k) ≡ pos 0 = at-bidder z xs k ∙ loser-zero z xs k loses in
+        let p : v (suc k) ≡ pos 0 = priced k (omega (arith, lt, len)) ∙ at-bidder z prices k ∙ loser-zero z prices k loses in
+        ap (λ (t : ℤ). share (weight_of weights (suc k)) *ℤ square d t (v (suc k))) x
+        ∙ ap (λ (t : ℤ). share (weight_of weights (suc k)) *ℤ square d (pos 0) t) p
+        ∙ ap (λ (t : ℤ). share (weight_of weights (suc k)) *ℤ t) (square-none d)
+        ∙ *ℤ-zero (share (weight_of weights (suc k)))
+
+    square-is : (d : ℤ) (xs : List ℤ) → square_distance m (weight_of weights) v (point_of z d xs) ≡ distance (winners_in z) (share_at (weights_in z weights)) (nth prices) d (nth xs)
     square-is d xs =
-        over-is everyone (λ j. (of_bidder (for_bidders z xs) j -ℤ d *ℤ v j) *ℤ (of_bidder (for_bidders z xs) j -ℤ d *ℤ v j)) m.bidders
-        ∙ total-same m.bidders (λ k. (of_bidder (for_bidders z xs) (suc k) -ℤ d *ℤ v (suc k)) *ℤ (of_bidder (for_bidders z xs) (suc k) -ℤ d *ℤ v (suc k))) (λ k. square d (of_bidder (for_bidders z xs) (suc k)) (of_bidder (for_bidders z prices) (suc k)))
-        (λ k lt. ap (λ (t : ℤ). (of_bidder (for_bidders z xs) (suc k) -ℤ d *ℤ t) *ℤ (of_bidder (for_bidders z xs) (suc k) -ℤ d *ℤ t)) (priced k lt))
-        ∙ sym (over-is everyone (λ j. square d (of_bidder (for_bidders z xs) j) (of_bidder (for_bidders z prices) j)) m.bidders)
-        ∙ sym (ap (λ n. sum_over everyone (λ j. square d (of_bidder (for_bidders z xs) j) (of_bidder (for_bidders z prices) j)) n) len)
-        ∙ everyone-zip (square d) (square-none d) z xs prices
-        ∙ total-same (winners_in z) (λ i. square d (nth xs i) (nth prices i)) (λ j. pos 1 *ℤ ((nth xs j -ℤ d *ℤ nth prices j) *ℤ (nth xs j -ℤ d *ℤ nth prices j))) (λ j lt. omega (arith, ints))
+        over-is everyone (λ j. share (weight_of weights j) *ℤ ((of_bidder (for_bidders z xs) j -ℤ d *ℤ v j) *ℤ (of_bidder (for_bidders z xs) j -ℤ d *ℤ v j))) m.bidders
+        ∙ sym (ap (λ n. total n (term d xs)) len)
+        ∙ sum-spots z (term d xs) (λ i. share_at (weights_in z weights) i *ℤ square d (nth xs i) (nth prices i)) (won-term d xs) (lost-term d xs)
 
     -- numbers of winners that are the same make the same point
     same-of : (q : Point) → AsksWinnersOnly m z q → SameNumbers (winners_in z) den (nth at) q.den (nth (for_winners z q.at)) → SamePoint m (point_of z den at) q
@@ -117,16 +140,22 @@ module _ (m : Market) (z : List ℕ) (len : length z ≡ m.bidders) (prices : Li
             let y = ap (λ (t : ℤ). den *ℤ t) (other-at ∙ loser-zero z (for_winners z q.at) k u) in
             omega (arith, ints)
 
-    pub nearest-of : IsNearestTo m v (MeetsBits m z rows) (point_of z den at)
+    shares : AreShares (winners_in z) (pos 232792560) (share_at (weights_in z weights)) (weight_at (weights_in z weights))
+    shares = record {
+      not_negative = omega (arith, ints);
+      positive = λ j lt. share-positive (get_or (weights_in z weights) j 0) (weighed.own.some j lt) (weighed.own.most j lt);
+      whole = λ j lt. share-whole (get_or (weights_in z weights) j 0) (weighed.own.some j lt) (weighed.own.most j lt);
+    }
+
+    pub nearest-of : IsNearestTo m (weight_of weights) v (MeetsBits m z rows) (point_of z den at)
     nearest-of q h same other =
         let xs : ℕ → ℤ = nth (for_winners z q.at) in
         let a = ap (λ (t : ℤ). q.den *ℤ t) (paid-own m z len den at) in
         let b = ap (λ (t : ℤ). den *ℤ t) (paid-asks m z len q h.asks) in
-        let n = nearest (winners_in z) (length rows) (coefficients rows) (bounds rows) den (nth at) (nth first) (nth second) (nth prices) (λ j. pos 1) (pos 1) (λ j. pos 1) firsts seconds
-        (record { not_negative = omega (arith, ints); positive = λ j lt. omega (arith, ints); whole = λ j lt. omega (arith, ints) })
+        let n = nearest (winners_in z) (length rows) (coefficients rows) (bounds rows) den (nth at) (nth first) (nth second) (nth prices) (weight_at (weights_in z weights)) (pos 232792560) (share_at (weights_in z weights)) firsts seconds shares
         q.den xs (numbers-meet q h, at_each (winners_in z) (length rows) (coefficients rows) den (nth at) (nth first) q.den xs sums) (omega (arith, ints)) (λ all. other (same-of q h.asks all)) in
         let s = square-is den at in
-        let t : square_distance m v q ≡ distance (winners_in z) (λ j. pos 1) (nth prices) q.den xs = ap (λ l. square_distance m v (record { den = q.den; at = l })) (sym (back-of m z len q h.asks)) ∙ square-is q.den (for_winners z q.at) in
+        let t : square_distance m (weight_of weights) v q ≡ distance (winners_in z) (share_at (weights_in z weights)) (nth prices) q.den xs = ap (λ l. square_distance m (weight_of weights) v (record { den = q.den; at = l })) (sym (back-of m z len q h.asks)) ∙ square-is q.den (for_winners z q.at) in
         let s' = ap (λ (x : ℤ). (q.den *ℤ q.den) *ℤ x) s in
         let t' = ap (λ (x : ℤ). (den *ℤ den) *ℤ x) t in
         omega (arith, ints)

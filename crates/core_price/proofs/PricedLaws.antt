@@ -1,5 +1,5 @@
 -- All that pricing promises, from where the turns end.
-use Rattle.std.specs.Prelude.{◌≡◌, ℕ, ◌^◌, ◌<◌, ◌≤◌, true, List, length, ℤ, pos}
+use Rattle.std.specs.Prelude.{◌≡◌, ℕ, ◌^◌, ◌<◌, ◌≤◌, true, List, length, ℤ}
 use Rattle.std.specs.List.{AllByRecursion}
 use Rattle.std.proofs.Common.{sym, ◌∙◌, ap, subst, arith}
 use Rattle.auction_model.specs.Market.{Market}
@@ -7,13 +7,14 @@ use Rattle.auction_model.specs.Greatest.{IsWinning}
 use Rattle.auction_model.specs.Lawful.{IsMarket}
 use Rattle.far_num.specs.declared.Row.{Row}
 use Rattle.nearest_point.specs.Numbers.{AreBelow}
-use Rattle.nearest_point.specs.Problem.{bounds, coefficients}
+use Rattle.nearest_point.specs.Problem.{bounds, coefficients, weight_at}
 use Rattle.point_laws.specs.Multipliers.{AreFirst, AreSecond, SumsTo}
 use Rattle.row_laws.specs.Winners.{winners_in}
 use Rattle.wide_num.specs.Sums.{nth}
 use Rattle.core_price.specs.Kept.{AreAmong, IsKept, firsts, is_used, rows_in, seconds}
 use Rattle.core_price.specs.Lowest.{IsLowest}
 use Rattle.core_price.specs.SoFar.{CanTurn, HasEnded}
+use Rattle.core_price.specs.Weights.{weights_in}
 use Rattle.core_price.specs.declared.priced.PricedRow.{PricedRow}
 use Rattle.core_price.specs.declared.priced.Turn.{Turn}
 use Rattle.core_price.proofs.KeptCount.{kept-count, kept-seconds_below}
@@ -21,8 +22,8 @@ use Rattle.core_price.proofs.KeptLaws.{entry}
 use Rattle.core_price.proofs.KeptSums.{AreLong, first_sum, kept-among, kept-each, kept-first, kept-lowest, kept-second, kept_of, tight-used}
 use Rattle.core_price.proofs.Points.{firsts as first-of, seconds as second-of, sums as sums-of}
 
-module _ (m : Market) (lawful : IsMarket m) (z : List ℕ) (win : IsWinning m z) (prices : List ℤ) (can : CanTurn m z prices) (rows : List Row) (choices : List (List ℕ)) (turns : List Turn) (den : ℤ) (at first second : List ℤ)
-    (ended : HasEnded m z prices rows choices turns den at first second) (kept : List PricedRow) (is : kept ≡ kept_of rows choices first second) where
+module _ (m : Market) (lawful : IsMarket m) (z : List ℕ) (win : IsWinning m z) (prices : List ℤ) (weights : List ℕ) (can : CanTurn m z prices weights) (rows : List Row) (choices : List (List ℕ)) (turns : List Turn) (den : ℤ) (at first second : List ℤ)
+    (ended : HasEnded m z prices weights rows choices turns den at first second) (kept : List PricedRow) (is : kept ≡ kept_of rows choices first second) where
   len : length z ≡ m.bidders
   len = lawful.lengths z win.passed
 
@@ -30,10 +31,10 @@ module _ (m : Market) (lawful : IsMarket m) (z : List ℕ) (win : IsWinning m z)
   long = record { choices_long = ended.long; first_long = ended.answer.long_first; second_long = ended.answer.long_second }
 
   one : AreFirst (winners_in z) (length rows) (coefficients rows) (bounds rows) den (nth at) (nth first)
-  one = first-of m z len prices can.long rows den at first second ended.answer
+  one = first-of m z len weights can.weighing prices can.long rows den at first second ended.answer
 
-  two : AreSecond (winners_in z) (length rows) (coefficients rows) (bounds rows) den (nth at) (nth first) (nth second) (nth prices) (λ j. pos 1)
-  two = second-of m z len prices can.long rows den at first second ended.answer
+  two : AreSecond (winners_in z) (length rows) (coefficients rows) (bounds rows) den (nth at) (nth first) (nth second) (nth prices) (weight_at (weights_in z weights))
+  two = second-of m z len weights can.weighing prices can.long rows den at first second ended.answer
 
   pub long-at : length at ≡ winners_in z
   long-at = ended.answer.long_at ∙ can.long
@@ -45,17 +46,17 @@ module _ (m : Market) (lawful : IsMarket m) (z : List ℕ) (win : IsWinning m z)
   are-kept = subst (λ k. AllByRecursion (IsKept m z den at) k) (sym is) (kept-each (IsKept m z den at) rows choices first second long (λ i lt u. kept-one i lt u))
     where
       kept-one : (i : ℕ) → i < length rows → is_used (entry rows choices first second i) ≡ true → IsKept m z den at (entry rows choices first second i)
-      kept-one i lt u = let t = tight-used (winners_in z) rows choices first second long den (nth at) one (nth prices) two i lt u in record { given = ended.given i lt; tight = t.0; used = t.1 }
+      kept-one i lt u = let t = tight-used (winners_in z) rows choices first second long den (nth at) one (nth prices) (weight_at (weights_in z weights)) two i lt u in record { given = ended.given i lt; tight = t.0; used = t.1 }
 
   pub are-first : AreFirst (winners_in z) (length kept) (coefficients (rows_in kept)) (bounds (rows_in kept)) den (nth at) (nth (firsts kept))
   are-first = subst (λ k. AreFirst (winners_in z) (length k) (coefficients (rows_in k)) (bounds (rows_in k)) den (nth at) (nth (firsts k))) (sym is) (kept-first (winners_in z) rows choices first second long den (nth at) one)
 
   pub sum-first : SumsTo (winners_in z) (length kept) (coefficients (rows_in kept)) den (nth (firsts kept))
   sum-first = subst (λ k. SumsTo (winners_in z) (length k) (coefficients (rows_in k)) den (nth (firsts k))) (sym is)
-      (λ j lt. first_sum (winners_in z) rows choices first second long den (nth at) j ∙ sums-of m z len prices can.long rows den at first second ended.answer j lt)
+      (λ j lt. first_sum (winners_in z) rows choices first second long den (nth at) j ∙ sums-of m z len weights can.weighing prices can.long rows den at first second ended.answer j lt)
 
-  pub are-second : AreSecond (winners_in z) (length kept) (coefficients (rows_in kept)) (bounds (rows_in kept)) den (nth at) (nth (firsts kept)) (nth (seconds kept)) (nth prices) (λ j. pos 1)
-  are-second = subst (λ k. AreSecond (winners_in z) (length k) (coefficients (rows_in k)) (bounds (rows_in k)) den (nth at) (nth (firsts k)) (nth (seconds k)) (nth prices) (λ j. pos 1)) (sym is) (kept-second (winners_in z) rows choices first second long den (nth at) one (nth prices) two)
+  pub are-second : AreSecond (winners_in z) (length kept) (coefficients (rows_in kept)) (bounds (rows_in kept)) den (nth at) (nth (firsts kept)) (nth (seconds kept)) (nth prices) (weight_at (weights_in z weights))
+  are-second = subst (λ k. AreSecond (winners_in z) (length k) (coefficients (rows_in k)) (bounds (rows_in k)) den (nth at) (nth (firsts k)) (nth (seconds k)) (nth prices) (weight_at (weights_in z weights))) (sym is) (kept-second (winners_in z) rows choices first second long den (nth at) one (nth prices) (weight_at (weights_in z weights)) two)
 
   pub lowest-kept : IsLowest den at (firsts kept) (seconds kept)
   lowest-kept = subst (λ k. IsLowest den at (firsts k) (seconds k)) (sym is) (kept-lowest rows choices first second long den at ended.lowest)

@@ -5,7 +5,7 @@ use Rattle.std.proofs.Common.{sym, arith, subst}
 use Rattle.std.proofs.lemmas.Int.{ints}
 use Rattle.auction_model.specs.Market.{Market}
 use Rattle.auction_model.specs.Lowered.{of_bidder}
-use Rattle.auction_model.specs.Prices.{Point}
+use Rattle.auction_model.specs.Prices.{Point, weight_of}
 use Rattle.auction_model.specs.PricingRun.{IsTurnPoint, MeetsRow, MeetsRows}
 use Rattle.far_num.specs.declared.Row.{Row}
 use Rattle.nearest_point.specs.Problem.{row_at}
@@ -15,6 +15,7 @@ use Rattle.row_laws.specs.Winners.{for_bidders, for_winners, winners_in}
 use Rattle.row_laws.proofs.Blocks.{meets-winners, meets-bidders}
 use Rattle.core_price.specs.Answers.{IsAnswer}
 use Rattle.core_price.specs.Turns.{point_of}
+use Rattle.core_price.specs.Weights.{CanWeigh, weights_in}
 use Rattle.core_price.proofs.Points.{MeetsBits, asks-winners, back-of, least-of, meets, nearest-of}
 
 -- what each row of bits asks, as a list of rows of bidders
@@ -39,11 +40,11 @@ module _ (m : Market) (z : List ℕ) (len : length z ≡ m.bidders) (rows : List
         above = each-to m z len q.den (for_winners z q.at) rows (subst (λ l. AllByRecursion (MeetsRow m (record { den = q.den; at = l })) (map (row_in z) rows)) (sym back) h.each);
       }
 
-  module _ (prices : List ℤ) (some : length prices ≡ winners_in z) (den : ℤ) (at first second : List ℤ) (answer : IsAnswer prices rows den at first second) where
+  module _ (weights : List ℕ) (weighed : CanWeigh m z weights) (prices : List ℤ) (some : length prices ≡ winners_in z) (den : ℤ) (at first second : List ℤ) (answer : IsAnswer prices (weights_in z weights) rows den at first second) where
     -- the answer of a turn is its point
-    pub turn-point : (v : ℕ → ℤ) → ((k : ℕ) → k < m.bidders → v (suc k) ≡ of_bidder (for_bidders z prices) (suc k)) → IsTurnPoint m z v (map (row_in z) rows) (point_of z den at)
+    pub turn-point : (v : ℕ → ℤ) → ((k : ℕ) → k < m.bidders → v (suc k) ≡ of_bidder (for_bidders z prices) (suc k)) → IsTurnPoint m (weight_of weights) z v (map (row_in z) rows) (point_of z den at)
     turn-point v priced =
-        let own = meets m z len prices some rows den at first second answer in
+        let own = meets m z len weights weighed prices some rows den at first second answer in
         let asks = asks-winners m z len den at in
         record {
           meets = record {
@@ -52,6 +53,6 @@ module _ (m : Market) (z : List ℕ) (len : length z ≡ m.bidders) (rows : List
             losers = asks.losers;
             each = each-from m z len den at rows own.above;
           };
-          least = λ q h. least-of m z len prices some rows den at first second answer q (bits-met q h);
-          nearest = λ q h same other. nearest-of m z len prices some rows den at first second answer v priced q (bits-met q h) same other;
+          least = λ q h. least-of m z len weights weighed prices some rows den at first second answer q (bits-met q h);
+          nearest = λ q h same other. nearest-of m z len weights weighed prices some rows den at first second answer v priced q (bits-met q h) same other;
         }

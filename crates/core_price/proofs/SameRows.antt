@@ -58,20 +58,20 @@ each-same m p (x ∷ xs) (y ∷ ys) h met = (one-same m p x y h.0 met.0, each-sa
 meets-same : (m : Market) (z : List ℕ) (p : Point) (xs ys : List Row) → AreSame m xs ys → MeetsRows m z xs p → MeetsRows m z ys p
 meets-same m z p xs ys h met = record { den_positive = met.den_positive; bidders = met.bidders; losers = met.losers; each = each-same m p xs ys h met.each }
 
-point-same : (m : Market) (z : List ℕ) (v : ℕ → ℤ) (p : Point) (xs ys : List Row) → AreSame m xs ys → IsTurnPoint m z v xs p → IsTurnPoint m z v ys p
-point-same m z v p xs ys h t = record {
+point-same : (m : Market) (w : ℕ → ℕ) (z : List ℕ) (v : ℕ → ℤ) (p : Point) (xs ys : List Row) → AreSame m xs ys → IsTurnPoint m w z v xs p → IsTurnPoint m w z v ys p
+point-same m w z v p xs ys h t = record {
   meets = meets-same m z p xs ys h t.meets;
   least = λ q met. t.least q (meets-same m z q ys xs (same-turned m xs ys h) met);
   nearest = λ q met same other. t.nearest q (meets-same m z q ys xs (same-turned m xs ys h) met) same other;
 }
 
-pub go-same : (m : Market) (z : List ℕ) (v : ℕ → ℤ) (xs ys : List Row) (turns : List Turn) → AreSame m xs ys → GoOn m z v xs turns → GoOn m z v ys turns
-go-same m z v xs ys [] h go = go
-go-same m z v xs ys (t ∷ turns) h go =
-    (point-same m z v t.point xs ys h go.0, by t.block (λ b more. go-same m z v (xs ++ b.row ∷ []) (ys ++ b.row ∷ []) turns (same-more m xs ys b.row h) more) go.1)
+pub go-same : (m : Market) (w : ℕ → ℕ) (z : List ℕ) (v : ℕ → ℤ) (xs ys : List Row) (turns : List Turn) → AreSame m xs ys → GoOn m w z v xs turns → GoOn m w z v ys turns
+go-same m w z v xs ys [] h go = go
+go-same m w z v xs ys (t ∷ turns) h go =
+    (point-same m w z v t.point xs ys h go.0, by t.block (λ b more. go-same m w z v (xs ++ b.row ∷ []) (ys ++ b.row ∷ []) turns (same-more m xs ys b.row h) more) go.1)
   where
-    by : (o : Option Block) → ((b : Block) → GoOn m z v (xs ++ b.row ∷ []) turns → GoOn m z v (ys ++ b.row ∷ []) turns)
-        → MatchOption o ((turns ≡ []) × IsGreatestExcess m z t.point (pos 0)) (λ b. IsBlockOf m z t.point b × GoOn m z v (xs ++ b.row ∷ []) turns)
-        → MatchOption o ((turns ≡ []) × IsGreatestExcess m z t.point (pos 0)) (λ b. IsBlockOf m z t.point b × GoOn m z v (ys ++ b.row ∷ []) turns)
+    by : (o : Option Block) → ((b : Block) → GoOn m w z v (xs ++ b.row ∷ []) turns → GoOn m w z v (ys ++ b.row ∷ []) turns)
+        → MatchOption o ((turns ≡ []) × IsGreatestExcess m z t.point (pos 0)) (λ b. IsBlockOf m z t.point b × GoOn m w z v (xs ++ b.row ∷ []) turns)
+        → MatchOption o ((turns ≡ []) × IsGreatestExcess m z t.point (pos 0)) (λ b. IsBlockOf m z t.point b × GoOn m w z v (ys ++ b.row ∷ []) turns)
     by None f r = r
     by (Some b) f r = (r.0, f b r.1)

@@ -11,7 +11,7 @@ use Rattle.auction_model.specs.Market.{Market, uses, value_of, worth_in}
 use Rattle.auction_model.specs.Greatest.{IsFirstGreatest, IsWinning}
 use Rattle.auction_model.specs.Lawful.{IsMarket}
 use Rattle.auction_model.specs.Lowered.{of_bidder}
-use Rattle.auction_model.specs.Prices.{allowed_without, AreVickreyPrices, everyone, IsVickreyPrice, sum_over}
+use Rattle.auction_model.specs.Prices.{allowed_without, AreVickreyPrices, everyone, IsVickreyPrice, sum_over, weight_of}
 use Rattle.auction_model.specs.PricingRun.{Row as BidderRow, single_rows}
 use Rattle.choices.specs.Singles.{AreSingles, IsSingle}
 use Rattle.choices.specs.declared.chooser.Single.{Single}
@@ -26,6 +26,7 @@ use Rattle.row_laws.proofs.Winners.{loser-zero, paid-zip}
 use Rattle.wide_num.specs.Sums.{nth, total}
 use Rattle.core_price.specs.Rows.{prices_of, single_bits}
 use Rattle.core_price.specs.SoFar.{CanTurn, IsSoFar, choice_at}
+use Rattle.core_price.specs.Weights.{CanWeigh, FewWin}
 use Rattle.core_price.proofs.Points.{at-bidder}
 use Rattle.core_price.proofs.SameRows.{AreSame, IsSame, go-same, same-by_place}
 use Rattle.core_price.proofs.Spots.{single-at, singles-count, spot, spot-bit, spot-inside, spot-number, spot-of, spot-winner, spot-wins, winners-count}
@@ -124,16 +125,17 @@ module _ (m : Market) (lawful : IsMarket m) (z : List ℕ) (win : IsWinning m z)
       omega (arith, ints, a, b, c, d, e)
 
   module _ (few : winners_in z ≤ 6) (worth : value_of m z ≤ℤ pos (winners_in z * 2 ^ 42)) where
-    price-low : (i : ℕ) → i < winners_in z → (pos 0 ≤ℤ (single_at singles i).price) × ((single_at singles i).price ≤ℤ pos (2 ^ 46))
+    price-low : (i : ℕ) → i < winners_in z → (pos 0 ≤ℤ (single_at singles i).price) × ((single_at singles i).price ≤ℤ pos (2 ^ 46)) × ((single_at singles i).price ≤ℤ value_of m z)
     price-low i lt =
         let r = price-range m lawful z win (spot z i) (spot-low i lt) (spot-wins z i lt) (single_at singles i).price (price-of i lt) in
         let w = won-low m lawful z win.passed (suc (spot z i)) (omega arith) (let l = spot-low i lt in omega arith) in
-        (r.0, omega (arith, ints, r.1, w.1))
+        (r.0, omega (arith, ints, r.1, w.1), omega (arith, ints, r.1, w.1))
 
-    pub can-turn : m.bidders ≤ 64 → CanTurn m z (prices_of singles)
-    can-turn members = record {
+    pub can-turn : m.bidders ≤ 64 → (weights : List ℕ) → FewWin z weights → CanWeigh m z weights → CanTurn m z (prices_of singles) weights
+    can-turn members weights win_few weighing = record {
       members = members;
-      few = few;
+      few = win_few;
+      weighing = weighing;
       worth = worth;
       long = prices-count;
       vickrey = vickrey;
@@ -141,6 +143,7 @@ module _ (m : Market) (lawful : IsMarket m) (z : List ℕ) (win : IsWinning m z)
         not_negative = λ i lt. (let l : i < winners_in z = omega (arith, lt, prices-count) in let e = price-at i l in let r = (price-low i l).0 in omega (arith, ints, e, r));
         sum = let a = ap (λ n. total n (nth (prices_of singles))) prices-count in let b = total-price in omega (arith, ints, a, b);
       };
+      sum = let a = ap (λ n. total n (nth (prices_of singles))) prices-count in let b = total-price in omega (arith, ints, a, b);
     }
 
     bit-is : (i : ℕ) → i < winners_in z → (j : ℕ) → 0 < j → j ≤ m.bidders → row_of z (2 ^ i) j ≡ (j == suc (spot z i))
@@ -181,8 +184,8 @@ module _ (m : Market) (lawful : IsMarket m) (z : List ℕ) (win : IsWinning m z)
             subst (λ x. IsSame m x (get_or (single_rows v 0 z) i none)) (sym (a ∙ ap (row_in z) (at-start i lt)))
             (subst (λ x. IsSame m (row_in z (record { members = 2 ^ i; bound = (single_at singles i).price })) x) (sym b) (rw e record { bound = p; members = bit-is i lt }))
 
-    pub start : IsSoFar m z (single_bits 0 singles) (map (λ s. s.choice) singles) []
-    start = record {
+    pub start : (weights : List ℕ) → IsSoFar m z weights (single_bits 0 singles) (map (λ s. s.choice) singles) []
+    start weights = record {
       count = let a = rows-count in omega arith;
       long = length-map singles (λ s. s.choice) ∙ sym (bits-count 0 singles);
       given = λ i lt. given i (omega (arith, lt, rows-count));
@@ -191,9 +194,10 @@ module _ (m : Market) (lawful : IsMarket m) (z : List ℕ) (win : IsWinning m z)
         not_negative = λ i lt. (let l : i < winners_in z = omega (arith, lt, rows-count) in let e = ap (λ (r : Row). r.bound) (at-start i l) in let p = price-low i l in omega (arith, ints, e, p.0));
         small = λ i lt. (let l : i < winners_in z = omega (arith, lt, rows-count) in let e = ap (λ (r : Row). r.bound) (at-start i l) in let p = price-low i l in omega (arith, ints, e, p.1));
       };
+      below_value = λ i lt. (let l : i < winners_in z = omega (arith, lt, rows-count) in let e = ap (λ (r : Row). r.bound) (at-start i l) in let p = price-low i l in omega (arith, ints, e, p.2));
       singles = λ j lt. (j, omega (arith, lt, rows-count), ap (λ (r : Row). r.members) (at-start j lt));
       each = tt;
-      run = λ v ps rest go. go-same m z v (map (row_in z) (single_bits 0 singles)) (single_rows v 0 z) rest (same-start v ps) go;
+      run = λ v ps rest go. go-same m (weight_of weights) z v (map (row_in z) (single_bits 0 singles)) (single_rows v 0 z) rest (same-start v ps) go;
     }
       where
         given : (i : ℕ) → i < winners_in z → IsGivenBy m z (row_at (single_bits 0 singles) i) (choice_at (map (λ s. s.choice) singles) i)

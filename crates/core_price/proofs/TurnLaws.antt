@@ -1,5 +1,5 @@
 -- The turns: a block adds a new row, there are at most 2 ^ m turns, and the last point ends the run.
-use Rattle.std.specs.Prelude.{◌≡◌, ◌≢◌, ℕ, suc, ◌^◌, ◌<◌, ◌≤◌, Bool, not, true, false, cond, eqb, List, [], ◌∷◌, ◌++◌, length, map, get_or, ℤ, pos, ◌*ℤ◌, ◌≤ℤ◌, refl}
+use Rattle.std.specs.Prelude.{◌≡◌, ◌≢◌, ℕ, suc, ◌^◌, ◌<◌, ◌≤◌, Bool, not, true, false, cond, eqb, List, [], ◌∷◌, ◌++◌, length, map, get_or, ℤ, pos, ◌*ℤ◌, ◌≤ℤ◌, ◌<ℤ◌, refl}
 use Rattle.std.specs.List.{AllByRecursion, IsDistinct, list_any}
 use Rattle.std.specs.Cmp.{nat_eq_equiv}
 use Rattle.std.specs.declared.option.Option.TheVariants.{Some}
@@ -10,18 +10,18 @@ use Rattle.std.proofs.lemmas.List.{get_or-map, length-map}
 use Rattle.std.proofs.lemmas.Map.Keys.{IsDistinct-push}
 use Rattle.std.proofs.lemmas.Map.Steps.{length-le_from_distinct_below}
 use Rattle.auction_model.proofs.PriceLaws.{vickrey-one}
-use Rattle.auction_model.specs.Market.{Market, worth_in}
+use Rattle.auction_model.specs.Market.{Market, value_of, worth_in}
 use Rattle.auction_model.specs.Greatest.{IsWinning}
 use Rattle.auction_model.specs.Lawful.{IsMarket}
 use Rattle.auction_model.specs.Lowered.{of_bidder}
-use Rattle.auction_model.specs.Prices.{AreVickreyPrices, IsUnblocked}
+use Rattle.auction_model.specs.Prices.{AreVickreyPrices, IsUnblocked, weight_of}
 use Rattle.auction_model.specs.Blocks.{IsGreatestExcess}
 use Rattle.auction_model.specs.PricingRun.{GoOn, Turn as BidderTurn, single_rows}
 use Rattle.blocking.specs.declared.look.Block.{Block}
 use Rattle.blocking.specs.Look.{IsBlock}
 use Rattle.far_num.specs.Members.{holds}
 use Rattle.far_num.specs.declared.Row.{Row}
-use Rattle.nearest_point.specs.Problem.{bounds, coefficients, row_at}
+use Rattle.nearest_point.specs.Problem.{AreOnes, AreWeights, IsNarrow, bounds, coefficients, row_at}
 use Rattle.nearest_point.proofs.Bits.{dot_single, holds_nonneg}
 use Rattle.nearest_point.proofs.Places.{lt_or}
 use Rattle.point_laws.proofs.Order.{mul_nonneg, cancel_nonneg}
@@ -36,6 +36,7 @@ use Rattle.core_price.specs.Answers.{CanSolve, IsAnswer}
 use Rattle.core_price.specs.Lowest.{IsLowest}
 use Rattle.core_price.specs.SoFar.{CanTurn, HasEnded, IsSoFar, choice_at}
 use Rattle.core_price.specs.Turns.{IsPointOfTurn, last_turn, point_of, turn_of, turns_of}
+use Rattle.core_price.specs.Weights.{WeighAlike, weights_in}
 use Rattle.core_price.specs.declared.priced.Turn.{Turn}
 use Rattle.core_price.proofs.Points.{meets}
 use Rattle.core_price.proofs.Runs.{turn-point}
@@ -66,8 +67,8 @@ bits-are : (rows : List Row) (i : ℕ) → i < length rows → get_or (map (λ r
 bits-are rows i lt = get_or-map (λ r. r.members) rows i (record { members = 0; bound = pos 0 }) 0 lt
 
 -- there is room for one turn more: no set is empty, and no two rows have the same set
-pub turns-few : (m : Market) (z : List ℕ) (rows : List Row) (choices : List (List ℕ)) (past : List Turn) → IsSoFar m z rows choices past → length past < 2 ^ winners_in z
-turns-few m z rows choices past far = by (cases_eq (winners_in z) 0)
+pub turns-few : (m : Market) (z weights : List ℕ) (rows : List Row) (choices : List (List ℕ)) (past : List Turn) → IsSoFar m z weights rows choices past → length past < 2 ^ winners_in z
+turns-few m z weights rows choices past far = by (cases_eq (winners_in z) 0)
   where
     set : (i : ℕ) → i < length (map (λ r. r.members) rows) → (0 < get_or (map (λ r. r.members) rows) i 0) × (get_or (map (λ r. r.members) rows) i 0 < 2 ^ winners_in z)
     set i lt = let l = length-map rows (λ r. r.members) in let k : i < length rows = omega arith in rw (bits-are rows i k) ((far.given i k).members)
@@ -86,18 +87,31 @@ turns-few m z rows choices past far = by (cases_eq (winners_in z) 0)
         omega (arith, far.count, p, q)
     by (inr d) = let l = length-map rows (λ r. r.members) in omega (arith, below, far.count, d)
 
-pub can-solve : (m : Market) (z : List ℕ) (prices : List ℤ) → CanTurn m z prices → (rows : List Row) (choices : List (List ℕ)) (past : List Turn) → IsSoFar m z rows choices past → CanSolve prices rows
-can-solve m z prices can rows choices past far = record {
-  few = omega (arith, can.few, can.long);
+pub can-solve : (m : Market) (z : List ℕ) (prices : List ℤ) (weights : List ℕ) → CanTurn m z prices weights → (rows : List Row) (choices : List (List ℕ)) (past : List Turn) → IsSoFar m z weights rows choices past → CanSolve prices (weights_in z weights) rows
+can-solve m z prices weights can rows choices past far = record {
+  few = omega (arith, can.few.0, can.long);
+  weighed = subst (λ n. AreWeights n (weights_in z weights)) (sym can.long) can.weighing.own;
   members = λ i lt. subst (λ w. (0 < (row_at rows i).members) × ((row_at rows i).members < 2 ^ w)) (sym can.long) ((far.given i lt).members);
   singles = λ j lt. far.singles j (omega (arith, can.long));
   targets = can.targets;
   row_bounds = far.row_bounds;
+  sizes = by can.few.1;
 }
+  where
+    narrow : winners_in z ≤ 4 → IsNarrow prices rows
+    narrow four = record {
+      few = omega (arith, four, can.long);
+      sum = let s = can.sum in let w = can.worth in omega (arith, ints, s, w, four);
+      small = λ i lt. (let s = far.below_value i lt in let w = can.worth in omega (arith, ints, s, w, four));
+    }
+
+    by : WeighAlike z weights ⊎ (winners_in z ≤ 4) → AreOnes (length prices) (weights_in z weights) ⊎ IsNarrow prices rows
+    by (inl ones) = inl (subst (λ n. AreOnes n (weights_in z weights)) (sym can.long) ones)
+    by (inr four) = inr (narrow four)
 
 -- a turn with its answer
-module _ (m : Market) (lawful : IsMarket m) (z : List ℕ) (win : IsWinning m z) (prices : List ℤ) (can : CanTurn m z prices) (rows : List Row) (choices : List (List ℕ)) (past : List Turn) (far : IsSoFar m z rows choices past)
-    (den : ℤ) (at first second : List ℤ) (answer : IsAnswer prices rows den at first second) where
+module _ (m : Market) (lawful : IsMarket m) (z : List ℕ) (win : IsWinning m z) (prices : List ℤ) (weights : List ℕ) (can : CanTurn m z prices weights) (rows : List Row) (choices : List (List ℕ)) (past : List Turn) (far : IsSoFar m z weights rows choices past)
+    (den : ℤ) (at first second : List ℤ) (answer : IsAnswer prices (weights_in z weights) rows den at first second) where
   len : length z ≡ m.bidders
   len = lawful.lengths z win.passed
 
@@ -105,7 +119,7 @@ module _ (m : Market) (lawful : IsMarket m) (z : List ℕ) (win : IsWinning m z)
   den-positive = let p = answer.meets.positive in omega (arith, ints)
 
   above : (i : ℕ) → i < length rows → (den *ℤ bounds rows i) ≤ℤ dot (winners_in z) (coefficients rows i) (nth at)
-  above = (meets m z len prices can.long rows den at first second answer).above
+  above = (meets m z len weights can.weighing prices can.long rows den at first second answer).above
 
   priced : (v : ℕ → ℤ) → AreVickreyPrices m z v → (k : ℕ) → k < m.bidders → v (suc k) ≡ of_bidder (for_bidders z prices) (suc k)
   priced v ps k lt = vickrey-one m z (suc k) (v (suc k)) (of_bidder (for_bidders z prices) (suc k)) (ps (suc k) (omega arith) (omega arith)) (can.vickrey (suc k) (omega arith) (omega arith))
@@ -128,7 +142,7 @@ module _ (m : Market) (lawful : IsMarket m) (z : List ℕ) (win : IsWinning m z)
       (any-none (map (λ r. r.members) rows) b.row.members (λ i lt e. (let l = length-map rows (λ r. r.members) in let k : i < length rows = omega arith in row-new b block i k (sym (bits-are rows i k) ∙ e)))))
 
   -- the bound of a block's row lies between 0 and the worth of the winners
-  bound-range : (b : Block) → IsBlock m z den (for_bidders z at) b → (pos 0 ≤ℤ b.row.bound) × (b.row.bound ≤ℤ pos (2 ^ 46))
+  bound-range : (b : Block) → IsBlock m z den (for_bidders z at) b → (pos 0 ≤ℤ b.row.bound) × (b.row.bound ≤ℤ pos (2 ^ 46)) × (b.row.bound ≤ℤ value_of m z)
   bound-range b block =
       let e = excess-row m z len den at b.row.members b.choice in
       let r = block.block.taken.reached in
@@ -141,17 +155,21 @@ module _ (m : Market) (lawful : IsMarket m) (z : List ℕ) (win : IsWinning m z)
       let n = total-nonneg m.bidders (λ k. cond (not (row_of z b.row.members (suc k))) (worth_in m z (suc k)) (pos 0)) (λ k lt. part (not (row_of z b.row.members (suc k))) (worth_in m z (suc k)) (won-low m lawful z win.passed (suc k) (omega arith) (omega arith)).0) in
       let is = block.block.bound in
       let w = can.worth in
-      let f = can.few in
-      (low, omega (arith, ints))
+      let f = can.few.0 in
+      (low, omega (arith, ints), omega (arith, ints))
     where
       part : (b : Bool) (x : ℤ) → pos 0 ≤ℤ x → pos 0 ≤ℤ (cond b x (pos 0))
       part true x h = h
       part false x h = omega (arith, ints)
 
-  point-of-turn : (b : Block) → IsBlock m z den (for_bidders z at) b → IsPointOfTurn z (record { den = den; at = at; block = Some b })
+  of-ones : WeighAlike z weights → den <ℤ pos (2 ^ 32)
+  of-ones ones = answer.den_of_ones (subst (λ n. AreOnes n (weights_in z weights)) (sym can.long) ones)
+
+  point-of-turn : (b : Block) → IsBlock m z den (for_bidders z at) b → IsPointOfTurn z weights (record { den = den; at = at; block = Some b })
   point-of-turn b block = record {
     den_positive = den-positive;
     den_small = answer.small_den;
+    den_of_ones = of-ones;
     winners = answer.long_at ∙ can.long;
     not_negative = at-nonneg;
     excess = let x = block.block.some in omega (arith, ints);
@@ -159,17 +177,18 @@ module _ (m : Market) (lawful : IsMarket m) (z : List ℕ) (win : IsWinning m z)
 
   -- one turn more
   pub next : (b : Block) → IsBlock m z den (for_bidders z at) b → (turn : Turn) → turn ≡ record { den = den; at = at; block = Some b }
-      → IsSoFar m z (rows ++ b.row ∷ []) (choices ++ b.choice ∷ []) (past ++ turn ∷ [])
+      → IsSoFar m z weights (rows ++ b.row ∷ []) (choices ++ b.choice ∷ []) (past ++ turn ∷ [])
   next b block turn is = record {
     count = let l = length-append rows (b.row ∷ []) in let k = length-append past (turn ∷ []) in let c = far.count in omega arith;
     long = let l = length-append rows (b.row ∷ []) in let k = length-append choices (b.choice ∷ []) in let c = far.long in omega arith;
     given = λ i lt. row i (inside i lt);
     distinct = still-distinct b block;
     row_bounds = record { not_negative = λ i lt. (limit i (inside i lt)).0; small = λ i lt. (limit i (inside i lt)).1 };
+    below_value = λ i lt. (limit i (inside i lt)).2;
     singles = λ j lt. (let q = far.singles j lt in (q.0, let l = length-append rows (b.row ∷ []) in omega (arith, q.1), ap (λ (x : Row). x.members) (old q.0 q.1) ∙ q.2));
-    each = all-push (IsPointOfTurn z) past turn far.each (subst (IsPointOfTurn z) (sym is) (point-of-turn b block));
-    run = λ v ps rest go. subst (λ l. GoOn m z v (single_rows v 0 z) l) (turns-more rest)
-        (far.run v ps (turn_of z turn ∷ rest) (rw is (turn-point m z len rows prices can.long den at first second answer v (priced v ps), (block.block, subst (λ l. GoOn m z v l rest) (map-append (row_in z) rows (b.row ∷ [])) go))));
+    each = all-push (IsPointOfTurn z weights) past turn far.each (subst (IsPointOfTurn z weights) (sym is) (point-of-turn b block));
+    run = λ v ps rest go. subst (λ l. GoOn m (weight_of weights) z v (single_rows v 0 z) l) (turns-more rest)
+        (far.run v ps (turn_of z turn ∷ rest) (rw is (turn-point m z len rows weights can.weighing prices can.long den at first second answer v (priced v ps), (block.block, subst (λ l. GoOn m (weight_of weights) z v l rest) (map-append (row_in z) rows (b.row ∷ [])) go))));
   }
     where
       inside : (i : ℕ) → i < length (rows ++ b.row ∷ []) → (i < length rows) ⊎ (i ≡ length rows)
@@ -192,24 +211,24 @@ module _ (m : Market) (lawful : IsMarket m) (z : List ℕ) (win : IsWinning m z)
           let c : choice_at (choices ++ b.choice ∷ []) i ≡ b.choice = ap (λ k. choice_at (choices ++ b.choice ∷ []) k) (e ∙ sym far.long) ∙ get_or-append_seam choices b.choice [] [] in
           subst (λ (x : Row). IsGivenBy m z x (choice_at (choices ++ b.choice ∷ []) i)) (sym (new i e)) (subst (λ f. IsGivenBy m z b.row f) (sym c) (block-row m z (point_of z den at) den-positive b.choice b.row b.excess block.block.taken block.members block.block.bound))
 
-      limit : (i : ℕ) → (i < length rows) ⊎ (i ≡ length rows) → (pos 0 ≤ℤ bounds (rows ++ b.row ∷ []) i) × (bounds (rows ++ b.row ∷ []) i ≤ℤ pos (2 ^ 46))
-      limit i (inl lt) = subst (λ (x : Row). (pos 0 ≤ℤ x.bound) × (x.bound ≤ℤ pos (2 ^ 46))) (sym (old i lt)) (far.row_bounds.not_negative i lt, far.row_bounds.small i lt)
-      limit i (inr e) = subst (λ (x : Row). (pos 0 ≤ℤ x.bound) × (x.bound ≤ℤ pos (2 ^ 46))) (sym (new i e)) (bound-range b block)
+      limit : (i : ℕ) → (i < length rows) ⊎ (i ≡ length rows) → (pos 0 ≤ℤ bounds (rows ++ b.row ∷ []) i) × (bounds (rows ++ b.row ∷ []) i ≤ℤ pos (2 ^ 46)) × (bounds (rows ++ b.row ∷ []) i ≤ℤ value_of m z)
+      limit i (inl lt) = subst (λ (x : Row). (pos 0 ≤ℤ x.bound) × (x.bound ≤ℤ pos (2 ^ 46)) × (x.bound ≤ℤ value_of m z)) (sym (old i lt)) (far.row_bounds.not_negative i lt, far.row_bounds.small i lt, far.below_value i lt)
+      limit i (inr e) = subst (λ (x : Row). (pos 0 ≤ℤ x.bound) × (x.bound ≤ℤ pos (2 ^ 46)) × (x.bound ≤ℤ value_of m z)) (sym (new i e)) (bound-range b block)
 
   -- the last turn ends the run
-  pub ends : IsLowest den at first second → IsUnblocked m z (point_of z den at) → HasEnded m z prices rows choices (past ++ last_turn den at ∷ []) den at first second
+  pub ends : IsLowest den at first second → IsUnblocked m z (point_of z den at) → HasEnded m z prices weights rows choices (past ++ last_turn den at ∷ []) den at first second
   ends lowest free = record {
     long = far.long;
     given = far.given;
     answer = answer;
     not_negative = at-nonneg;
     lowest = lowest;
-    each = all-push (IsPointOfTurn z) past (last_turn den at) far.each (record { den_positive = den-positive; den_small = answer.small_den; winners = answer.long_at ∙ can.long; not_negative = at-nonneg; excess = tt });
-    few_turns = let l = length-append past (last_turn den at ∷ []) in let t = turns-few m z rows choices past far in omega arith;
+    each = all-push (IsPointOfTurn z weights) past (last_turn den at) far.each (record { den_positive = den-positive; den_small = answer.small_den; den_of_ones = of-ones; winners = answer.long_at ∙ can.long; not_negative = at-nonneg; excess = tt });
+    few_turns = let l = length-append past (last_turn den at ∷ []) in let t = turns-few m z weights rows choices past far in omega arith;
     last = (past, refl);
     free = free;
-    run = λ v ps. subst (λ l. GoOn m z v (single_rows v 0 z) l) (sym (map-append (turn_of z) past (last_turn den at ∷ [])))
-        (far.run v ps (turn_of z (last_turn den at) ∷ []) (turn-point m z len rows prices can.long den at first second answer v (priced v ps), (refl, none)));
+    run = λ v ps. subst (λ l. GoOn m (weight_of weights) z v (single_rows v 0 z) l) (sym (map-append (turn_of z) past (last_turn den at ∷ [])))
+        (far.run v ps (turn_of z (last_turn den at) ∷ []) (turn-point m z len rows weights can.weighing prices can.long den at first second answer v (priced v ps), (refl, none)));
   }
     where
       none : IsGreatestExcess m z (point_of z den at) (pos 0)

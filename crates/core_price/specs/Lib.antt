@@ -5,3 +5,4 @@ pub mod Rows
 pub mod SoFar
 pub mod Stops
 pub mod Turns
+pub mod Weights

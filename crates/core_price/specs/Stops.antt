@@ -1,9 +1,11 @@
 -- Why there are no prices.
-use Rattle.std.specs.Prelude.{◌≡◌, ℕ, ◌<◌, ◌≤◌}
+use Rattle.std.specs.Prelude.{◌≡◌, ℕ, List}
+use Rattle.core_price.specs.Weights.{FewWin, ManyWin}
+use Rattle.row_laws.specs.Winners.{winners_in}
 use Rattle.core_price.specs.declared.priced.PriceStop.{PriceStop}
 use Rattle.core_price.specs.declared.priced.PriceStop.TheVariants.{Winners, Memory}
 
--- more than six win, so many; or memory is wanting, and no more than six win
-abbrev pub IsStop : ℕ → PriceStop → Type 0
-IsStop winners (Winners n) = (6 < winners) × (n ≡ winners)
-IsStop winners Memory = winners ≤ 6
+-- too many win, so many; or memory is wanting, and few enough win
+abbrev pub IsStop : List ℕ → List ℕ → PriceStop → Type 0
+IsStop z weights (Winners n) = ManyWin z weights × (n ≡ winners_in z)
+IsStop z weights Memory = FewWin z weights

@@ -7,6 +7,7 @@ use Rattle.auction_model.specs.PricingRun.{Turn as BidderTurn}
 use Rattle.blocking.specs.Look.{block_of}
 use Rattle.row_laws.specs.Winners.{for_bidders, winners_in}
 use Rattle.wide_num.specs.Sums.{nth}
+use Rattle.core_price.specs.Weights.{WeighAlike}
 use Rattle.core_price.specs.declared.priced.Turn.{Turn}
 
 -- the payments of the winners, in order, as payments of all bidders
@@ -27,10 +28,12 @@ last_turn den at = record { den = den; at = at; block = None }
 abbrev pub EndsWith : List Turn → Turn → Type 0
 EndsWith turns last = (past : List Turn) × (turns ≡ past ++ last ∷ [])
 
--- a payment for each winner, none below 0, over a denominator below 2^32; the excess of a block isn't below 0
-pub record IsPointOfTurn (z : List ℕ) (t : Turn) : Type 0 where
+-- A payment for each winner, none below 0, over a small denominator, which is below 2^32 where all winners weigh 1. The excess
+-- of a block isn't below 0.
+pub record IsPointOfTurn (z weights : List ℕ) (t : Turn) : Type 0 where
   pub den_positive : pos 1 ≤ℤ t.den
-  pub den_small : t.den <ℤ pos (2 ^ 32)
+  pub den_small : t.den ≤ℤ pos (320 ^ 4)
+  pub den_of_ones : WeighAlike z weights → t.den <ℤ pos (2 ^ 32)
   pub winners : length t.at ≡ winners_in z
   pub not_negative : (i : ℕ) → i < winners_in z → pos 0 ≤ℤ nth t.at i
   pub excess : IfSome t.block (λ b. pos 0 ≤ℤ b.excess)

@@ -14,6 +14,7 @@ ghost use Rattle.std.specs.Prelude.{IfOk, [], length, ◌≡◌, ◌++◌};
 
 use crate::reduce::reduced;
 use crate::start::Asked;
+use crate::weights::winner_weights;
 use crate::{Turn, TurnList};
 use blocking::{Looked, find_block};
 use choices::{Choice, Chooser, Found};
@@ -36,11 +37,12 @@ pub(crate) fn take_turns<C: Chooser>(
     alloc: Global,
     chooser: &C,
     prices: &[i128],
+    weights: &[u32],
     asked: Asked,
 ) -> Result<Ended<C::Table>, AllocError>
-    requires can { CanTurn (C.market chooser.now) (C.chosen chooser.now) prices.now }
-    requires start { IsSoFar (C.market chooser.now) (C.chosen chooser.now) asked.rows.items asked.choices.items [] }
-    ensures ended { IfOk result (λ e. HasEnded (C.market chooser.now) (C.chosen chooser.now) prices.now e.asked.rows.items e.asked.choices.items e.turns e.near.den e.near.at e.near.first e.near.second) }
+    requires can { CanTurn (C.market chooser.now) (C.chosen chooser.now) prices.now weights.now }
+    requires start { IsSoFar (C.market chooser.now) (C.chosen chooser.now) weights.now asked.rows.items asked.choices.items [] }
+    ensures ended { IfOk result (λ e. HasEnded (C.market chooser.now) (C.chosen chooser.now) prices.now weights.now e.asked.rows.items e.asked.choices.items e.turns e.near.den e.near.at e.near.first e.near.second) }
     ensures rows { IfOk result (λ e. e.asked.rows.items ≡ asked.rows.items ++ block_rows e.turns) }
     ensures choices { IfOk result (λ e. e.asked.choices.items ≡ asked.choices.items ++ block_choices e.turns) }
     ensures found { IfOk result (λ e. IsFound (C.market chooser.now) (C.chosen chooser.now) e.near.den (Winners.for_bidders (C.chosen chooser.now) e.near.at) e.last.choice e.last.sum) }
@@ -50,9 +52,10 @@ pub(crate) fn take_turns<C: Chooser>(
         mut rows,
         mut choices,
     } = asked;
+    let own = winner_weights(alloc, chooser.winners(), weights)?;
     let mut turns = TurnList::new(alloc);
     'turns: loop {
-        let near = turn_point(alloc, prices, &rows)?;
+        let near = turn_point(alloc, prices, &own, &rows)?;
         let at = for_bidders(alloc, chooser.winners(), near.at.items())?;
         match find_block(alloc, chooser, near.den, &at)? {
             Looked::Free(last) => {
@@ -84,9 +87,14 @@ pub(crate) fn take_turns<C: Chooser>(
 }
 
 // The point of a turn with its multipliers, over the least denominator.
-fn turn_point(alloc: Global, prices: &[i128], rows: &[Row]) -> Result<Nearest, AllocError>
-    requires { CanSolve prices.now rows.now }
-    ensures answer { IfOk result (λ p. IsAnswer prices.now rows.now p.den p.at p.first p.second) }
+fn turn_point(
+    alloc: Global,
+    prices: &[i128],
+    weights: &[u32],
+    rows: &[Row],
+) -> Result<Nearest, AllocError>
+    requires { CanSolve prices.now weights.now rows.now }
+    ensures answer { IfOk result (λ p. IsAnswer prices.now weights.now rows.now p.den p.at p.first p.second) }
     ensures lowest { IfOk result (λ p. IsLowest p.den p.at p.first p.second) }
 {
     if prices.is_empty() {
@@ -97,8 +105,7 @@ fn turn_point(alloc: Global, prices: &[i128], rows: &[Row]) -> Result<Nearest, A
             second: NumList::new(alloc),
         });
     }
-    let weights = vec![in alloc; 1u32; prices.len()]?;
-    let near = nearest(alloc, prices, &weights, rows)?;
+    let near = nearest(alloc, prices, weights, rows)?;
     reduced(alloc, near)
 }
 
