@@ -6,13 +6,14 @@ use Rattle.std.proofs.lemmas.Int.{ints}
 use Rattle.auction_model.specs.Market.{uses}
 use Rattle.auction_model.specs.Lowered.{of_bidder}
 use Rattle.auction_model.specs.Book.{Book, market_of}
-use Rattle.auction_model.specs.Prices.{Point, sum_over, everyone, IsCorePoint, AreVickreyPrices, IsLeastSum, IsNearest, square_distance}
+use Rattle.auction_model.specs.Prices.{Point, AreWeights, sum_over, everyone, IsCorePoint, AreVickreyPrices, IsLeastSum, IsNearest, share, square_distance}
 use Rattle.auction_model.proofs.PriceLaws.{vickrey-one}
 use Rattle.wide_num.specs.Sums.{total, dot}
 use Rattle.wide_num.proofs.Sums.{total-same, total-zero}
 use Rattle.point_laws.specs.Points.{SamePoint, square_distance as distance_to}
 use Rattle.point_laws.specs.Multipliers.{AreFirst, AreSecond, AreShares, SumsToOrStands}
 use Rattle.point_laws.proofs.PointLaws.{least, nearest}
+use Rattle.point_laws.proofs.Shares.{share-positive, share-whole}
 use Rattle.row_laws.proofs.Sums.{over-is}
 use Rattle.cert_form.specs.Certificate.{CertValue, is_member, row_of}
 use Rattle.cert_laws.specs.Tests.{bidders_of, C1, C5, C6, C7, C8, vickrey_of}
@@ -30,31 +31,32 @@ first c i = (row_of c.rows (suc i)).first
 abbrev pub second : CertValue → ℕ → ℤ
 second c i = (row_of c.rows (suc i)).second
 
--- every coordinate weighs 1
-abbrev pub once : ℕ → ℤ
-once j = pos 1
-
 pub everyone-is : (f : ℕ → ℤ) (n : ℕ) → sum_over everyone f n ≡ total n (λ j. f (suc j))
 everyone-is f n = over-is everyone f n
 
-pub distance-is : (book : Book) (v : ℕ → ℤ) (p : Point) → square_distance (market_of book) v p ≡ distance_to (bidders_of book) once (λ j. v (suc j)) p.den (from_zero p)
-distance-is book v p =
-    let square : ℕ → ℤ = λ j. (of_bidder p.at j -ℤ (p.den *ℤ v j)) *ℤ (of_bidder p.at j -ℤ (p.den *ℤ v j)) in
-    everyone-is square (bidders_of book)
-    ∙ total-same (bidders_of book) (λ j. square (suc j)) (λ j. pos 1 *ℤ square (suc j)) (λ j lt. one (square (suc j)))
-  where
-    one : (x : ℤ) → x ≡ pos 1 *ℤ x
-    one x = omega (arith, ints)
+-- the weight of a coordinate, and its share
+abbrev pub weight_from : (ℕ → ℕ) → ℕ → ℤ
+weight_from w j = pos (w (suc j))
 
-pub shares : (n : ℕ) → AreShares n (pos 1) once once
-shares n = record { not_negative = omega (arith, ints); positive = λ j lt. omega (arith, ints); whole = λ j lt. omega (arith, ints) }
+abbrev pub share_from : (ℕ → ℕ) → ℕ → ℤ
+share_from w j = share (w (suc j))
+
+pub distance-is : (book : Book) (w : ℕ → ℕ) (v : ℕ → ℤ) (p : Point) → square_distance (market_of book) w v p ≡ distance_to (bidders_of book) (share_from w) (λ j. v (suc j)) p.den (from_zero p)
+distance-is book w v p = everyone-is (λ j. share (w j) *ℤ ((of_bidder p.at j -ℤ (p.den *ℤ v j)) *ℤ (of_bidder p.at j -ℤ (p.den *ℤ v j)))) (bidders_of book)
+
+pub shares : (book : Book) (w : ℕ → ℕ) → AreWeights (market_of book) w → AreShares (bidders_of book) (pos 232792560) (share_from w) (weight_from w)
+shares book w are = record {
+  not_negative = omega (arith, ints);
+  positive = λ j lt. (let h = are (suc j) (omega arith) (omega (arith, lt)) in share-positive (w (suc j)) h.0 h.1);
+  whole = λ j lt. (let h = are (suc j) (omega arith) (omega (arith, lt)) in share-whole (w (suc j)) h.0 h.1);
+}
 
 -- points that are the same from 1 are the same from 0
 pub same-from_zero : (book : Book) (p q : Point) → SamePoint (bidders_of book) p.den (from_zero p) q.den (from_zero q) → (j : ℕ) → 0 < j → j ≤ bidders_of book → q.den *ℤ of_bidder p.at j ≡ p.den *ℤ of_bidder q.at j
 same-from_zero book p q same zero some le = absurd (omega (arith, some))
 same-from_zero book p q same (suc j) some le = sym (same j (omega (arith, le)))
 
-module _ (book : Book) (c : CertValue) (h1 : (place : ℕ) → C1 c place) (h5 : (place : ℕ) → C5 book c place) (h6 : (place : ℕ) → C6 book c place) (h7 : (place : ℕ) → C7 book c place) where
+module _ (book : Book) (w : ℕ → ℕ) (are : AreWeights (market_of book) w) (c : CertValue) (h1 : (place : ℕ) → C1 c place) (h5 : (place : ℕ) → C5 book c place) (h6 : (place : ℕ) → C6 book c place) (h7 : (place : ℕ) → C7 book c place) where
   firsts : AreFirst (bidders_of book) (length c.rows) (coefficient c.rows) (bound book c) c.den (from_zero (cert_point c)) (first c)
   firsts = record {
     positive = (let p = (h1 1).den refl in omega (arith, ints, p));
@@ -83,25 +85,25 @@ module _ (book : Book) (c : CertValue) (h1 : (place : ℕ) → C1 c place) (h5 :
       omega (arith, ints, l, a, b)
 
   -- prices that agree with those of the parts at winners and are 0 for losers
-  module _ (v : ℕ → ℤ) (won_at : (j : ℕ) → 0 < j → j ≤ bidders_of book → IsTrue (uses c.choice j) → v j ≡ vickrey_of book c j) (lost_at : (j : ℕ) → 0 < j → j ≤ bidders_of book → IsFalse (uses c.choice j) → v j ≡ pos 0) (h8 : (place : ℕ) → C8 book c place) where
-    second-winner : (j : ℕ) → j < bidders_of book → IsTrue (uses c.choice (suc j)) → dot (length c.rows) (second c) (λ i. coefficient c.rows i j) ≡ of_bidder c.pay (suc j) -ℤ c.den *ℤ v (suc j)
+  module _ (v : ℕ → ℤ) (won_at : (j : ℕ) → 0 < j → j ≤ bidders_of book → IsTrue (uses c.choice j) → v j ≡ vickrey_of book c j) (lost_at : (j : ℕ) → 0 < j → j ≤ bidders_of book → IsFalse (uses c.choice j) → v j ≡ pos 0) (h8 : (place : ℕ) → C8 book w c place) where
+    second-winner : (j : ℕ) → j < bidders_of book → IsTrue (uses c.choice (suc j)) → weight_from w j *ℤ dot (length c.rows) (second c) (λ i. coefficient c.rows i j) ≡ of_bidder c.pay (suc j) -ℤ c.den *ℤ v (suc j)
     second-winner j lt wins =
         let k = (h8 (length c.rows + suc j)).columns (suc j) (omega arith) (omega (arith, lt)) refl wins in
-        let s = holding-is c.rows j (λ row. row.second) (length c.rows) in
+        let s = ap (λ (z : ℤ). weight_from w j *ℤ z) (holding-is c.rows j (λ row. row.second) (length c.rows)) in
         let p : c.den *ℤ v (suc j) ≡ c.den *ℤ vickrey_of book c (suc j) = ap (λ (z : ℤ). c.den *ℤ z) (won_at (suc j) (omega arith) (omega (arith, lt)) wins) in
         omega (arith, ints, k, s, p)
 
-    second-loser : (j : ℕ) → j < bidders_of book → IsFalse (uses c.choice (suc j)) → dot (length c.rows) (second c) (λ i. coefficient c.rows i j) ≡ of_bidder c.pay (suc j) -ℤ c.den *ℤ v (suc j)
+    second-loser : (j : ℕ) → j < bidders_of book → IsFalse (uses c.choice (suc j)) → weight_from w j *ℤ dot (length c.rows) (second c) (λ i. coefficient c.rows i j) ≡ of_bidder c.pay (suc j) -ℤ c.den *ℤ v (suc j)
     second-loser j lt loses =
         let n = (h5 (suc j)).loser (omega arith) (omega (arith, lt)) loses in
         let p = times_zero c.den (v (suc j)) (lost_at (suc j) (omega arith) (omega (arith, lt)) loses) in
-        let s = total-zero (length c.rows) (λ i. second c i *ℤ coefficient c.rows i j) (λ i li. times_one (is_member (row_of c.rows (suc i)).members (suc j)) (second c i) ∙ ap (λ (b : Bool). cond b (second c i) (pos 0)) (not_held i li)) in
+        let s = times_zero (weight_from w j) (dot (length c.rows) (second c) (λ i. coefficient c.rows i j)) (total-zero (length c.rows) (λ i. second c i *ℤ coefficient c.rows i j) (λ i li. times_one (is_member (row_of c.rows (suc i)).members (suc j)) (second c i) ∙ ap (λ (b : Bool). cond b (second c i) (pos 0)) (not_held i li))) in
         omega (arith, ints, n, p, s)
       where
         not_held : (i : ℕ) → i < length c.rows → is_member (row_of c.rows (suc i)).members (suc j) ≡ false
         not_held i li = false_from_ne_true (is_member (row_of c.rows (suc i)).members (suc j)) (λ member. false≢true (sym loses ∙ (row-at book c h6 i li).winners (suc j) member))
 
-    seconds : AreSecond (bidders_of book) (length c.rows) (coefficient c.rows) (bound book c) c.den (from_zero (cert_point c)) (first c) (second c) (λ j. v (suc j)) once
+    seconds : AreSecond (bidders_of book) (length c.rows) (coefficient c.rows) (bound book c) c.den (from_zero (cert_point c)) (first c) (second c) (λ j. v (suc j)) (weight_from w)
     seconds = record {
       sign = λ i lt z. elim ((h8 (suc i)).sign (omega arith) (omega (arith, lt))) [
         | inl above ↦ absurd (omega (arith, ints, above, z))
@@ -109,28 +111,25 @@ module _ (book : Book) (c : CertValue) (h1 : (place : ℕ) → C1 c place) (h5 :
       ];
       tight = λ i lt _. tight book c h6 i lt;
       sums = λ j lt. elim (cases_Bool (uses c.choice (suc j))) [
-        | inl wins ↦ once_is (second-winner j lt wins)
-        | inr loses ↦ once_is (second-loser j lt loses)
+        | inl wins ↦ second-winner j lt wins
+        | inr loses ↦ second-loser j lt loses
       ];
     }
-      where
-        once_is : {x y : ℤ} → x ≡ y → pos 1 *ℤ x ≡ y
-        once_is e = omega (arith, ints, e)
 
-    nearest_to : IsNearest (market_of book) c.choice v (cert_point c)
+    nearest_to : IsNearest (market_of book) w c.choice v (cert_point c)
     nearest_to q point same other =
         let n = bidders_of book in
         let p = cert_point c in
         let totals : c.den *ℤ total n (from_zero q) ≡ q.den *ℤ total n (from_zero p) =
         ap (λ (z : ℤ). c.den *ℤ z) (sym (everyone-is (of_bidder q.at) n)) ∙ sym same ∙ ap (λ (z : ℤ). q.den *ℤ z) (everyone-is (of_bidder c.pay) n) in
-        let far = nearest n (length c.rows) (coefficient c.rows) (bound book c) c.den (from_zero p) (first c) (second c) (λ j. v (suc j)) once (pos 1) once firsts seconds (shares n) q.den (from_zero q)
+        let far = nearest n (length c.rows) (coefficient c.rows) (bound book c) c.den (from_zero p) (first c) (second c) (λ j. v (suc j)) (weight_from w) (pos 232792560) (share_from w) firsts seconds (shares book w are) q.den (from_zero q)
         (meets book c h6 q point, sums q point) totals (λ all. other (same-from_zero book p q all)) in
-        let a = ap (λ (z : ℤ). (q.den *ℤ q.den) *ℤ z) (distance-is book v p) in
-        let b = ap (λ (z : ℤ). (c.den *ℤ c.den) *ℤ z) (distance-is book v q) in
+        let a = ap (λ (z : ℤ). (q.den *ℤ q.den) *ℤ z) (distance-is book w v p) in
+        let b = ap (λ (z : ℤ). (c.den *ℤ c.den) *ℤ z) (distance-is book w v q) in
         omega (arith, ints, far, a, b)
 
   -- the Vickrey prices are those of the parts
-  pub nearest_point : ((place : ℕ) → C8 book c place) → AreVickreyPrices (market_of book) c.choice (cert_prices book c) → (v : ℕ → ℤ) → AreVickreyPrices (market_of book) c.choice v → IsNearest (market_of book) c.choice v (cert_point c)
+  pub nearest_point : ((place : ℕ) → C8 book w c place) → AreVickreyPrices (market_of book) c.choice (cert_prices book c) → (v : ℕ → ℤ) → AreVickreyPrices (market_of book) c.choice v → IsNearest (market_of book) w c.choice v (cert_point c)
   nearest_point h8 by_parts v prices = nearest_to v
       (λ j some le wins. vickrey-one (market_of book) c.choice j (v j) (cert_prices book c j) (prices j some le) (by_parts j some le) ∙ ap (λ (b : Bool). if b then vickrey_of book c j else pos 0) wins)
       (λ j some le loses. (prices j some le).1 loses) h8

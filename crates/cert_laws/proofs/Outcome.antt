@@ -1,6 +1,7 @@
 -- All tests together: a certificate that passes them is sound.
-use Rattle.std.specs.Prelude.{◌≡◌, length}
-use Rattle.auction_model.specs.Book.{Book}
+use Rattle.std.specs.Prelude.{◌≡◌, ℕ, length}
+use Rattle.auction_model.specs.Book.{Book, market_of}
+use Rattle.auction_model.specs.Prices.{AreWeights}
 use Rattle.cert_form.specs.Certificate.{CertValue}
 use Rattle.cert_laws.specs.Tests.{bidders_of, Holds}
 use Rattle.cert_laws.specs.Sound.{IsSound}
@@ -8,18 +9,18 @@ use Rattle.cert_laws.proofs.Winning.{winning, value_is, prices}
 use Rattle.cert_laws.proofs.Core.{core}
 use Rattle.cert_laws.proofs.Aims.{least_sum, nearest_point}
 
-pub sound : (book : Book) (c : CertValue) → length c.choice ≡ bidders_of book → length c.pay ≡ bidders_of book → Holds book c → IsSound book c
-sound book c length_is pay_is h =
-    let w = winning book c length_is h.c2 h.c3 in
+pub sound : (book : Book) (w : ℕ → ℕ) (c : CertValue) → AreWeights (market_of book) w → length c.choice ≡ bidders_of book → length c.pay ≡ bidders_of book → Holds book w c → IsSound book w c
+sound book w c are length_is pay_is h =
+    let win = winning book c length_is h.c2 h.c3 in
     let v = prices book c length_is h.c2 h.c3 h.c4 in
     record {
-      winning = w;
+      winning = win;
       value = value_is book c length_is h.c2 h.c3;
       vickrey = v;
       outcome = record {
-        greatest = record { passed = w.passed; greatest = w.greatest };
+        greatest = record { passed = win.passed; greatest = win.greatest };
         core = core book c pay_is h.c1 h.c5 h.c9;
-        least = least_sum book c h.c1 h.c5 h.c6 h.c7;
-        nearest = nearest_point book c h.c1 h.c5 h.c6 h.c7 h.c8 v;
+        least = least_sum book w are c h.c1 h.c5 h.c6 h.c7;
+        nearest = nearest_point book w are c h.c1 h.c5 h.c6 h.c7 h.c8 v;
       };
     }

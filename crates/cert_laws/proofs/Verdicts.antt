@@ -6,11 +6,11 @@ use Rattle.auction_model.specs.Book.{Book}
 use Rattle.cert_form.specs.Certificate.{CertValue}
 use Rattle.cert_laws.specs.Tests.{Asks, Holds, FailsFirst}
 
-pub all_asked : (book : Book) (c : CertValue) → Holds book c → (t place : ℕ) → Asks book c t place
-all_asked book c h t place = (λ e. h.c1 place, λ e. h.c2 place, λ e. h.c3 place, λ e. h.c4 place, λ e. h.c5 place, λ e. h.c6 place, λ e. h.c7 place, λ e. h.c8 place, λ e. h.c9 place)
+pub all_asked : (book : Book) (w : ℕ → ℕ) (c : CertValue) → Holds book w c → (t place : ℕ) → Asks book w c t place
+all_asked book w c h t place = (λ e. h.c1 place, λ e. h.c2 place, λ e. h.c3 place, λ e. h.c4 place, λ e. h.c5 place, λ e. h.c6 place, λ e. h.c7 place, λ e. h.c8 place, λ e. h.c9 place)
 
-pub holds_all : (book : Book) (c : CertValue) → ((t place : ℕ) → Asks book c t place) → Holds book c
-holds_all book c all = record {
+pub holds_all : (book : Book) (w : ℕ → ℕ) (c : CertValue) → ((t place : ℕ) → Asks book w c t place) → Holds book w c
+holds_all book w c all = record {
   c1 = λ p. (all 1 p).0 refl;
   c2 = λ p. (all 2 p).1 refl;
   c3 = λ p. (all 3 p).2 refl;
@@ -22,11 +22,11 @@ holds_all book c all = record {
   c9 = λ p. (all 9 p).8 refl;
 }
 
-pub not_both : (book : Book) (c : CertValue) (t place : ℕ) → Holds book c → FailsFirst book c t place → ⊥
-not_both book c t place h f = f.fails (all_asked book c h t place)
+pub not_both : (book : Book) (w : ℕ → ℕ) (c : CertValue) (t place : ℕ) → Holds book w c → FailsFirst book w c t place → ⊥
+not_both book w c t place h f = f.fails (all_asked book w c h t place)
 
-pub one_verdict : (book : Book) (c : CertValue) (t p u q : ℕ) → FailsFirst book c t p → FailsFirst book c u q → (t ≡ u) × (p ≡ q)
-one_verdict book c t p u q f g =
+pub one_verdict : (book : Book) (w : ℕ → ℕ) (c : CertValue) (t p u q : ℕ) → FailsFirst book w c t p → FailsFirst book w c u q → (t ≡ u) × (p ≡ q)
+one_verdict book w c t p u q f g =
     elim (cases_order t u) [
       | inl same ↦ elim (cases_order p q) [
         | inl places ↦ (same, places)

@@ -19,10 +19,10 @@ pub record IsBestPart (book : Book) (j : ℕ) (part : WithoutValue) : Type 0 whe
 
 -- All tests hold. Beside what they say, the choices are the first of the greatest and the tables are exact; the last is that of the
 -- worths that are lowered by the surpluses at the payments, and of the idle worths.
-pub record IsPricedCert (book : Book) (c : CertValue) : Type 0 where
-  pub holds : Holds book c
+pub record IsPricedCert (book : Book) (w : ℕ → ℕ) (c : CertValue) : Type 0 where
+  pub holds : Holds book w c
   pub winning : IsWinning (market_of book) c.choice
   pub table : IsExactTable (menu_of book) (net_of book) book.supply c.table
   pub parts : (j : ℕ) → 0 < j → j ≤ bidders_of book → IsTrue (uses c.choice j) → IsBestPart book j (part_of c.withouts j)
-  pub outcome : IsCoreOutcome (market_of book) c.choice (cert_point c)
+  pub outcome : IsCoreOutcome (market_of book) w c.choice (cert_point c)
   pub table_lowered : IsExactTable (menu_of book) (lowered c.den (net_of book) (surpluses_of (market_of book) c.choice c.den c.pay)) book.supply c.lowered

@@ -16,9 +16,9 @@ abbrev pub cert_prices : Book → CertValue → ℕ → ℤ
 cert_prices book c j = if uses c.choice j then vickrey_of book c j else pos 0
 
 -- The choice is the winning one, the value is its value, the parts give the Vickrey prices, and the choice and the payments are
--- the core outcome.
-pub record IsSound (book : Book) (c : CertValue) : Type 0 where
+-- the core outcome with these weights.
+pub record IsSound (book : Book) (w : ℕ → ℕ) (c : CertValue) : Type 0 where
   pub winning : IsWinning (market_of book) c.choice
   pub value : value_of (market_of book) c.choice ≡ c.value
   pub vickrey : AreVickreyPrices (market_of book) c.choice (cert_prices book c)
-  pub outcome : IsCoreOutcome (market_of book) c.choice (cert_point c)
+  pub outcome : IsCoreOutcome (market_of book) w c.choice (cert_point c)

@@ -1,4 +1,4 @@
--- The tests C1 to C9 of a certificate of a book. A test asks something at each of its places, in the order of the places, and nothing at any other number.
+-- The tests C1 to C9 of a certificate of a book and the weights of its bidders. A test asks something at each of its places, in the order of the places, and nothing at any other number.
 use Rattle.std.specs.Prelude.{◌≡◌, ℕ, zero, suc, ◌+◌, ◌-◌, ◌*◌, ◌^◌, ◌<◌, ◌≤◌, IsTrue, IsFalse, not, List, length, ℤ, pos, ◌+ℤ◌, ◌-ℤ◌, ◌*ℤ◌, ◌≤ℤ◌, ◌<ℤ◌, ◌⊎◌, if◌then◌else◌}
 use Rattle.auction_model.specs.Package.{is_within, less}
 use Rattle.auction_model.specs.Market.{is_number_before, value_of, number_of, worth_in, uses}
@@ -104,10 +104,10 @@ pub record C7 (book : Book) (c : CertValue) (place : ℕ) : Type 0 where
 abbrev pub vickrey_of : Book → CertValue → ℕ → ℤ
 vickrey_of book c j = (value_of (market_of book) (part_of c.withouts j).choice -ℤ c.value) +ℤ won book c j
 
-pub record C8 (book : Book) (c : CertValue) (place : ℕ) : Type 0 where
+pub record C8 (book : Book) (w : ℕ → ℕ) (c : CertValue) (place : ℕ) : Type 0 where
   pub sign : 0 < place → place ≤ length c.rows → (pos 0 <ℤ (row_of c.rows place).first) ⊎ (pos 0 ≤ℤ (row_of c.rows place).second)
   pub columns : (j : ℕ) → 0 < j → j ≤ bidders_of book → place ≡ length c.rows + j → IsTrue (uses c.choice j)
-      → of_bidder c.pay j -ℤ (c.den *ℤ vickrey_of book c j) ≡ sum_holding c.rows j (λ row. row.second) (length c.rows)
+      → of_bidder c.pay j -ℤ (c.den *ℤ vickrey_of book c j) ≡ pos (w j) *ℤ sum_holding c.rows j (λ row. row.second) (length c.rows)
 
 -- den times the net amount of a bid, less den times the winner's net amount plus what it pays
 abbrev pub lowered_net : Book → CertValue → ℕ → ℕ → ℤ
@@ -118,13 +118,13 @@ pub record C9 (book : Book) (c : CertValue) (place : ℕ) : Type 0 where
   pub top : place ≡ (bidders_of book + 1) * states book → entry_at c.lowered 0 (full book) ≤ℤ sum_over everyone (of_bidder c.pay) (bidders_of book)
 
 -- what test t asks at a place
-abbrev pub Asks : Book → CertValue → ℕ → ℕ → Type 0
-Asks book c t place =
+abbrev pub Asks : Book → (ℕ → ℕ) → CertValue → ℕ → ℕ → Type 0
+Asks book w c t place =
     (t ≡ 1 → C1 c place) × (t ≡ 2 → C2 book c place) × (t ≡ 3 → C3 book c place) × (t ≡ 4 → C4 book c place) × (t ≡ 5 → C5 book c place)
-    × (t ≡ 6 → C6 book c place) × (t ≡ 7 → C7 book c place) × (t ≡ 8 → C8 book c place) × (t ≡ 9 → C9 book c place)
+    × (t ≡ 6 → C6 book c place) × (t ≡ 7 → C7 book c place) × (t ≡ 8 → C8 book w c place) × (t ≡ 9 → C9 book c place)
 
 -- all tests hold at all places
-pub record Holds (book : Book) (c : CertValue) : Type 0 where
+pub record Holds (book : Book) (w : ℕ → ℕ) (c : CertValue) : Type 0 where
   pub c1 : (place : ℕ) → C1 c place
   pub c2 : (place : ℕ) → C2 book c place
   pub c3 : (place : ℕ) → C3 book c place
@@ -132,10 +132,10 @@ pub record Holds (book : Book) (c : CertValue) : Type 0 where
   pub c5 : (place : ℕ) → C5 book c place
   pub c6 : (place : ℕ) → C6 book c place
   pub c7 : (place : ℕ) → C7 book c place
-  pub c8 : (place : ℕ) → C8 book c place
+  pub c8 : (place : ℕ) → C8 book w c place
   pub c9 : (place : ℕ) → C9 book c place
 
 -- test t at this place is the first that fails: what comes before it holds
-pub record FailsFirst (book : Book) (c : CertValue) (t place : ℕ) : Type 0 where
-  pub fails : Asks book c t place → ⊥
-  pub before : (u q : ℕ) → (u < t) ⊎ ((u ≡ t) × (q < place)) → Asks book c u q
+pub record FailsFirst (book : Book) (w : ℕ → ℕ) (c : CertValue) (t place : ℕ) : Type 0 where
+  pub fails : Asks book w c t place → ⊥
+  pub before : (u q : ℕ) → (u < t) ⊎ ((u ≡ t) × (q < place)) → Asks book w c u q

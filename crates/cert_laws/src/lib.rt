@@ -11,6 +11,7 @@ ghost use Rattle.std.specs.Prelude.{◌≡◌, ℕ, List, ℤ, length};
 ghost use Rattle.auction_model.specs.Book.{Book, net_of, menu_of, market_of};
 ghost use Rattle.auction_model.specs.Lowered.{lowered};
 ghost use Rattle.auction_model.specs.Menu.{without};
+ghost use Rattle.auction_model.specs.Prices.{AreWeights};
 ghost use Rattle.auction_model.specs.Table.{IsExactTable};
 ghost use Rattle.row_laws.specs.Surplus.{surpluses_of};
 ghost use Rattle.cert_form.specs.Certificate.{CertValue};
@@ -24,13 +25,14 @@ ghost use Rattle.cert_laws.specs.Tests.{Obeys, bidders_of, C5, lowered_net, Hold
 /// programming, Bulletin of the American Mathematical Society 60, 1954), and multipliers show a least sum and a least
 /// square distance (Kuhn and Tucker, Nonlinear programming, 1951).
 pub fn sound_yes()
-    ensures { (book : Book) (c : CertValue) → length c.choice ≡ bidders_of book → length c.pay ≡ bidders_of book → Holds book c → IsSound book c }
+    ensures { (book : Book) (w : ℕ → ℕ) (c : CertValue) → AreWeights (market_of book) w → length c.choice ≡ bidders_of book → length c.pay ≡ bidders_of book
+        → Holds book w c → IsSound book w c }
 {}
 
 /// A certificate has one verdict: all tests hold, or there is one place of one test at which it fails first.
 pub fn one_verdict()
-    ensures one { (book : Book) (c : CertValue) (t p u q : ℕ) → FailsFirst book c t p → FailsFirst book c u q → (t ≡ u) × (p ≡ q) }
-    ensures not_both { (book : Book) (c : CertValue) (t p : ℕ) → Holds book c → FailsFirst book c t p → ⊥ }
+    ensures one { (book : Book) (w : ℕ → ℕ) (c : CertValue) (t p u q : ℕ) → FailsFirst book w c t p → FailsFirst book w c u q → (t ≡ u) × (p ≡ q) }
+    ensures not_both { (book : Book) (w : ℕ → ℕ) (c : CertValue) (t p : ℕ) → Holds book w c → FailsFirst book w c t p → ⊥ }
 {}
 
 /// Exact tables obey the rules that the tests ask of a table: that of the net amounts, that of the net amounts without a
