@@ -14,3 +14,4 @@ pub mod EarlierLaws
 pub mod ValueLaws
 pub mod LoweredLaws
 pub mod Trims
+mod TimesLaws

@@ -39,8 +39,8 @@ module _ (book : Book) (c : CertValue) where
   pub past-C7 : (place : ℕ) → length c.rows + bidders_of book + 1 ≤ place → C7 book c place
   past-C7 place past = record { sign = λ some le. absurd (omega arith); columns = λ j some le e wins. absurd (omega (arith, e)) }
 
-  pub past-C8 : (place : ℕ) → length c.rows + bidders_of book + 1 ≤ place → C8 book c place
-  past-C8 place past = record { sign = λ some le. absurd (omega arith); columns = λ j some le e wins. absurd (omega (arith, e)) }
+  pub past-C8 : (w : ℕ → ℕ) (place : ℕ) → length c.rows + bidders_of book + 1 ≤ place → C8 book w c place
+  past-C8 w place past = record { sign = λ some le. absurd (omega arith); columns = λ j some le e wins. absurd (omega (arith, e)) }
 
   pub winner-C5 : (j : ℕ) (paid most : ℤ) (b : Bool) → 0 < j → j ≤ bidders_of book → IsTrue (uses c.choice j) → paid ≡ of_bidder c.pay j → most ≡ c.den *ℤ won book c j
       → (IsTrue b ↔ ((pos 0 ≤ℤ paid) × (paid ≤ℤ most))) → IsTrue b ↔ C5 book c j
@@ -68,8 +68,8 @@ module _ (book : Book) (c : CertValue) where
     λ h. test.1 (h.columns j some le here wins),
   )
 
-  pub sign-C8 : (place : ℕ) (row : RowValue) (b : Bool) → 0 < place → place ≤ length c.rows → row_of c.rows place ≡ row → (IsTrue b ↔ ((pos 0 <ℤ row.first) ⊎ (pos 0 ≤ℤ row.second))) → IsTrue b ↔ C8 book c place
-  sign-C8 place row b some le same test = (
+  pub sign-C8 : (w : ℕ → ℕ) (place : ℕ) (row : RowValue) (b : Bool) → 0 < place → place ≤ length c.rows → row_of c.rows place ≡ row → (IsTrue b ↔ ((pos 0 <ℤ row.first) ⊎ (pos 0 ≤ℤ row.second))) → IsTrue b ↔ C8 book w c place
+  sign-C8 w place row b some le same test = (
     λ t. record {
       sign = λ s l. subst (λ (r : RowValue). (pos 0 <ℤ r.first) ⊎ (pos 0 ≤ℤ r.second)) (sym same) (test.0 t);
       columns = λ j s l e wins. absurd (omega (arith, e, le, s));
@@ -77,14 +77,14 @@ module _ (book : Book) (c : CertValue) where
     λ h. test.1 (subst (λ (r : RowValue). (pos 0 <ℤ r.first) ⊎ (pos 0 ≤ℤ r.second)) same (h.sign some le)),
   )
 
-  pub sum-C8 : (place j : ℕ) (b : Bool) → place ≡ length c.rows + j → 0 < j → j ≤ bidders_of book → IsTrue (uses c.choice j)
-      → (IsTrue b ↔ ((of_bidder c.pay j -ℤ (c.den *ℤ vickrey_of book c j)) ≡ sum_holding c.rows j (λ row. row.second) (length c.rows))) → IsTrue b ↔ C8 book c place
-  sum-C8 place j b here some le wins test = (
+  pub sum-C8 : (w : ℕ → ℕ) (place j : ℕ) (b : Bool) → place ≡ length c.rows + j → 0 < j → j ≤ bidders_of book → IsTrue (uses c.choice j)
+      → (IsTrue b ↔ ((of_bidder c.pay j -ℤ (c.den *ℤ vickrey_of book c j)) ≡ pos (w j) *ℤ sum_holding c.rows j (λ row. row.second) (length c.rows))) → IsTrue b ↔ C8 book w c place
+  sum-C8 w place j b here some le wins test = (
     λ t. record {
       sign = λ s l. absurd (omega (arith, here, some));
       columns = λ i si li e wi.
           let same : j ≡ i = omega (arith, here, e) in
-          subst (λ (n : ℕ). (of_bidder c.pay n -ℤ (c.den *ℤ vickrey_of book c n)) ≡ sum_holding c.rows n (λ row. row.second) (length c.rows)) same (test.0 t);
+          subst (λ (n : ℕ). (of_bidder c.pay n -ℤ (c.den *ℤ vickrey_of book c n)) ≡ pos (w n) *ℤ sum_holding c.rows n (λ row. row.second) (length c.rows)) same (test.0 t);
     },
     λ h. test.1 (h.columns j some le here wins),
   )

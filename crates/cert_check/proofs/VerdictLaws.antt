@@ -8,7 +8,7 @@ use Rattle.cert_laws.specs.Tests.{Asks, Holds, FailsFirst, C1, C2, C3, C4}
 use Rattle.cert_check.specs.Head.{HoldsUpTo, HeadHolds}
 use Rattle.cert_check.specs.Places.{IsFirstFailing}
 
-module _ (book : Book) (c : CertValue) (t : ℕ) (before : HoldsUpTo book c t) where
+module _ (book : Book) (w : ℕ → ℕ) (c : CertValue) (t : ℕ) (before : HoldsUpTo book w c t) where
   pub held-C1 : 1 < t → (place : ℕ) → C1 c place
   held-C1 lt place = (before 1 place lt).0 refl
 
@@ -24,23 +24,23 @@ module _ (book : Book) (c : CertValue) (t : ℕ) (before : HoldsUpTo book c t) w
   pub held-head : 3 < t → HeadHolds book c
   held-head lt = record { sizes = held-C1 (omega arith); choice = held-C2 (omega arith); table = held-C3 lt }
 
-  pub held-next : IsFirstFailing (Asks book c t) None → HoldsUpTo book c (t + 1)
+  pub held-next : IsFirstFailing (Asks book w c t) None → HoldsUpTo book w c (t + 1)
   held-next all u place lt =
       elim (cases_lt u t) [
         | inl less ↦ before u place less
-        | inr past ↦ (let same : t ≡ u = omega arith in subst (λ (x : ℕ). Asks book c x place) same (all place))
+        | inr past ↦ (let same : t ≡ u = omega arith in subst (λ (x : ℕ). Asks book w c x place) same (all place))
       ]
 
-  pub fails-first : (place : ℕ) → IsFirstFailing (Asks book c t) (Some place) → FailsFirst book c t place
+  pub fails-first : (place : ℕ) → IsFirstFailing (Asks book w c t) (Some place) → FailsFirst book w c t place
   fails-first place first = record {
     fails = first.0;
     before = λ u q earlier. elim earlier [
       | inl less ↦ before u q less
-      | inr same ↦ subst (λ (x : ℕ). Asks book c x q) (sym same.0) (first.1 q same.1)
+      | inr same ↦ subst (λ (x : ℕ). Asks book w c x q) (sym same.0) (first.1 q same.1)
     ];
   }
 
-  pub held-all : 9 < t → Holds book c
+  pub held-all : 9 < t → Holds book w c
   held-all lt = record {
     c1 = λ place. (before 1 place (omega arith)).0 refl;
     c2 = λ place. (before 2 place (omega arith)).1 refl;

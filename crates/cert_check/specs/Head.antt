@@ -9,8 +9,8 @@ abbrev pub HoldsBefore : (ℕ → Type 0) → ℕ → Type 0
 HoldsBefore P n = (place : ℕ) → place < n → P place
 
 -- all tests before this one hold
-abbrev pub HoldsUpTo : Book → CertValue → ℕ → Type 0
-HoldsUpTo book c n = (test place : ℕ) → test < n → Asks book c test place
+abbrev pub HoldsUpTo : Book → (ℕ → ℕ) → CertValue → ℕ → Type 0
+HoldsUpTo book w c n = (test place : ℕ) → test < n → Asks book w c test place
 
 -- the first three tests hold: the sizes, the choice and its table
 pub record HeadHolds (book : Book) (c : CertValue) : Type 0 where

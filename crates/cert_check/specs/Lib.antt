@@ -6,3 +6,4 @@ pub mod Faults
 pub mod LoweredWorths
 pub mod LineTests
 pub mod EarlierBids
+pub mod Weights

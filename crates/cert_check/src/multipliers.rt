@@ -1,9 +1,11 @@
 // C7 and C8: the multipliers.
-ghost use Rattle.std.specs.Prelude.{IsTrue, length, pos, ℕ, ◌+◌, ◌<◌, ◌≡◌, ◌≤ℤ◌, ◌<ℤ◌, ◌⊎◌, ◌≤◌, ◌↔◌, map};
+ghost use Rattle.std.specs.Prelude.{IsTrue, length, pos, ℕ, ◌+◌, ◌<◌, ◌≡◌, ◌*ℤ◌, ◌≤ℤ◌, ◌<ℤ◌, ◌⊎◌, ◌≤◌, ◌↔◌, map};
 ghost use Rattle.auction_model.specs.Book.{market_of};
 ghost use Rattle.auction_model.specs.Market.{uses, value_of};
 ghost use Rattle.cert_check.specs.Head.{HeadHolds};
 ghost use Rattle.cert_check.specs.Places.{IsFirstFailing};
+ghost use Rattle.cert_check.specs.Weights.{IsWeighing};
+ghost use Rattle.auction_model.specs.Prices.{weight_of};
 ghost use Rattle.cert_form.specs.Certificate.{part_of};
 ghost use Rattle.cert_laws.specs.Tests.{C4, C7, C8, IsPart, bidders_of, states, vickrey_of};
 ghost use Rattle.cert_text.specs.CertValues.{IsFor, cert_value};
@@ -50,15 +52,16 @@ fn first_holds(book: &BidBook, cert: &Certificate, place: u16) -> bool
 }
 
 /// The first place at which C8 fails.
-pub(crate) fn second_test(book: &BidBook, cert: &Certificate) -> Option<u64>
+pub(crate) fn second_test(book: &BidBook, cert: &Certificate, weights: &[u32]) -> Option<u64>
     requires shape { IsFor (bidders_of book.now) (states book.now) cert.now }
+    requires weights { IsWeighing book.now weights.now }
     requires head { HeadHolds book.now (cert_value cert.now) }
     requires parts { (place : ℕ) → C4 book.now (cert_value cert.now) place }
-    ensures { IsFirstFailing (C8 book.now (cert_value cert.now)) result }
+    ensures { IsFirstFailing (C8 book.now (weight_of weights.now) (cert_value cert.now)) result }
 {
     let rows = cert.rows.items().len() as u16;
     for place in 1..rows + book.bidders() as u16 + 1 {
-        if !second_holds(book, cert, place) {
+        if !second_holds(book, cert, weights, place) {
             return Some(u64::from(place));
         }
     }
@@ -66,12 +69,13 @@ pub(crate) fn second_test(book: &BidBook, cert: &Certificate) -> Option<u64>
 }
 
 /// Whether C8 holds at a place: a row's sign, or a winner's sum.
-fn second_holds(book: &BidBook, cert: &Certificate, place: u16) -> bool
+fn second_holds(book: &BidBook, cert: &Certificate, weights: &[u32], place: u16) -> bool
     requires shape { IsFor (bidders_of book.now) (states book.now) cert.now }
+    requires weights { IsWeighing book.now weights.now }
     requires head { HeadHolds book.now (cert_value cert.now) }
     requires parts { (q : ℕ) → C4 book.now (cert_value cert.now) q }
     requires place { (0 < place) × (place ≤ length cert.now.rows + bidders_of book.now) }
-    ensures { IsTrue result ↔ C8 book.now (cert_value cert.now) place }
+    ensures { IsTrue result ↔ C8 book.now (weight_of weights.now) (cert_value cert.now) place }
 {
     let _bidders = book.bidders();
     let rows = cert.rows.items();
@@ -85,7 +89,20 @@ fn second_holds(book: &BidBook, cert: &Certificate, place: u16) -> bool
     }
     let payments = cert.pay.items();
     let above = payments[j as usize - 1] - times(cert.den, vickrey(book, cert, j));
-    above == sum_of(rows, j, Multiplier::Second)
+    let sum = sum_of(rows, j, Multiplier::Second);
+    is_times(above, weights[j as usize - 1], sum)
+}
+
+/// Whether a number is the weight times a sum. A quotient without rest shows it, since the product may leave 128 bits.
+fn is_times(number: i128, weight: u32, sum: i128) -> bool
+    requires { (1 ≤ weight) × (weight ≤ 20) }
+    ensures { IsTrue result ↔ (number ≡ pos weight *ℤ sum) }
+{
+    let divisor = weight as i128;
+    if number % divisor != 0 {
+        return false;
+    }
+    number / divisor == sum
 }
 
 /// Whether the second multiplier of a row isn't below 0, or its first is above 0.

@@ -8,16 +8,18 @@ use Rattle.cert_laws.specs.Tests.{bidders_of, sum_holding, vickrey_of}
 use Rattle.cert_text.specs.CertValues.{cert_value}
 use Rattle.cert_text.specs.Parts.{row_value}
 use Rattle.cert_check.proofs.PartLaws.{wins-some}
-use Rattle.cert_check.proofs.SumLaws.{count-same, holding-same, bits-same, row-place, in-range, difference-fits, difference-is}
+use Rattle.cert_check.proofs.SumLaws.{count-same, holding-same, row-place, in-range, difference-fits, difference-is}
 use Rattle.cert_check.proofs.HeadLaws.{vickrey-times}
+use Rattle.auction_model.specs.Prices.{weight_of}
 use Rattle.cert_check.proofs.PlaceLaws.{sign-C8, sum-C8}
+use Rattle.cert_check.proofs.TimesLaws.{times-same}
 use Rattle.cert_check.proofs.multipliers.second_holds.Goals as goal
 
 pub returns-then-place-count : goal.returns-then-place-count
 returns-then-place-count c =
     let rows = c.args.cert.now.rows in
     let count = count-same rows c.items-rows.result.now c.items-rows.ensures in
-    sign-C8 c.args.book.now (cert_value c.args.cert.now) c.args.place (row_value c.index-rows-place.result) c.is_signed.result c.requires.place.0 (omega (arith, count))
+    sign-C8 c.args.book.now (cert_value c.args.cert.now) (weight_of c.args.weights.now) c.args.place (row_value c.index-rows-place.result) c.is_signed.result c.requires.place.0 (omega (arith, count))
     (row-place rows c.items-rows.result.now c.args.place c.index-rows-place.result c.requires.place.0 c.if-place-count.true c.items-rows.ensures c.index-rows-place.is)
     c.is_signed.ensures
 
@@ -68,11 +70,18 @@ returns c =
     let paid = in-range c.items-payments.result.now (j - 1) (subst AllInRange (sym c.items-payments.ensures) c.args.cert.now.rules.pay.1) in
     let product_small = subst (λ (z : ℤ). unsigned_abs z < 2 ^ 120) (sym times) small in
     let own = get_or c.items-payments.result.now (j - 1) (pos 0) in
-    let sum_fits : SFits w128 c.sum_of.result = search rules in
+    let sum_fits : SFits w128 c.sum_of-sum.result = search rules in
     let above = difference-is own c.times.result paid product_small
     ∙ ap (λ (l : List ℤ). get_or l (j - 1) (pos 0) -ℤ c.times.result) c.items-payments.ensures
     ∙ ap (λ (z : ℤ). get_or c.args.cert.now.pay (j - 1) (pos 0) -ℤ z) times in
-    sum-C8 book cert c.args.place j _ here (omega arith) le wins
-    (bits-same _ c.sum_of.result (get_or c.args.cert.now.pay (j - 1) (pos 0) -ℤ (c.args.cert.now.den *ℤ vickrey_of book cert j)) (sum_holding (map row_value rows) j (λ (row : RowValue). row.second) (length (map row_value rows)))
-    (difference-fits own c.times.result paid product_small) sum_fits above
-    (c.sum_of.ensures ∙ holding-same rows c.items-rows.result.now j (λ (row : RowValue). row.second) c.items-rows.ensures))
+    sum-C8 book cert (weight_of c.args.weights.now) c.args.place j _ here (omega arith) le wins
+    (times-same c.is_times.result (pos (weight_of c.args.weights.now j)) _ _ (get_or c.args.cert.now.pay (j - 1) (pos 0) -ℤ (c.args.cert.now.den *ℤ vickrey_of book cert j)) (sum_holding (map row_value rows) j (λ (row : RowValue). row.second) (length (map row_value rows)))
+    (to_z-of_z w128 _ (difference-fits own c.times.result paid product_small) ∙ above)
+    (to_z-of_z w128 c.sum_of-sum.result sum_fits ∙ c.sum_of-sum.ensures ∙ holding-same rows c.items-rows.result.now j (λ (row : RowValue). row.second) c.items-rows.ensures)
+    c.is_times.ensures)
+
+pub is_times-requires : goal.is_times-requires
+is_times-requires c =
+    let count = count-same c.args.cert.now.rows c.items-rows.result.now c.items-rows.ensures in
+    let all = count-same c.args.cert.now.rows c.args.cert.now.rows refl in
+    c.requires.weights.each (c.args.place - length c.items-rows.result.now) (omega arith) (omega (arith, count, all, c.requires.place.1))
