@@ -10,7 +10,7 @@ use Rattle.auction_model.specs.Lowered.{lowered}
 use Rattle.auction_model.specs.Market.{uses, value_of}
 use Rattle.auction_model.specs.Menu.{fits_after, is_known_after, packages_after, without}
 use Rattle.auction_model.specs.Package.{is_within}
-use Rattle.auction_model.specs.Prices.{IsCorePoint, allowed_without}
+use Rattle.auction_model.specs.Prices.{IsCorePoint, allowed_without, weight_of}
 use Rattle.auction_model.specs.Table.{IsEntry, IsExactTable, entry_at}
 use Rattle.auction_model.proofs.BookMarket.{market-of_book}
 use Rattle.auction_model.proofs.PlaceLaws.{left_at-whole}
@@ -57,7 +57,7 @@ winner-at [] i lt = absurd (omega arith)
 winner-at (s ∷ singles) zero lt = refl
 winner-at (s ∷ singles) (suc i) lt = winner-at singles i (omega arith)
 
-module _ (book : Book) (z : List ℕ) (whole : TableValue) (alone : VickreyValue) (priced : Priced TableValue) (kept : IsBidBook book) (found : AreFound book z whole alone priced) where
+module _ (book : Book) (z : List ℕ) (whole : TableValue) (alone : VickreyValue) (weights : List ℕ) (priced : Priced TableValue) (kept : IsBidBook book) (found : AreFound book z whole alone weights priced) where
   lawful : IsMarket (market_of book)
   lawful = market-of_book book (omega (arith, kept.bidders)) kept.not_negative
 
@@ -144,7 +144,7 @@ module _ (book : Book) (z : List ℕ) (whole : TableValue) (alone : VickreyValue
   passes-9 = lowered_passes book (cert_found book z whole alone priced) core (table_of-lowered book priced.den _ priced.last.table found.lowered) lawful priced.last.choice found.found.first
 
   -- the certificate is one that pricing writes
-  pub priced_passes : IsPricedCert book (cert_found book z whole alone priced)
+  pub priced_passes : IsPricedCert book (weight_of weights) (cert_found book z whole alone priced)
   priced_passes =
       let value = value_of (market_of book) z in
       record {
@@ -155,8 +155,8 @@ module _ (book : Book) (z : List ℕ) (whole : TableValue) (alone : VickreyValue
           c4 = passes-4;
           c5 = kept_payments book z value whole.lines alone.singles alone.tables priced.den priced.at priced.rows priced.last.table.lines core;
           c6 = kept_rows book z long value whole.lines alone.singles alone.tables priced.den priced.at priced.rows priced.last.table.lines found.kept;
-          c7 = kept_firsts book z long value whole.lines alone.singles alone.tables priced.den priced.at priced.rows priced.last.table.lines found.first found.first_sums;
-          c8 = kept_seconds book z long value whole.lines alone.singles alone.tables priced.den priced.at priced.rows priced.last.table.lines refl found.singles count found.first found.second;
+          c7 = kept_firsts book z long weights value whole.lines alone.singles alone.tables priced.den priced.at priced.rows priced.last.table.lines found.first found.first_sums;
+          c8 = kept_seconds book z long weights value whole.lines alone.singles alone.tables priced.den priced.at priced.rows priced.last.table.lines refl found.singles count found.first found.second;
           c9 = passes-9;
         };
         winning = found.winning;
@@ -183,7 +183,7 @@ module _ (book : Book) (z : List ℕ) (whole : TableValue) (alone : VickreyValue
         table = shape_of-all book whole found.table;
         withouts = withouts_shape book z long choices alone.singles alone.tables found.singles count others-shape;
         pay = pay_shape book z long priced.at found.small;
-        few = rows_few z priced.rows found.few_rows found.few;
+        few = rows_few z priced.rows found.few_rows found.few.0;
         rows = rows_shape book z long choices priced.den priced.at priced.rows found.kept found.first found.first_sums numbers.0 found.small_seconds;
         lowered = shape_of-all book priced.last.table found.lowered.exact;
       }

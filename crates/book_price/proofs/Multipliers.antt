@@ -1,5 +1,5 @@
 -- The multipliers of the kept rows pass tests C7 and C8.
-use Rattle.std.specs.Prelude.{◌≡◌, ℕ, zero, suc, ◌-◌, ◌<◌, ◌≤◌, Bool, true, false, cond, IsTrue, List, [], length, map, ℤ, pos, ◌+ℤ◌, ◌-ℤ◌, ◌*ℤ◌, ◌≤ℤ◌, ◌<ℤ◌, refl}
+use Rattle.std.specs.Prelude.{◌≡◌, ℕ, zero, suc, ◌-◌, ◌<◌, ◌≤◌, Bool, true, false, cond, IsTrue, List, [], length, map, slice_index_or, ℤ, pos, ◌+ℤ◌, ◌-ℤ◌, ◌*ℤ◌, ◌≤ℤ◌, ◌<ℤ◌, refl}
 use Rattle.std.proofs.Common.{sym, ◌∙◌, ap, arith, ◌⊎◌, inl, inr}
 use Rattle.std.proofs.lemmas.Int.{ints}
 use Rattle.std.proofs.lemmas.List.{get_or-map, length-map}
@@ -11,18 +11,20 @@ use Rattle.cert_laws.specs.Tests.{C7, C8, bidders_of, sum_holding, vickrey_of}
 use Rattle.choices.specs.Singles.{AreSingles, IsSingle}
 use Rattle.choices.specs.declared.chooser.Single.{Single}
 use Rattle.core_price.specs.Kept.{firsts, rows_in, seconds}
+use Rattle.auction_model.specs.Prices.{weight_of}
 use Rattle.core_price.specs.Rows.{prices_of}
+use Rattle.core_price.specs.Weights.{weights_in}
 use Rattle.core_price.specs.declared.priced.PricedRow.{PricedRow}
 use Rattle.far_num.specs.Members.{holds}
 use Rattle.far_num.specs.declared.Row.{Row}
-use Rattle.nearest_point.specs.Problem.{bounds, coefficients}
+use Rattle.nearest_point.specs.Problem.{bounds, coefficients, weight_at}
 use Rattle.point_laws.specs.Multipliers.{AreFirst, AreSecond, SumsTo, sum_at}
 use Rattle.point_laws.proofs.Order.{zero_or}
 use Rattle.row_laws.specs.Winners.{for_bidders, has_bit, row_of, winners_in}
 use Rattle.wide_num.specs.Sums.{nth}
 use Rattle.book_price.specs.Made.{cert_made, row_from}
 use Rattle.book_price.proofs.Members.{member-is}
-use Rattle.book_price.proofs.Places.{IsPlace, each-at, part-of_winner, place-of, rank, single_at}
+use Rattle.book_price.proofs.Places.{IsPlace, each-at, part-of_winner, place-of, rank, single_at, weight-rank}
 use Rattle.book_price.proofs.Rows.{no_row, priced_at, row-is}
 
 times_when : (b : Bool) (x : ℤ) → cond b x (pos 0) ≡ x *ℤ cond b (pos 1) (pos 0)
@@ -72,7 +74,7 @@ single-value m z s is =
     let same = r.2 in
     omega (arith, ints, above, below, same)
 
-module _ (book : Book) (z : List ℕ) (long : length z ≡ bidders_of book) (value : ℤ) (table : List (List ℤ)) (singles : List Single) (tables : List (List (List ℤ))) (den : ℤ) (at : List ℤ) (rows : List PricedRow) (lowered : List (List ℤ)) where
+module _ (book : Book) (z : List ℕ) (long : length z ≡ bidders_of book) (weights : List ℕ) (value : ℤ) (table : List (List ℤ)) (singles : List Single) (tables : List (List (List ℤ))) (den : ℤ) (at : List ℤ) (rows : List PricedRow) (lowered : List (List ℤ)) where
   module _ (first : AreFirst (winners_in z) (length rows) (coefficients (rows_in rows)) (bounds (rows_in rows)) den (nth at) (nth (firsts rows))) where
     first-sign : (place : ℕ) → 0 < place → place ≤ length rows → pos 0 ≤ℤ (row_at_place (map (row_from z) rows) place).first
     first-sign zero some inside = absurd (omega arith)
@@ -98,7 +100,7 @@ module _ (book : Book) (z : List ℕ) (long : length z ≡ bidders_of book) (val
 
   module _ (is : value ≡ value_of (market_of book) z) (are : AreSingles (market_of book) z singles) (count : length tables ≡ length singles)
       (first : AreFirst (winners_in z) (length rows) (coefficients (rows_in rows)) (bounds (rows_in rows)) den (nth at) (nth (firsts rows)))
-      (second : AreSecond (winners_in z) (length rows) (coefficients (rows_in rows)) (bounds (rows_in rows)) den (nth at) (nth (firsts rows)) (nth (seconds rows)) (nth (prices_of singles)) (λ j. pos 1)) where
+      (second : AreSecond (winners_in z) (length rows) (coefficients (rows_in rows)) (bounds (rows_in rows)) den (nth at) (nth (firsts rows)) (nth (seconds rows)) (nth (prices_of singles)) (weight_at (weights_in z weights))) where
     vickrey-is : (k : ℕ) → k < length z → uses z (suc k) ≡ true → vickrey_of book (cert_made z value table singles tables den at rows lowered) (suc k) ≡ nth (prices_of singles) (rank z k)
     vickrey-is k lt used =
         let i = rank z k in
@@ -123,7 +125,7 @@ module _ (book : Book) (z : List ℕ) (long : length z ≡ bidders_of book) (val
         ]
 
     second-column : (j : ℕ) → 0 < j → j ≤ bidders_of book → IsTrue (uses z j)
-        → of_bidder (for_bidders z at) j -ℤ (den *ℤ vickrey_of book (cert_made z value table singles tables den at rows lowered) j) ≡ sum_holding (map (row_from z) rows) j (λ row. row.second) (length (map (row_from z) rows))
+        → of_bidder (for_bidders z at) j -ℤ (den *ℤ vickrey_of book (cert_made z value table singles tables den at rows lowered) j) ≡ pos (weight_of weights j) *ℤ sum_holding (map (row_from z) rows) j (λ row. row.second) (length (map (row_from z) rows))
     second-column zero some inside used = absurd (omega arith)
     second-column (suc k) some inside used =
         let lt : k < length z = omega (arith, inside, long) in
@@ -133,9 +135,12 @@ module _ (book : Book) (z : List ℕ) (long : length z ≡ bidders_of book) (val
         let paid : of_bidder (for_bidders z at) (suc k) ≡ nth at (rank z k) = ap (nth (for_bidders z at)) b ∙ place.number at in
         let price = ap (λ (x : ℤ). den *ℤ x) (vickrey-is k lt used) in
         let s = second.sums (rank z k) place.inside in
-        omega (arith, ints, held, paid, price, s)
+        let w : weight_at (weights_in z weights) (rank z k) ≡ pos (weight_of weights (suc k)) = ap pos (weight-rank z weights k lt used ∙ sym (ap (λ n. slice_index_or weights n 0) b)) in
+        let t = ap (λ (x : ℤ). pos (weight_of weights (suc k)) *ℤ x) held in
+        let u = ap (λ (x : ℤ). x *ℤ sum_at (length rows) (coefficients (rows_in rows)) (nth (seconds rows)) (rank z k)) w in
+        omega (arith, ints, t, u, paid, price, s)
 
-    pub kept_seconds : (place : ℕ) → C8 book (cert_made z value table singles tables den at rows lowered) place
+    pub kept_seconds : (place : ℕ) → C8 book (weight_of weights) (cert_made z value table singles tables den at rows lowered) place
     kept_seconds place = record {
       sign = λ some inside. second-sign place some (omega (arith, inside, length-map rows (row_from z)));
       columns = λ j some inside here used. second-column j some inside used;

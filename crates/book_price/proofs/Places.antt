@@ -12,6 +12,7 @@ use Rattle.far_num.specs.Members.{holds}
 use Rattle.row_laws.specs.Winners.{for_bidders, has_bit, winners_in}
 use Rattle.row_laws.proofs.Bits.{holds-front, holds-rest}
 use Rattle.wide_num.specs.Sums.{nth}
+use Rattle.core_price.specs.Weights.{weights_in}
 use Rattle.book_price.specs.Made.{parts_from}
 
 -- the single at a place
@@ -131,3 +132,14 @@ winner_part m z singles tables are count zero some inside used = absurd (omega a
 winner_part m z singles tables are count (suc k) some inside used =
     let p = part-of_winner z singles tables are.winners count k inside used in
     (rank z k, p.inside, p.winner, each-at (IsSingle m z) singles are.each (rank z k) (record { winner = 0; price = pos 0; choice = [] }) p.inside, p.part)
+
+-- the weight of a winner is that of its bidder
+pub weight-rank : (z weights : List ℕ) (k : ℕ) → k < length z → uses z (suc k) ≡ true → slice_index_or (weights_in z weights) (rank z k) 0 ≡ slice_index_or weights k 0
+weight-rank [] weights k lt used = absurd (omega arith)
+weight-rank (zero ∷ z) weights zero lt used = absurd (false≢true used)
+weight-rank (zero ∷ z) [] (suc k) lt used = weight-rank z [] k (omega arith) (one_less z 0 k used)
+weight-rank (zero ∷ z) (w ∷ weights) (suc k) lt used = weight-rank z weights k (omega arith) (one_less z 0 k used)
+weight-rank (suc n ∷ z) [] zero lt used = refl
+weight-rank (suc n ∷ z) (w ∷ weights) zero lt used = refl
+weight-rank (suc n ∷ z) [] (suc k) lt used = weight-rank z [] k (omega arith) (one_less z (suc n) k used)
+weight-rank (suc n ∷ z) (w ∷ weights) (suc k) lt used = weight-rank z weights k (omega arith) (one_less z (suc n) k used)

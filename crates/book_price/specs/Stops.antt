@@ -4,9 +4,10 @@ use Rattle.auction_model.specs.Book.{Book, market_of}
 use Rattle.auction_model.specs.Greatest.{IsWinning}
 use Rattle.core_price.specs.declared.priced.PriceStop.{PriceStop}
 use Rattle.core_price.specs.declared.priced.PriceStop.TheVariants.{Winners, Memory}
+use Rattle.core_price.specs.Weights.{ManyWin}
 use Rattle.row_laws.specs.Winners.{winners_in}
 
--- the winning choice has more than six winners, so many; want of memory says nothing of the book
-abbrev pub IsBookStop : Book → PriceStop → Type 0
-IsBookStop book (Winners n) = (z : List ℕ) × IsWinning (market_of book) z × (6 < winners_in z) × (n ≡ winners_in z)
-IsBookStop book Memory = Unit {0}
+-- the winning choice has more winners than can be priced with the weights, so many; want of memory says nothing of the book
+abbrev pub IsBookStop : Book → List ℕ → PriceStop → Type 0
+IsBookStop book weights (Winners n) = (z : List ℕ) × IsWinning (market_of book) z × ManyWin z weights × (n ≡ winners_in z)
+IsBookStop book weights Memory = Unit {0}

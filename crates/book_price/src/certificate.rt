@@ -1,5 +1,6 @@
 // The certificate of the prices of a book.
-ghost use Rattle.std.specs.Prelude.{◌≡◌, IfOk};
+ghost use Rattle.std.specs.Prelude.{◌≡◌, IfOk, List, ℕ};
+ghost use Rattle.auction_model.specs.Prices.{weight_of};
 ghost use Rattle.book_price.specs.Found.{AreFound, cert_found};
 ghost use Rattle.cert_laws.specs.Priced.{IsPricedCert};
 ghost use Rattle.cert_laws.specs.Tests.{bidders_of, states};
@@ -17,7 +18,7 @@ use std::alloc::{AllocError, Global};
 use value_table::ValueTable;
 use vickrey::Vickrey;
 
-/// The certificate of what was found. It shares the lines of all tables.
+/// The certificate of what was found by some weights. It shares the lines of all tables.
 pub(crate) fn certificate(
     alloc: Global,
     book: &BidBook,
@@ -26,9 +27,10 @@ pub(crate) fn certificate(
     alone: &Vickrey,
     priced: &Priced<ValueTable>,
 ) -> Result<Certificate, AllocError>
-    requires { AreFound book.now winners whole.now alone.now priced.now }
+    requires { (weights : List ℕ) × AreFound book.now winners whole.now alone.now weights priced.now }
     ensures value { IfOk result (λ c. cert_value c ≡ cert_found book.now winners whole.now alone.now priced.now) }
-    ensures priced { IfOk result (λ c. IsPricedCert book.now (cert_value c)) }
+    ensures priced { (weights : List ℕ) → AreFound book.now winners whole.now alone.now weights priced.now
+        → IfOk result (λ c. IsPricedCert book.now (weight_of weights) (cert_value c)) }
     ensures shape { IfOk result (IsFor (bidders_of book.now) (states book.now)) }
 {
     let _bidders = book.bidders();

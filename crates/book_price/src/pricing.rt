@@ -8,9 +8,11 @@ ghost use Rattle.cert_laws.specs.Priced.{IsPricedCert};
 ghost use Rattle.cert_laws.specs.Sound.{cert_point};
 ghost use Rattle.cert_laws.specs.Tests.{bidders_of, states};
 ghost use Rattle.cert_text.specs.CertValues.{cert_value, IsFor};
+ghost use Rattle.auction_model.specs.Prices.{weight_of};
+ghost use Rattle.cert_laws.specs.Weights.{IsWeighing};
 ghost use Rattle.core_price.specs.Turns.{IsPointOfTurn, turns_of};
+ghost use Rattle.core_price.specs.Weights.{FewWin};
 ghost use Rattle.price_text.specs.Rounds.{IsLastPoint};
-ghost use Rattle.row_laws.specs.Winners.{winners_in};
 ghost use Rattle.value_table.specs.TableValue.{IsPlain, IsTableOf};
 ghost use Rattle.book_price.specs.Stops.{IsBookStop};
 
@@ -19,13 +21,10 @@ use crate::winners::{count_winners, winning_choice};
 use bid_book::BidBook;
 use cert_text::Certificate;
 use choices::Choice;
-use core_price::{PriceStop, TurnList, price};
+use core_price::{PriceStop, TurnList, many_win, price};
 use std::alloc::Global;
 use value_table::{BookChooser, ValueTable, plain_table};
 use vickrey::vickrey_from;
-
-// No more winners than this are priced.
-const MOST_WINNERS: usize = 6;
 
 /// The prices of a book: the certificate that shows them, and the turns that led to them.
 #[derive(Drop)]
@@ -41,23 +40,31 @@ pub struct PricedBook {
 /// All nine tests of a certificate hold for it, its choices are the first of the greatest, and its tables are exact. The rows and
 /// their multipliers are the ones that pricing kept; no clause but the tests binds them.
 ///
-/// Errors: `Winners` exactly where more than six win, with their number; `Memory` for want of memory.
-pub fn price_book(alloc: Global, book: &BidBook) -> Result<PricedBook, PriceStop>
+/// `weights` has one weight of 1 to 20 for each bidder.
+///
+/// Errors: `Winners` exactly where more than six win, or more than four that don't all weigh 1, with their number; `Memory`
+/// for want of memory.
+pub fn price_book(
+    alloc: Global,
+    book: &BidBook,
+    weights: &[u32],
+) -> Result<PricedBook, PriceStop>
+    requires { IsWeighing book.now weights.now }
     ensures shape { IfOk result (λ p. IsFor (bidders_of book.now) (states book.now) p.cert) }
-    ensures cert { IfOk result (λ p. IsPricedCert book.now (cert_value p.cert)) }
-    ensures few { IfOk result (λ p. winners_in p.cert.choice ≤ 6) }
-    ensures run { IfOk result (λ p. IsPricingRun (market_of book.now) p.cert.choice (turns_of p.cert.choice p.turns)) }
-    ensures each_turn { IfOk result (λ p. AllByRecursion (IsPointOfTurn p.cert.choice) p.turns) }
+    ensures cert { IfOk result (λ p. IsPricedCert book.now (weight_of weights.now) (cert_value p.cert)) }
+    ensures few { IfOk result (λ p. FewWin p.cert.choice weights.now) }
+    ensures run { IfOk result (λ p. IsPricingRun (market_of book.now) (weight_of weights.now) p.cert.choice (turns_of p.cert.choice p.turns)) }
+    ensures each_turn { IfOk result (λ p. AllByRecursion (IsPointOfTurn p.cert.choice weights.now) p.turns) }
     ensures last_turn { IfOk result (λ p. IsLastPoint (turns_of p.cert.choice p.turns) (cert_point (cert_value p.cert))) }
-    ensures stops { IfErr result (IsBookStop book.now) }
+    ensures stops { IfErr result (IsBookStop book.now weights.now) }
 {
     let whole = plain_table(alloc, book)?;
     let winners = winning_choice(alloc, book, &whole)?;
     let count = count_winners(&winners);
-    if count > MOST_WINNERS {
+    if many_win(count, &winners, weights) {
         return Err(PriceStop::Winners(count as u64));
     }
-    priced_book(alloc, book, winners, &whole)
+    priced_book(alloc, book, winners, &whole, weights)
 }
 
 // The prices of the winning choice, from the table of all bids.
@@ -66,22 +73,25 @@ fn priced_book(
     book: &BidBook,
     winners: Choice,
     whole: &ValueTable,
+    weights: &[u32],
 ) -> Result<PricedBook, PriceStop>
+    requires weights { IsWeighing book.now weights.now }
+    requires few { FewWin winners weights.now }
     requires winners { IsWinning (market_of book.now) winners }
     requires whole { IsTableOf book.now whole.now }
     requires plain { IsPlain whole.now }
     ensures shape { IfOk result (λ p. IsFor (bidders_of book.now) (states book.now) p.cert) }
-    ensures cert { IfOk result (λ p. IsPricedCert book.now (cert_value p.cert)) }
-    ensures few { IfOk result (λ p. winners_in p.cert.choice ≤ 6) }
-    ensures run { IfOk result (λ p. IsPricingRun (market_of book.now) p.cert.choice (turns_of p.cert.choice p.turns)) }
-    ensures each_turn { IfOk result (λ p. AllByRecursion (IsPointOfTurn p.cert.choice) p.turns) }
+    ensures cert { IfOk result (λ p. IsPricedCert book.now (weight_of weights.now) (cert_value p.cert)) }
+    ensures few { IfOk result (λ p. FewWin p.cert.choice weights.now) }
+    ensures run { IfOk result (λ p. IsPricingRun (market_of book.now) (weight_of weights.now) p.cert.choice (turns_of p.cert.choice p.turns)) }
+    ensures each_turn { IfOk result (λ p. AllByRecursion (IsPointOfTurn p.cert.choice weights.now) p.turns) }
     ensures last_turn { IfOk result (λ p. IsLastPoint (turns_of p.cert.choice p.turns) (cert_point (cert_value p.cert))) }
-    ensures stops { IfErr result (IsBookStop book.now) }
+    ensures stops { IfErr result (IsBookStop book.now weights.now) }
 {
     let _bidders = book.bidders();
     let alone = vickrey_from(alloc, book, &winners, whole)?;
     let chooser = BookChooser::new(book, winners.copied(alloc)?);
-    let priced = price(alloc, &chooser, alone.singles())?;
+    let priced = price(alloc, &chooser, alone.singles(), weights)?;
     let cert = certificate(alloc, book, winners, whole, &alone, &priced)?;
     Ok(PricedBook {
         cert,

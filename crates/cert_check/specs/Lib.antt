@@ -6,4 +6,3 @@ pub mod Faults
 pub mod LoweredWorths
 pub mod LineTests
 pub mod EarlierBids
-pub mod Weights

@@ -3,7 +3,7 @@ ghost use Rattle.std.specs.Prelude.{◌≡◌, ◌<◌, ◌≤◌, ℕ};
 ghost use Rattle.cert_check.specs.Head.{HoldsUpTo};
 ghost use Rattle.cert_check.specs.Places.{IsFirstFailing};
 ghost use Rattle.cert_check.specs.Verdicts.{IsVerdict};
-ghost use Rattle.cert_check.specs.Weights.{IsWeighing};
+ghost use Rattle.cert_laws.specs.Weights.{IsWeighing};
 ghost use Rattle.auction_model.specs.Prices.{weight_of};
 ghost use Rattle.cert_laws.specs.Sound.{IsSound};
 ghost use Rattle.cert_laws.specs.Tests.{Asks, bidders_of, states};

@@ -4,7 +4,7 @@ ghost use Rattle.auction_model.specs.Book.{market_of};
 ghost use Rattle.auction_model.specs.Market.{uses, value_of};
 ghost use Rattle.cert_check.specs.Head.{HeadHolds};
 ghost use Rattle.cert_check.specs.Places.{IsFirstFailing};
-ghost use Rattle.cert_check.specs.Weights.{IsWeighing};
+ghost use Rattle.cert_laws.specs.Weights.{IsWeighing};
 ghost use Rattle.auction_model.specs.Prices.{weight_of};
 ghost use Rattle.cert_form.specs.Certificate.{part_of};
 ghost use Rattle.cert_laws.specs.Tests.{C4, C7, C8, IsPart, bidders_of, states, vickrey_of};

@@ -39,7 +39,7 @@ pub use priced::{PriceStop, Priced, PricedRow, Turn};
 use start::{first_rows, prices_of};
 pub use turns::for_bidders;
 use turns::{Ended, take_turns};
-use weights::many_win;
+pub use weights::many_win;
 
 /// The core-selecting prices of the winning choice, found by rows: the core point of least sum, and of these the nearest
 /// to the Vickrey prices. All amounts are net of reserve.

@@ -32,7 +32,7 @@ pub(crate) fn winner_weights(
 }
 
 /// Whether more winners than can be priced win, `count` of them.
-pub(crate) fn many_win(count: usize, winners: &Choice, weights: &[u32]) -> bool
+pub fn many_win(count: usize, winners: &Choice, weights: &[u32]) -> bool
     requires long { length weights.now ≡ length winners.now }
     requires count { count ≡ winners_in winners.now }
     ensures many { IsTrue result → ManyWin winners.now weights.now }

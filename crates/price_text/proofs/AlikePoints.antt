@@ -57,7 +57,7 @@ rows-alike : (m : Market) (z : List ℕ) (p : Point) (rows others : List Row) �
 rows-alike m z p rows others a h = record { den_positive = h.den_positive; bidders = h.bidders; losers = h.losers; each = each-alike m p rows others a h.each }
 
 -- two points that are each the nearest of least sum are the same
-module _ (m : Market) (z : List ℕ) (v : ℕ → ℤ) (rows others : List Row) (p q : Point) (alike : AreAlike m rows others) (a : IsTurnPoint m z v rows p) (b : IsTurnPoint m z v others q) where
+module _ (m : Market) (w : ℕ → ℕ) (z : List ℕ) (v : ℕ → ℤ) (rows others : List Row) (p q : Point) (alike : AreAlike m rows others) (a : IsTurnPoint m w z v rows p) (b : IsTurnPoint m w z v others q) where
   strict : (x y : ℤ) → x <ℤ y → y ≤ℤ x → ⊥
   strict x y h k = omega (arith, ints, h, k)
 

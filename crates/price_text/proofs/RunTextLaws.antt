@@ -72,9 +72,9 @@ same-last m (turn ∷ t ∷ turns) (other ∷ []) same p q these those = absurd 
 same-last m (turn ∷ t ∷ turns) (other ∷ o ∷ others) same p q these those = same-last m (t ∷ turns) (o ∷ others) same.1 p q these those
 
 -- the runs of one choice
-module _ (m : Market) (law : IsMarket m) (z : List ℕ) (v : ℕ → ℤ) (prices : AreVickreyPrices m z v) (runs others : List Turn) (a : IsPricingRun m z runs) (b : IsPricingRun m z others) where
+module _ (m : Market) (law : IsMarket m) (w : ℕ → ℕ) (z : List ℕ) (v : ℕ → ℤ) (prices : AreVickreyPrices m z v) (runs others : List Turn) (a : IsPricingRun m w z runs) (b : IsPricingRun m w z others) where
   same-runs : AreSameTurns m runs others
-  same-runs = same-turns m law z v runs others (single_rows v 0 z) (single_rows v 0 z) (all-own m (single_rows v 0 z)) (a.turns_of v prices) (b.turns_of v prices)
+  same-runs = same-turns m law w z v runs others (single_rows v 0 z) (single_rows v 0 z) (all-own m (single_rows v 0 z)) (a.turns_of v prices) (b.turns_of v prices)
 
   pub same-text : (t u : List ℕ) → AreTurnLines z 0 runs t → AreTurnLines z 0 others u → t ≡ u
   same-text = same-lines m z (law.lengths z a.winning.passed) 0 runs others same-runs

@@ -27,12 +27,12 @@ pub fn one_price_text()
         → SamePoint (market_of book) p q → ((j : ℕ) → 0 < j → j ≤ (market_of book).bidders → v j ≡ w j) → IsPriceText book z v p t → IsPriceText book z w q u → t ≡ u }
 {}
 
-/// The turns of pricing depend on the market and the winning choice alone: all pricing runs have the same lines, and end with
+/// The turns of pricing depend on the market, the weights and the winning choice alone: all pricing runs have the same lines, and end with
 /// the same point.
 pub fn one_run_text()
-    ensures lines { (m : Market) (z : List ℕ) (runs others : List Turn) (t u : List ℕ) → IsMarket m → IsPricingRun m z runs → IsPricingRun m z others
+    ensures lines { (m : Market) (w : ℕ → ℕ) (z : List ℕ) (runs others : List Turn) (t u : List ℕ) → IsMarket m → IsPricingRun m w z runs → IsPricingRun m w z others
         → AreTurnLines z 0 runs t → AreTurnLines z 0 others u → t ≡ u }
-    ensures last_points { (m : Market) (z : List ℕ) (runs others : List Turn) (p q : Point) → IsMarket m → IsPricingRun m z runs → IsPricingRun m z others
+    ensures last_points { (m : Market) (w : ℕ → ℕ) (z : List ℕ) (runs others : List Turn) (p q : Point) → IsMarket m → IsPricingRun m w z runs → IsPricingRun m w z others
         → IsLastPoint runs p → IsLastPoint others q → SamePoint m p q }
 {
     vickrey_prices();

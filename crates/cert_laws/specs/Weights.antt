@@ -1,4 +1,4 @@
--- The weights that a certificate is tested with.
+-- The weights with which a certificate is made and tested.
 use Rattle.std.specs.Prelude.{◌≡◌, ℕ, List, length}
 use Rattle.auction_model.specs.Book.{Book, market_of}
 use Rattle.auction_model.specs.Prices.{AreWeights, weight_of}
