@@ -52,11 +52,11 @@ pub cert-stated : (book : BookValue) (bytes : List ℕ) (c : CertValue) → leng
     → CertFileSays (bidders_of book) (states book) bytes (Some (stated c))
 cert-stated book bytes c most says = cert-says (bidders_of book) (states book) bytes (stated c) most says
 
-pub cert-stop : (book : BookValue) (bytes : List ℕ) (stop : CertStop) → length bytes ≤ cert_bytes → StopsAt (bidders_of book) (states book) bytes stop
-    → (s : Status) → cert_status stop ≡ s → (s ≡ Memory) ⊎ (IsStop s × CertFileGives book (Some bytes) (stopped s))
-cert-stop book bytes stop most says s is = subst (λ (x : Status). (x ≡ Memory) ⊎ (IsStop x × CertFileGives book (Some bytes) (stopped x))) is (by stop says)
+pub cert-stop : (book : BookValue) (weights : List ℕ) (bytes : List ℕ) (stop : CertStop) → length bytes ≤ cert_bytes → StopsAt (bidders_of book) (states book) bytes stop
+    → (s : Status) → cert_status stop ≡ s → (s ≡ Memory) ⊎ (IsStop s × CertFileGives book weights (Some bytes) (stopped s))
+cert-stop book weights bytes stop most says s is = subst (λ (x : Status). (x ≡ Memory) ⊎ (IsStop x × CertFileGives book weights (Some bytes) (stopped x))) is (by stop says)
   where
-    by : (stop : CertStop) → StopsAt (bidders_of book) (states book) bytes stop → (cert_status stop ≡ Memory) ⊎ (IsStop (cert_status stop) × CertFileGives book (Some bytes) (stopped (cert_status stop)))
+    by : (stop : CertStop) → StopsAt (bidders_of book) (states book) bytes stop → (cert_status stop ≡ Memory) ⊎ (IsStop (cert_status stop) × CertFileGives book weights (Some bytes) (stopped (cert_status stop)))
     by (FaultyForm place) says = inr (tt, (Some (faulty place), cert-says (bidders_of book) (states book) bytes (faulty place) most says, refl))
     by (Range place) says = inr (tt, (Some (beyond place), cert-says (bidders_of book) (states book) bytes (beyond place) most says, refl))
     by NoPlace says = inl refl
@@ -83,5 +83,5 @@ read-stop kind most told content before now P stop over fault long s is =
 pub long-book : (bytes : List ℕ) → book_bytes < length bytes → OnBook (Some bytes) (read_status Book book_bytes TooLong)
 long-book bytes h = λ command file. (beyond (_, _), record { text = λ most. absurd (omega (arith, most, h)); long = λ _. refl }, refl)
 
-pub long-cert : (book : BookValue) (bytes : List ℕ) → cert_bytes < length bytes → CertFileGives book (Some bytes) (stopped (read_status Cert cert_bytes TooLong))
-long-cert book bytes h = (None, record { text = λ most. absurd (omega (arith, most, h)); long = λ _. refl }, refl)
+pub long-cert : (book : BookValue) (weights : List ℕ) (bytes : List ℕ) → cert_bytes < length bytes → CertFileGives book weights (Some bytes) (stopped (read_status Cert cert_bytes TooLong))
+long-cert book weights bytes h = (None, record { text = λ most. absurd (omega (arith, most, h)); long = λ _. refl }, refl)

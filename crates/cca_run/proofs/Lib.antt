@@ -4,6 +4,7 @@ mod Judged
 mod Moved
 mod Names
 mod OneOutcome
+mod Ones
 mod Printed
 mod Products
 mod Runs

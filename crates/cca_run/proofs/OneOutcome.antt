@@ -7,7 +7,7 @@ use Rattle.auction_model.specs.Market.{Market}
 use Rattle.auction_model.specs.Greatest.{IsWinning}
 use Rattle.auction_model.specs.Lawful.{IsMarket}
 use Rattle.auction_model.specs.Book.{Book, bids_of, net_of, market_of}
-use Rattle.auction_model.specs.Prices.{Point, AreVickreyPrices, IsCoreOutcome, SamePoint}
+use Rattle.auction_model.specs.Prices.{Point, AreVickreyPrices, AreWeights, IsCoreOutcome, SamePoint, weight_of}
 use Rattle.auction_model.specs.PricingRun.{Turn, IsPricingRun}
 use Rattle.auction_text.specs.BookForm.{IsBook}
 use Rattle.auction_text.specs.BookLines.{Excess, lines}
@@ -20,8 +20,10 @@ use Rattle.cert_laws.specs.Tests.{FailsFirst, Holds, bidders_of, states}
 use Rattle.price_text.specs.Prices.{IsPriceText}
 use Rattle.price_text.specs.Rounds.{AreTurnLines}
 use Rattle.row_laws.specs.Winners.{winners_in}
+use Rattle.core_price.specs.Weights.{FewWin}
+use Rattle.cca_run.proofs.Ones.{not_few_and_many, ones-weigh}
 use Rattle.cca_run.specs.Command.{Command, win, price, check, book_of, command_of}
-use Rattle.cca_run.specs.Outcome.{Outcome, book_bytes, cert_bytes, AreRounds, BookGives, CertFileGives, CertFileSays, CertGives, CommandGives, CommandOf, FileGives, FileSays, Gives, HasTooMany, IsPricing, IsYesText, PriceGives, VerdictGives, done, stopped}
+use Rattle.cca_run.specs.Outcome.{Outcome, book_bytes, cert_bytes, AreRounds, BookGives, CertFileGives, CertFileSays, CertGives, CommandGives, CommandOf, FileGives, FileSays, Gives, HasTooMany, IsPricing, IsYesText, PriceGives, VerdictGives, done, ones, stopped}
 use Rattle.cca_run.specs.declared.status.Status.TheVariants.{No, Limit}
 use Rattle.auction_text.specs.declared.LimitKind.TheVariants.{Winners}
 
@@ -41,16 +43,16 @@ printed-same t u a b e = (refl, e)
 -- what the laws of the crates below say
 module _ (one_book : (bytes : List ℕ) (x y : Said Book Excess) → Says IsBook lines bytes x → Says IsBook lines bytes y → x ≡ y)
     (one_cert : (bidders number : ℕ) (bytes : List ℕ) (x y : Said CertValue ℕ) → CertSays bidders number bytes x → CertSays bidders number bytes y → x ≡ y)
-    (one_verdict : (book : Book) (c : CertValue) (t p u q : ℕ) → FailsFirst book c t p → FailsFirst book c u q → (t ≡ u) × (p ≡ q))
-    (not_both : (book : Book) (c : CertValue) (t p : ℕ) → Holds book c → FailsFirst book c t p → ⊥)
-    (sound : (book : Book) (c : CertValue) → length c.choice ≡ bidders_of book → length c.pay ≡ bidders_of book → Holds book c → IsSound book c)
+    (one_verdict : (book : Book) (w : ℕ → ℕ) (c : CertValue) (t p u q : ℕ) → FailsFirst book w c t p → FailsFirst book w c u q → (t ≡ u) × (p ≡ q))
+    (not_both : (book : Book) (w : ℕ → ℕ) (c : CertValue) (t p : ℕ) → Holds book w c → FailsFirst book w c t p → ⊥)
+    (sound : (book : Book) (w : ℕ → ℕ) (c : CertValue) → AreWeights (market_of book) w → length c.choice ≡ bidders_of book → length c.pay ≡ bidders_of book → Holds book w c → IsSound book w c)
     (one_winning : (m : Market) (c d : List ℕ) → IsMarket m → IsWinning m c → IsWinning m d → c ≡ d)
     (market : (book : Book) → length book.bidders < 2 ^ 16 → ((j i : ℕ) → i ≤ length (bids_of book j) → pos 0 ≤ℤ net_of book j i) → IsMarket (market_of book))
     (one_vickrey : (m : Market) (z : List ℕ) (v w : ℕ → ℤ) → AreVickreyPrices m z v → AreVickreyPrices m z w → (j : ℕ) → 0 < j → j ≤ m.bidders → v j ≡ w j)
-    (one_core : (m : Market) (z : List ℕ) (p q : Point) → IsMarket m → IsCoreOutcome m z p → IsCoreOutcome m z q → SamePoint m p q)
+    (one_core : (m : Market) (w : ℕ → ℕ) (z : List ℕ) (p q : Point) → IsMarket m → IsCoreOutcome m w z p → IsCoreOutcome m w z q → SamePoint m p q)
     (one_prices : (book : Book) (z : List ℕ) (v w : ℕ → ℤ) (p q : Point) (t u : List ℕ) → length z ≡ (market_of book).bidders → pos 1 ≤ℤ p.den → pos 1 ≤ℤ q.den
     → SamePoint (market_of book) p q → ((j : ℕ) → 0 < j → j ≤ (market_of book).bidders → v j ≡ w j) → IsPriceText book z v p t → IsPriceText book z w q u → t ≡ u)
-    (one_run : (m : Market) (z : List ℕ) (runs others : List Turn) (t u : List ℕ) → IsMarket m → IsPricingRun m z runs → IsPricingRun m z others
+    (one_run : (m : Market) (w : ℕ → ℕ) (z : List ℕ) (runs others : List Turn) (t u : List ℕ) → IsMarket m → IsPricingRun m w z runs → IsPricingRun m w z others
     → AreTurnLines z 0 runs t → AreTurnLines z 0 others u → t ≡ u) where
   one-said : (bytes : List ℕ) (x y : Said Book Excess) → FileSays bytes x → FileSays bytes y → x ≡ y
   one-said bytes x y a b =
@@ -82,76 +84,73 @@ module _ (one_book : (bytes : List ℕ) (x y : Said Book Excess) → Says IsBook
       never : {e : Excess} → stated book ≡ beyond e → ⊥
       never is = cc
 
-  one-rounds : (rounds : Bool) (book : Book) (z : List ℕ) (runs others : List Turn) (t u : List ℕ) → IsMarket (market_of book) → IsPricingRun (market_of book) z runs
-      → IsPricingRun (market_of book) z others → AreRounds rounds z runs t → AreRounds rounds z others u → t ≡ u
-  one-rounds true book z runs others t u m a b x y = one_run (market_of book) z runs others t u m a b x y
-  one-rounds false book z runs others t u m a b x y = x ∙ sym y
+  one-rounds : (rounds : Bool) (book : Book) (weights z : List ℕ) (runs others : List Turn) (t u : List ℕ) → IsMarket (market_of book) → IsPricingRun (market_of book) (weight_of weights) z runs
+      → IsPricingRun (market_of book) (weight_of weights) z others → AreRounds rounds z runs t → AreRounds rounds z others u → t ≡ u
+  one-rounds true book weights z runs others t u m a b x y = one_run (market_of book) (weight_of weights) z runs others t u m a b x y
+  one-rounds false book weights z runs others t u m a b x y = x ∙ sym y
 
-  vickrey-of : (book : Book) (rounds : Bool) (c : CertValue) (t : List ℕ) → IsPricing book rounds c t → AreVickreyPrices (market_of book) c.choice (cert_prices book c)
-  vickrey-of book rounds c t a = (sound book c a.certificate.choice.0 a.certificate.pay.0 a.priced.holds).vickrey
+  vickrey-of : (book : Book) (weights : List ℕ) → AreWeights (market_of book) (weight_of weights) → (rounds : Bool) (c : CertValue) (t : List ℕ) → IsPricing book weights rounds c t → AreVickreyPrices (market_of book) c.choice (cert_prices book c)
+  vickrey-of book weights are rounds c t a = (sound book (weight_of weights) c are a.certificate.choice.0 a.certificate.pay.0 a.priced.holds).vickrey
 
-  one-pricing : (book : Book) (rounds : Bool) (c d : CertValue) (t u : List ℕ) → IsMarket (market_of book) → IsPricing book rounds c t → IsPricing book rounds d u → t ≡ u
-  one-pricing book rounds c d t u m a b =
+  one-pricing : (book : Book) (weights : List ℕ) → AreWeights (market_of book) (weight_of weights) → (rounds : Bool) (c d : CertValue) (t u : List ℕ) → IsMarket (market_of book) → IsPricing book weights rounds c t → IsPricing book weights rounds d u → t ≡ u
+  one-pricing book weights are rounds c d t u m a b =
       let is : d.choice ≡ c.choice = one_winning (market_of book) d.choice c.choice m b.priced.winning a.priced.winning in
-      let run = subst (λ (z : List ℕ). IsPricingRun (market_of book) z b.turns) is b.run in
+      let run = subst (λ (z : List ℕ). IsPricingRun (market_of book) (weight_of weights) z b.turns) is b.run in
       let rounds_of = subst (λ (z : List ℕ). AreRounds rounds z b.turns b.lines) is b.are_rounds in
-      let outcome = subst (λ (z : List ℕ). IsCoreOutcome (market_of book) z (cert_point d)) is b.priced.outcome in
-      let vickrey = subst (λ (z : List ℕ). AreVickreyPrices (market_of book) z (cert_prices book d)) is (vickrey-of book rounds d u b) in
+      let outcome = subst (λ (z : List ℕ). IsCoreOutcome (market_of book) (weight_of weights) z (cert_point d)) is b.priced.outcome in
+      let vickrey = subst (λ (z : List ℕ). AreVickreyPrices (market_of book) z (cert_prices book d)) is (vickrey-of book weights are rounds d u b) in
       let prices_of = subst (λ (z : List ℕ). IsPriceText book z (cert_prices book d) (cert_point d) b.prices) is b.are_prices in
-      let same = one-rounds rounds book c.choice a.turns b.turns a.lines b.lines m a.run run a.are_rounds rounds_of in
+      let same = one-rounds rounds book weights c.choice a.turns b.turns a.lines b.lines m a.run run a.are_rounds rounds_of in
       let prices = one_prices book c.choice (cert_prices book c) (cert_prices book d) (cert_point c) (cert_point d) a.prices b.prices (m.lengths c.choice a.priced.winning.passed)
-      a.priced.outcome.core.den_positive outcome.core.den_positive (one_core (market_of book) c.choice (cert_point c) (cert_point d) m a.priced.outcome outcome)
-      (one_vickrey (market_of book) c.choice (cert_prices book c) (cert_prices book d) (vickrey-of book rounds c t a) vickrey) a.are_prices prices_of in
+      a.priced.outcome.core.den_positive outcome.core.den_positive (one_core (market_of book) (weight_of weights) c.choice (cert_point c) (cert_point d) m a.priced.outcome outcome)
+      (one_vickrey (market_of book) c.choice (cert_prices book c) (cert_prices book d) (vickrey-of book weights are rounds c t a) vickrey) a.are_prices prices_of in
       a.whole ∙ ap (λ (l : List ℕ). l ++ a.prices) same ∙ ap (λ (l : List ℕ). b.lines ++ l) prices ∙ sym b.whole
 
-  few-or-many : (book : Book) (rounds : Bool) (c : CertValue) (t z : List ℕ) → IsMarket (market_of book) → IsPricing book rounds c t → HasTooMany book z → ⊥
-  few-or-many book rounds c t z m a many =
-      let is : winners_in c.choice ≡ winners_in z = ap winners_in (one_winning (market_of book) c.choice z m a.priced.winning many.winning) in
-      let few = a.few in
-      let more = many.many in
-      omega (arith, is, few, more)
+  few-or-many : (book : Book) (weights : List ℕ) (rounds : Bool) (c : CertValue) (t z : List ℕ) → IsMarket (market_of book) → IsPricing book weights rounds c t → HasTooMany book z weights → ⊥
+  few-or-many book weights rounds c t z m a many =
+      not_few_and_many z weights (subst (λ (x : List ℕ). FewWin x weights) (one_winning (market_of book) c.choice z m a.priced.winning many.winning) a.few) many.many
 
-  one-priced : (book : Book) (rounds : Bool) (o p : Outcome) → IsMarket (market_of book) → PriceGives book rounds o → PriceGives book rounds p → Same o p
-  one-priced book rounds o p m (inl x) (inl y) = both o p (done x.1 (cert_text x.0)) (done y.1 (cert_text y.0)) x.3 y.3 (printed-same x.1 y.1 (cert_text x.0) (cert_text y.0) (one-pricing book rounds x.0 y.0 x.1 y.1 m x.2 y.2))
-  one-priced book rounds o p m (inl x) (inr y) = absurd (few-or-many book rounds x.0 x.1 y.0 m x.2 y.1)
-  one-priced book rounds o p m (inr x) (inl y) = absurd (few-or-many book rounds y.0 y.1 x.0 m y.2 x.1)
-  one-priced book rounds o p m (inr x) (inr y) =
+  one-priced : (book : Book) (weights : List ℕ) → AreWeights (market_of book) (weight_of weights) → (rounds : Bool) (o p : Outcome) → IsMarket (market_of book) → PriceGives book weights rounds o → PriceGives book weights rounds p → Same o p
+  one-priced book weights are rounds o p m (inl x) (inl y) = both o p (done x.1 (cert_text x.0)) (done y.1 (cert_text y.0)) x.3 y.3 (printed-same x.1 y.1 (cert_text x.0) (cert_text y.0) (one-pricing book weights are rounds x.0 y.0 x.1 y.1 m x.2 y.2))
+  one-priced book weights are rounds o p m (inl x) (inr y) = absurd (few-or-many book weights rounds x.0 x.1 y.0 m x.2 y.1)
+  one-priced book weights are rounds o p m (inr x) (inl y) = absurd (few-or-many book weights rounds y.0 y.1 x.0 m y.2 x.1)
+  one-priced book weights are rounds o p m (inr x) (inr y) =
       let is : winners_in x.0 ≡ winners_in y.0 = ap winners_in (one_winning (market_of book) x.0 y.0 m x.1.winning y.1.winning) in
       equal o p (stopped (Limit Winners (winners_in y.0))) (x.2 ∙ ap (λ (n : ℕ). stopped (Limit Winners n)) is) y.2
 
-  one-yes : (book : Book) (c : CertValue) (t u : List ℕ) → IsMarket (market_of book) → IsSound book c → IsYesText book c t → IsYesText book c u → t ≡ u
-  one-yes book c t u m s x y =
+  one-yes : (book : Book) (w : ℕ → ℕ) (c : CertValue) (t u : List ℕ) → IsMarket (market_of book) → IsSound book w c → IsYesText book c t → IsYesText book c u → t ≡ u
+  one-yes book w c t u m s x y =
       let den = s.outcome.core.den_positive in
       let prices = one_prices book c.choice (cert_prices book c) (cert_prices book c) (cert_point c) (cert_point c) x.0 y.0 (m.lengths c.choice s.winning.passed) den den
       (λ j some le. refl) (λ j some le. refl) x.1 y.1 in
       x.2 ∙ ap (λ (l : List ℕ). codes "yes\n" ++ l) prices ∙ sym y.2
 
-  one-judged : (book : Book) (c : CertValue) (o p : Outcome) → IsMarket (market_of book) → VerdictGives book c o → VerdictGives book c p → Same o p
-  one-judged book c o p m (inl x) (inl y) = let a = x.2 in let b = y.2 in both o p (done a.0 []) (done b.0 []) a.2 b.2 (printed-same a.0 b.0 [] [] (one-yes book c a.0 b.0 m x.1 a.1 b.1))
-  one-judged book c o p m (inl x) (inr y) = absurd (not_both book c y.0 y.1 x.0 y.2)
-  one-judged book c o p m (inr x) (inl y) = absurd (not_both book c x.0 x.1 y.0 x.2)
-  one-judged book c o p m (inr x) (inr y) =
-      let is = one_verdict book c x.0 x.1 y.0 y.1 x.2 y.2 in
+  one-judged : (book : Book) (weights : List ℕ) (c : CertValue) (o p : Outcome) → IsMarket (market_of book) → VerdictGives book weights c o → VerdictGives book weights c p → Same o p
+  one-judged book weights c o p m (inl x) (inl y) = let a = x.2 in let b = y.2 in both o p (done a.0 []) (done b.0 []) a.2 b.2 (printed-same a.0 b.0 [] [] (one-yes book (weight_of weights) c a.0 b.0 m x.1 a.1 b.1))
+  one-judged book weights c o p m (inl x) (inr y) = absurd (not_both book (weight_of weights) c y.0 y.1 x.0 y.2)
+  one-judged book weights c o p m (inr x) (inl y) = absurd (not_both book (weight_of weights) c x.0 x.1 y.0 x.2)
+  one-judged book weights c o p m (inr x) (inr y) =
+      let is = one_verdict book (weight_of weights) c x.0 x.1 y.0 y.1 x.2 y.2 in
       equal o p (stopped (No y.0 y.1)) (x.3 ∙ ap (λ (t : ℕ). stopped (No t x.1)) is.0 ∙ ap (λ (q : ℕ). stopped (No y.0 q)) is.1) y.3
 
-  one-cert-given : (book : Book) (said : Option (Said CertValue ℕ)) (o p : Outcome) → IsMarket (market_of book) → CertGives book said o → CertGives book said p → Same o p
-  one-cert-given book None o p m x y = equal o p _ x y
-  one-cert-given book (Some (stated c)) o p m x y = one-judged book c o p m x y
-  one-cert-given book (Some (faulty place)) o p m x y = equal o p _ x y
-  one-cert-given book (Some (beyond place)) o p m x y = equal o p _ x y
+  one-cert-given : (book : Book) (weights : List ℕ) (said : Option (Said CertValue ℕ)) (o p : Outcome) → IsMarket (market_of book) → CertGives book weights said o → CertGives book weights said p → Same o p
+  one-cert-given book weights None o p m x y = equal o p _ x y
+  one-cert-given book weights (Some (stated c)) o p m x y = one-judged book weights c o p m x y
+  one-cert-given book weights (Some (faulty place)) o p m x y = equal o p _ x y
+  one-cert-given book weights (Some (beyond place)) o p m x y = equal o p _ x y
 
-  one-cert-file : (book : Book) (file : Option (List ℕ)) (o p : Outcome) → IsMarket (market_of book) → CertFileGives book file o → CertFileGives book file p → Same o p
-  one-cert-file book None o p m x y = equal o p _ x y
-  one-cert-file book (Some bytes) o p m x y =
+  one-cert-file : (book : Book) (weights : List ℕ) (file : Option (List ℕ)) (o p : Outcome) → IsMarket (market_of book) → CertFileGives book weights file o → CertFileGives book weights file p → Same o p
+  one-cert-file book weights None o p m x y = equal o p _ x y
+  one-cert-file book weights (Some bytes) o p m x y =
       let same = one-cert-said (bidders_of book) (states book) bytes x.0 y.0 x.1 y.1 in
-      one-cert-given book y.0 o p m (subst (λ (s : Option (Said CertValue ℕ)). CertGives book s o) same x.2) y.2
+      one-cert-given book weights y.0 o p m (subst (λ (s : Option (Said CertValue ℕ)). CertGives book weights s o) same x.2) y.2
 
   one-of : (command : Command) (file : List ℕ → Option (List ℕ)) (book : Book) (o p : Outcome) → IsMarket (market_of book) → CommandOf command file book o → CommandOf command file book p → Same o p
   one-of (win name) file book o p m x y =
       let same = one_winning (market_of book) x.0 y.0 m x.1 y.1 in
       both o p (done (win_text book x.0) []) (done (win_text book y.0) []) x.2 y.2 (printed-same (win_text book x.0) (win_text book y.0) [] [] (ap (win_text book) same))
-  one-of (price name cert rounds) file book o p m x y = one-priced book rounds o p m x y
-  one-of (check name cert) file book o p m x y = one-cert-file book (file cert) o p m x y
+  one-of (price name cert rounds) file book o p m x y = one-priced book (ones book) (ones-weigh book).each rounds o p m x y
+  one-of (check name cert) file book o p m x y = one-cert-file book (ones book) (file cert) o p m x y
 
   one-book-given : (command : Command) (file : List ℕ → Option (List ℕ)) (bytes : List ℕ) (said : Said Book Excess) (o p : Outcome) → FileSays bytes said
       → BookGives command file said o → BookGives command file said p → Same o p

@@ -17,6 +17,8 @@ use Rattle.cert_laws.specs.Tests.{bidders_of, states}
 use Rattle.cert_text.specs.CertValues.{cert_value, IsFor}
 use Rattle.cert_text.specs.declared.certificate.Certificate.{Certificate}
 use Rattle.book_price.specs.Stops.{IsBookStop}
+use Rattle.auction_model.specs.Prices.{weight_of}
+use Rattle.core_price.specs.Weights.{FewWin}
 use Rattle.core_price.specs.Turns.{IsPointOfTurn, turns_of}
 use Rattle.core_price.specs.declared.priced.PriceStop.{PriceStop}
 use Rattle.core_price.specs.declared.priced.PriceStop.TheVariants.{Winners as TooMany, Memory as NoSpace}
@@ -36,25 +38,25 @@ use Rattle.cca_run.specs.declared.status.Status.{Status}
 use Rattle.cca_run.specs.declared.status.Status.TheVariants.{Memory, ReadFault, Limit}
 use Rattle.cca_run.proofs.Judged.{OnBook}
 
-den-range : (d : ℤ) → pos 1 ≤ℤ d → d <ℤ pos (2 ^ 32) → InRange d
+den-range : (d : ℤ) → pos 1 ≤ℤ d → d ≤ℤ pos (320 ^ 4) → InRange d
 den-range (pos d) low high = omega (arith, ints, high)
 den-range (negsuc d) low high = absurd (omega (arith, ints, low))
 
-payments-of : (z : List ℕ) (t : Turn) → IsPointOfTurn z t → ArePayments z t.den t.at
-payments-of z t p = record { den_positive = p.den_positive; den_range = den-range t.den p.den_positive p.den_small; winners = p.winners; not_negative = p.not_negative }
+payments-of : (z weights : List ℕ) (t : Turn) → IsPointOfTurn z weights t → ArePayments z t.den t.at
+payments-of z weights t p = record { den_positive = p.den_positive; den_range = den-range t.den p.den_positive p.den_small; winners = p.winners; not_negative = p.not_negative }
 
 -- the turns can be printed
-pub can-print : (z : List ℕ) (turns : List Turn) → AllByRecursion (IsPointOfTurn z) turns → AllByRecursion (CanPrintTurn z) turns
-can-print z [] all = tt
-can-print z (t ∷ turns) all = (record { payments = payments-of z t all.0; excess = all.0.excess }, can-print z turns all.1)
+pub can-print : (z weights : List ℕ) (turns : List Turn) → AllByRecursion (IsPointOfTurn z weights) turns → AllByRecursion (CanPrintTurn z) turns
+can-print z weights [] all = tt
+can-print z weights (t ∷ turns) all = (record { payments = payments-of z weights t all.0; excess = all.0.excess }, can-print z weights turns all.1)
 
 -- a priced book gives its prices and its certificate
-pub priced : (book : BookValue) (rounds : Bool) (cert : Certificate) (turns : List Turn) (lines prices text appended : List ℕ) → IsFor (bidders_of book) (states book) cert
-    → IsPricedCert book (cert_value cert) → winners_in cert.choice ≤ 6 → IsPricingRun (market_of book) cert.choice (turns_of cert.choice turns)
+pub priced : (book : BookValue) (weights : List ℕ) (rounds : Bool) (cert : Certificate) (turns : List Turn) (lines prices text appended : List ℕ) → IsFor (bidders_of book) (states book) cert
+    → IsPricedCert book (weight_of weights) (cert_value cert) → FewWin cert.choice weights → IsPricingRun (market_of book) (weight_of weights) cert.choice (turns_of cert.choice turns)
     → IsLastPoint (turns_of cert.choice turns) (cert_point (cert_value cert)) → AreRounds rounds cert.choice (turns_of cert.choice turns) lines
     → IsPriceText book cert.choice (cert_prices book (cert_value cert)) (cert_point (cert_value cert)) prices → text ≡ lines ++ prices → appended ≡ cert_text (cert_value cert)
-    → PriceGives book rounds (done text appended)
-priced book rounds cert turns lines prices text appended shape is few run last are_rounds are_prices whole written =
+    → PriceGives book weights rounds (done text appended)
+priced book weights rounds cert turns lines prices text appended shape is few run last are_rounds are_prices whole written =
     inl (
       cert_value cert,
       text,
@@ -74,22 +76,22 @@ priced book rounds cert turns lines prices text appended shape is few run last a
       ap (done text) written,
     )
 
--- more than six winners give the limit
-pub too-many : (book : BookValue) (rounds : Bool) (n : ℕ) → IsBookStop book (TooMany n) → PriceGives book rounds (stopped (Limit Winners n))
-too-many book rounds n stop = inr (stop.0, record { winning = stop.1; many = stop.2 }, ap (λ (k : ℕ). stopped (Limit Winners k)) stop.3)
+-- too many winners give the limit
+pub too-many : (book : BookValue) (weights : List ℕ) (rounds : Bool) (n : ℕ) → IsBookStop book weights (TooMany n) → PriceGives book weights rounds (stopped (Limit Winners n))
+too-many book weights rounds n stop = inr (stop.0, record { winning = stop.1; many = stop.2 }, ap (λ (k : ℕ). stopped (Limit Winners k)) stop.3)
 
 -- what a stop of pricing gives
-pub price-stop : (book : BookValue) (rounds : Bool) (stop : PriceStop) → ((n : ℕ) → stop ≡ TooMany n → PriceGives book rounds (stopped (Limit Winners n)))
-    → (s : Status) → price_status stop ≡ s → (s ≡ Memory) ⊎ (IsStop s × PriceGives book rounds (stopped s))
-price-stop book rounds stop many s is = subst (λ (x : Status). (x ≡ Memory) ⊎ (IsStop x × PriceGives book rounds (stopped x))) is (by stop many)
+pub price-stop : (book : BookValue) (weights : List ℕ) (rounds : Bool) (stop : PriceStop) → ((n : ℕ) → stop ≡ TooMany n → PriceGives book weights rounds (stopped (Limit Winners n)))
+    → (s : Status) → price_status stop ≡ s → (s ≡ Memory) ⊎ (IsStop s × PriceGives book weights rounds (stopped s))
+price-stop book weights rounds stop many s is = subst (λ (x : Status). (x ≡ Memory) ⊎ (IsStop x × PriceGives book weights rounds (stopped x))) is (by stop many)
   where
-    by : (stop : PriceStop) → ((n : ℕ) → stop ≡ TooMany n → PriceGives book rounds (stopped (Limit Winners n))) → (price_status stop ≡ Memory) ⊎ (IsStop (price_status stop) × PriceGives book rounds (stopped (price_status stop)))
+    by : (stop : PriceStop) → ((n : ℕ) → stop ≡ TooMany n → PriceGives book weights rounds (stopped (Limit Winners n))) → (price_status stop ≡ Memory) ⊎ (IsStop (price_status stop) × PriceGives book weights rounds (stopped (price_status stop)))
     by (TooMany n) many = inr (tt, many n refl)
     by NoSpace many = inl refl
 
 -- a certificate's file gives what the checker says of the certificate that it states
-pub cert-gives : (book : BookValue) (file : Option (List ℕ)) (c : CertValue) (o : Outcome) → StatesCert book file c → VerdictGives book c o → CertFileGives book file o
-cert-gives book file c o states_it gives = subst (λ (f : Option (List ℕ)). CertFileGives book f o) (sym states_it.here) (Some (stated c), states_it.says, gives)
+pub cert-gives : (book : BookValue) (weights : List ℕ) (file : Option (List ℕ)) (c : CertValue) (o : Outcome) → StatesCert book file c → VerdictGives book weights c o → CertFileGives book weights file o
+cert-gives book weights file c o states_it gives = subst (λ (f : Option (List ℕ)). CertFileGives book weights f o) (sym states_it.here) (Some (stated c), states_it.says, gives)
 
 -- a book's file gives what the command gives of the book that it states
 pub book-gives : (command : Command) (file : List ℕ → Option (List ℕ)) (book : BookValue) (o : Outcome) → StatesBook (file (book_of command)) book → CommandOf command file book o

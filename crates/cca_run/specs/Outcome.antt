@@ -1,5 +1,5 @@
 -- What a run answers, prints and appends, by its words and the bytes of its files.
-use Rattle.std.specs.Prelude.{◌≡◌, ◌⊎◌, ◌<◌, ◌≤◌, ◌+◌, ℕ, Bool, true, false, Option, Some, None, List, [], ◌++◌, codes, length}
+use Rattle.std.specs.Prelude.{◌≡◌, ◌⊎◌, ◌<◌, ◌≤◌, ◌+◌, ℕ, Bool, true, false, Option, Some, None, List, [], ◌++◌, codes, length, replicate}
 use Rattle.line_text.specs.LineText.{Said, stated, faulty, beyond, Says}
 use Rattle.auction_model.specs.Greatest.{IsWinning}
 use Rattle.auction_model.specs.Book.{market_of, Book as BookValue}
@@ -16,6 +16,8 @@ use Rattle.cert_laws.specs.Sound.{IsSound, cert_point, cert_prices}
 use Rattle.cert_laws.specs.Tests.{FailsFirst, Holds, bidders_of, states}
 use Rattle.price_text.specs.Prices.{IsPriceText}
 use Rattle.price_text.specs.Rounds.{AreTurnLines, IsLastPoint}
+use Rattle.auction_model.specs.Prices.{weight_of}
+use Rattle.core_price.specs.Weights.{FewWin, ManyWin}
 use Rattle.row_laws.specs.Winners.{winners_in}
 use Rattle.cca_run.specs.Command.{Command, win, price, check, book_of, command_of}
 use Rattle.cca_run.specs.StatusLine.{status_line}
@@ -53,6 +55,10 @@ pub record CertFileSays (bidders number : ℕ) (bytes : List ℕ) (said : Option
   pub text : length bytes ≤ cert_bytes → (x : Said CertValue ℕ) × CertSays bidders number bytes x × (said ≡ Some x)
   pub long : cert_bytes < length bytes → said ≡ None
 
+-- each bidder of the book weighs 1
+abbrev pub ones : BookValue → List ℕ
+ones book = replicate (bidders_of book) 1
+
 -- the lines of the turns, where they are asked for
 abbrev pub AreRounds : Bool → List ℕ → List Turn → List ℕ → Type 0
 AreRounds true z turns text = AreTurnLines z 0 turns text
@@ -60,12 +66,12 @@ AreRounds false z turns text = text ≡ []
 
 -- What pricing a book gives: a certificate of the core outcome for which all tests hold, and a pricing run that ends at its payments;
 -- printed are the lines of the turns, where they are asked for, and the prices.
-pub record IsPricing (book : BookValue) (rounds : Bool) (c : CertValue) (text : List ℕ) : Type 0 where
+pub record IsPricing (book : BookValue) (weights : List ℕ) (rounds : Bool) (c : CertValue) (text : List ℕ) : Type 0 where
   pub certificate : IsCertificate (bidders_of book) (states book) c
-  pub priced : IsPricedCert book c
-  pub few : winners_in c.choice ≤ 6
+  pub priced : IsPricedCert book (weight_of weights) c
+  pub few : FewWin c.choice weights
   pub turns : List Turn
-  pub run : IsPricingRun (market_of book) c.choice turns
+  pub run : IsPricingRun (market_of book) (weight_of weights) c.choice turns
   pub last : IsLastPoint turns (cert_point c)
   pub lines : List ℕ
   pub are_rounds : AreRounds rounds c.choice turns lines
@@ -73,15 +79,15 @@ pub record IsPricing (book : BookValue) (rounds : Bool) (c : CertValue) (text : 
   pub are_prices : IsPriceText book c.choice (cert_prices book c) (cert_point c) prices
   pub whole : text ≡ lines ++ prices
 
--- the winning choice has more than six winners, which are not priced
-pub record HasTooMany (book : BookValue) (z : List ℕ) : Type 0 where
+-- more winners than can be priced with the weights win
+pub record HasTooMany (book : BookValue) (z weights : List ℕ) : Type 0 where
   pub winning : IsWinning (market_of book) z
-  pub many : 6 < winners_in z
+  pub many : ManyWin z weights
 
-abbrev pub PriceGives : BookValue → Bool → Outcome → Type 0
-PriceGives book rounds outcome =
-    ((c : CertValue) × (text : List ℕ) × IsPricing book rounds c text × (outcome ≡ done text (cert_text c)))
-    ⊎ ((z : List ℕ) × HasTooMany book z × (outcome ≡ stopped (Limit Winners (winners_in z))))
+abbrev pub PriceGives : BookValue → List ℕ → Bool → Outcome → Type 0
+PriceGives book weights rounds outcome =
+    ((c : CertValue) × (text : List ℕ) × IsPricing book weights rounds c text × (outcome ≡ done text (cert_text c)))
+    ⊎ ((z : List ℕ) × HasTooMany book z weights × (outcome ≡ stopped (Limit Winners (winners_in z))))
 
 -- the line `yes`, and the outcome that the certificate shows
 abbrev pub IsYesText : BookValue → CertValue → List ℕ → Type 0
@@ -89,27 +95,27 @@ IsYesText book c text = (prices : List ℕ) × IsPriceText book c.choice (cert_p
 
 -- A certificate that passes all tests gives yes and the outcome that it shows; then its choice and its payments are the core outcome.
 -- Else the first test that fails is told, with its first place.
-abbrev pub VerdictGives : BookValue → CertValue → Outcome → Type 0
-VerdictGives book c outcome =
-    (Holds book c × IsSound book c × ((text : List ℕ) × IsYesText book c text × (outcome ≡ done text [])))
-    ⊎ ((test place : ℕ) × FailsFirst book c test place × (outcome ≡ stopped (No test place)))
+abbrev pub VerdictGives : BookValue → List ℕ → CertValue → Outcome → Type 0
+VerdictGives book weights c outcome =
+    (Holds book (weight_of weights) c × IsSound book (weight_of weights) c × ((text : List ℕ) × IsYesText book c text × (outcome ≡ done text [])))
+    ⊎ ((test place : ℕ) × FailsFirst book (weight_of weights) c test place × (outcome ≡ stopped (No test place)))
 
-abbrev pub CertGives : BookValue → Option (Said CertValue ℕ) → Outcome → Type 0
-CertGives book None outcome = outcome ≡ stopped (Limit Bytes (cert_bytes + 1))
-CertGives book (Some (stated c)) outcome = VerdictGives book c outcome
-CertGives book (Some (faulty place)) outcome = outcome ≡ stopped (Refused Cert place 0)
-CertGives book (Some (beyond place)) outcome = outcome ≡ stopped (Refused Cert place 0)
+abbrev pub CertGives : BookValue → List ℕ → Option (Said CertValue ℕ) → Outcome → Type 0
+CertGives book weights None outcome = outcome ≡ stopped (Limit Bytes (cert_bytes + 1))
+CertGives book weights (Some (stated c)) outcome = VerdictGives book weights c outcome
+CertGives book weights (Some (faulty place)) outcome = outcome ≡ stopped (Refused Cert place 0)
+CertGives book weights (Some (beyond place)) outcome = outcome ≡ stopped (Refused Cert place 0)
 
 -- what the certificate's file gives
-abbrev pub CertFileGives : BookValue → Option (List ℕ) → Outcome → Type 0
-CertFileGives book None outcome = outcome ≡ stopped (ReadFault Cert)
-CertFileGives book (Some bytes) outcome = (said : Option (Said CertValue ℕ)) × CertFileSays (bidders_of book) (states book) bytes said × CertGives book said outcome
+abbrev pub CertFileGives : BookValue → List ℕ → Option (List ℕ) → Outcome → Type 0
+CertFileGives book weights None outcome = outcome ≡ stopped (ReadFault Cert)
+CertFileGives book weights (Some bytes) outcome = (said : Option (Said CertValue ℕ)) × CertFileSays (bidders_of book) (states book) bytes said × CertGives book weights said outcome
 
 -- what a command gives of a book
 abbrev pub CommandOf : Command → (List ℕ → Option (List ℕ)) → BookValue → Outcome → Type 0
 CommandOf (win name) file book outcome = (z : List ℕ) × IsWinning (market_of book) z × (outcome ≡ done (win_text book z) [])
-CommandOf (price name cert rounds) file book outcome = PriceGives book rounds outcome
-CommandOf (check name cert) file book outcome = CertFileGives book (file cert) outcome
+CommandOf (price name cert rounds) file book outcome = PriceGives book (ones book) rounds outcome
+CommandOf (check name cert) file book outcome = CertFileGives book (ones book) (file cert) outcome
 
 -- what the text of a book gives: what the command gives of the book, and else the stop
 abbrev pub BookGives : Command → (List ℕ → Option (List ℕ)) → Said BookValue Excess → Outcome → Type 0

@@ -1,5 +1,5 @@
 // From the name of a file to the certificate of a book that it states.
-ghost use Rattle.std.specs.Prelude.{◌≡◌, ◌⊎◌, ◌≤◌, length, Some, IfOk, IsTrue};
+ghost use Rattle.std.specs.Prelude.{◌≡◌, ◌⊎◌, ◌≤◌, ℕ, List, length, Some, IfOk, IsTrue};
 ghost use Rattle.line_text.specs.LineText.{stated};
 ghost use Rattle.cca_base.specs.Faults.{Rose};
 ghost use Rattle.cca_base.specs.Files.{KeepsFiles, CountsOnly};
@@ -34,7 +34,7 @@ fn cert_of_bytes(alloc: Global, bytes: &[u8], book: &BidBook) -> Result<Certific
     requires { length bytes.now ≤ cert_bytes }
     ensures cert { IfOk result (λ cert. CertFileSays (bidders_of book.now) (states book.now) bytes.now (Some (stated (cert_value cert)))) }
     ensures shape { IfOk result (IsFor (bidders_of book.now) (states book.now)) }
-    ensures stop { (s : Status) → result ≡ Err s → (s ≡ Status.Memory) ⊎ (IsStop s × CertFileGives book.now (Some bytes.now) (stopped s)) }
+    ensures stop { (weights : List ℕ) (s : Status) → result ≡ Err s → (s ≡ Status.Memory) ⊎ (IsStop s × CertFileGives book.now weights (Some bytes.now) (stopped s)) }
 {
     match read_cert(alloc, bytes, shape_of(book)) {
         Ok(cert) => Ok(cert),
@@ -52,9 +52,9 @@ pub fn cert_in<F: Files>(
     requires { IsTrue ((F.folder files.old).knows name.now) }
     ensures cert { IsTrue (F.folder files.old).told → IfOk result (λ cert. StatesCert book.now ((F.folder files.old).file name.now) (cert_value cert)) }
     ensures shape { IfOk result (IsFor (bidders_of book.now) (states book.now)) }
-    ensures stop { (s : Status) → result ≡ Err s → (s ≡ Status.Memory)
+    ensures stop { (weights : List ℕ) (s : Status) → result ≡ Err s → (s ≡ Status.Memory)
         ⊎ (((s ≡ Status.ReadFault FileKind.Cert) × Rose ((F.folder files.old).load_faults name.now) ((F.folder files.new).load_faults name.now))
-        ⊎ (IsStop s × (IsTrue (F.folder files.old).told → CertFileGives book.now ((F.folder files.old).file name.now) (stopped s)))) }
+        ⊎ (IsStop s × (IsTrue (F.folder files.old).told → CertFileGives book.now weights ((F.folder files.old).file name.now) (stopped s)))) }
     ensures kept { KeepsFiles (F.folder files.old) (F.folder files.new) }
     ensures count { CountsOnly name.now (F.folder files.old).load_faults (F.folder files.new).load_faults }
     ensures appends { (F.folder files.new).append_faults ≡ (F.folder files.old).append_faults }

@@ -5,13 +5,14 @@ ghost use Rattle.auction_text.specs.declared.LimitKind.{LimitKind};
 ghost use Rattle.cca_base.specs.Faults.{Rose};
 ghost use Rattle.cca_base.specs.Files.{KeepsFiles, CountsOnly};
 ghost use Rattle.cert_laws.specs.Tests.{Holds, bidders_of, states};
+ghost use Rattle.cert_laws.specs.Weights.{IsWeighing};
 ghost use Rattle.cert_text.specs.CertValues.{cert_value, IsFor};
 ghost use Rattle.core_price.specs.Turns.{turns_of};
 ghost use Rattle.core_price.specs.declared.priced.PriceStop.{PriceStop};
 ghost use Rattle.outcome.specs.Rounds.{CanPrintTurn};
 ghost use Rattle.cca_run.specs.Command.{inputs_of, win};
 ghost use Rattle.cca_run.specs.Ends.{CountsAmong, FailsOnCert, IsStop, KnowsFiles, StopsBy};
-ghost use Rattle.cca_run.specs.Outcome.{AreRounds, CertFileGives, CommandGives, CommandOf, IsYesText, PriceGives, VerdictGives, done, stopped};
+ghost use Rattle.cca_run.specs.Outcome.{AreRounds, CertFileGives, CommandGives, CommandOf, IsYesText, PriceGives, VerdictGives, done, ones, stopped};
 ghost use Rattle.cca_run.specs.Words.{command_value};
 
 use crate::book_file::book_in;
@@ -75,11 +76,24 @@ fn rounds_part(
     }
 }
 
-fn priced_product(alloc: Global, book: &BidBook, rounds: bool) -> Result<Product, PriceStop>
-    ensures done { IfOk result (λ p. PriceGives book.now rounds (done p.printed p.appended)) }
-    ensures stop { (n : ℕ) → result ≡ Err (PriceStop.Winners n) → PriceGives book.now rounds (stopped (Status.Limit LimitKind.Winners n)) }
+// A weight of 1 for each bidder.
+fn ones_of(alloc: Global, book: &BidBook) -> Result<Vec<u32>, AllocError>
+    ensures { IfOk result (λ v. v.items ≡ ones book.now) }
 {
-    let priced = price_book(alloc, book)?;
+    vec![in alloc; 1u32; book.bidders()]
+}
+
+fn priced_product(
+    alloc: Global,
+    book: &BidBook,
+    weights: &[u32],
+    rounds: bool,
+) -> Result<Product, PriceStop>
+    requires { IsWeighing book.now weights.now }
+    ensures done { IfOk result (λ p. PriceGives book.now weights.now rounds (done p.printed p.appended)) }
+    ensures stop { (n : ℕ) → result ≡ Err (PriceStop.Winners n) → PriceGives book.now weights.now rounds (stopped (Status.Limit LimitKind.Winners n)) }
+{
+    let priced = price_book(alloc, book, weights)?;
     let cert = &priced.cert;
     let mut printed = rounds_part(alloc, &cert.choice, priced.turns.items(), rounds)?;
     let prices = outcome_text(alloc, book, cert)?;
@@ -88,19 +102,35 @@ fn priced_product(alloc: Global, book: &BidBook, rounds: bool) -> Result<Product
     Ok(Product { printed, appended })
 }
 
-fn price_product(alloc: Global, book: &BidBook, rounds: bool) -> Result<Product, Status>
-    ensures done { IfOk result (λ p. PriceGives book.now rounds (done p.printed p.appended)) }
-    ensures stop { (s : Status) → result ≡ Err s → (s ≡ Status.Memory) ⊎ (IsStop s × PriceGives book.now rounds (stopped s)) }
+fn weighed_product(
+    alloc: Global,
+    book: &BidBook,
+    weights: &[u32],
+    rounds: bool,
+) -> Result<Product, Status>
+    requires { IsWeighing book.now weights.now }
+    ensures done { IfOk result (λ p. PriceGives book.now weights.now rounds (done p.printed p.appended)) }
+    ensures stop { (s : Status) → result ≡ Err s → (s ≡ Status.Memory) ⊎ (IsStop s × PriceGives book.now weights.now rounds (stopped s)) }
 {
-    match priced_product(alloc, book, rounds) {
+    match priced_product(alloc, book, weights, rounds) {
         Ok(product) => Ok(product),
         Err(stop) => Err(status_of_price(stop)),
     }
 }
 
+fn price_product(alloc: Global, book: &BidBook, rounds: bool) -> Result<Product, Status>
+    ensures done { IfOk result (λ p. PriceGives book.now (ones book.now) rounds (done p.printed p.appended)) }
+    ensures stop { (s : Status) → result ≡ Err s → (s ≡ Status.Memory) ⊎ (IsStop s × PriceGives book.now (ones book.now) rounds (stopped s)) }
+{
+    match ones_of(alloc, book) {
+        Ok(weights) => weighed_product(alloc, book, &weights, rounds),
+        Err(_) => Err(Status::Memory),
+    }
+}
+
 fn yes_text(alloc: Global, book: &BidBook, cert: &Certificate) -> Result<Text, AllocError>
     requires shape { IsFor (bidders_of book.now) (states book.now) cert.now }
-    requires holds { Holds book.now (cert_value cert.now) }
+    requires holds { (w : ℕ → ℕ) × Holds book.now w (cert_value cert.now) }
     ensures { IfOk result (λ text. IsYesText book.now (cert_value cert.now) text) }
 {
     let mut text = Text::new(alloc);
@@ -112,7 +142,7 @@ fn yes_text(alloc: Global, book: &BidBook, cert: &Certificate) -> Result<Text, A
 
 fn yes_product(alloc: Global, book: &BidBook, cert: &Certificate) -> Result<Product, Status>
     requires shape { IsFor (bidders_of book.now) (states book.now) cert.now }
-    requires holds { Holds book.now (cert_value cert.now) }
+    requires holds { (w : ℕ → ℕ) × Holds book.now w (cert_value cert.now) }
     ensures done { IfOk result (λ p. IsYesText book.now (cert_value cert.now) p.printed × (p.appended ≡ [])) }
     ensures stop { (s : Status) → result ≡ Err s → s ≡ Status.Memory }
 {
@@ -122,14 +152,31 @@ fn yes_product(alloc: Global, book: &BidBook, cert: &Certificate) -> Result<Prod
     }
 }
 
-fn verdict_product(alloc: Global, book: &BidBook, cert: &Certificate) -> Result<Product, Status>
+fn weighed_verdict(
+    alloc: Global,
+    book: &BidBook,
+    cert: &Certificate,
+    weights: &[u32],
+) -> Result<Product, Status>
     requires shape { IsFor (bidders_of book.now) (states book.now) cert.now }
-    ensures done { IfOk result (λ p. VerdictGives book.now (cert_value cert.now) (done p.printed p.appended)) }
-    ensures stop { (s : Status) → result ≡ Err s → (s ≡ Status.Memory) ⊎ (IsStop s × VerdictGives book.now (cert_value cert.now) (stopped s)) }
+    requires weights { IsWeighing book.now weights.now }
+    ensures done { IfOk result (λ p. VerdictGives book.now weights.now (cert_value cert.now) (done p.printed p.appended)) }
+    ensures stop { (s : Status) → result ≡ Err s → (s ≡ Status.Memory) ⊎ (IsStop s × VerdictGives book.now weights.now (cert_value cert.now) (stopped s)) }
 {
-    match check(book, cert) {
+    match check(book, cert, weights) {
         Verdict::Yes => yes_product(alloc, book, cert),
         Verdict::No { test, place } => Err(Status::No { test, place }),
+    }
+}
+
+fn verdict_product(alloc: Global, book: &BidBook, cert: &Certificate) -> Result<Product, Status>
+    requires shape { IsFor (bidders_of book.now) (states book.now) cert.now }
+    ensures done { IfOk result (λ p. VerdictGives book.now (ones book.now) (cert_value cert.now) (done p.printed p.appended)) }
+    ensures stop { (s : Status) → result ≡ Err s → (s ≡ Status.Memory) ⊎ (IsStop s × VerdictGives book.now (ones book.now) (cert_value cert.now) (stopped s)) }
+{
+    match ones_of(alloc, book) {
+        Ok(weights) => weighed_verdict(alloc, book, cert, &weights),
+        Err(_) => Err(Status::Memory),
     }
 }
 
@@ -140,10 +187,10 @@ fn check_product<F: Files>(
     book: &BidBook,
 ) -> Result<Product, Status>
     requires { IsTrue ((F.folder files.old).knows name.now) }
-    ensures done { IsTrue (F.folder files.old).told → IfOk result (λ p. CertFileGives book.now ((F.folder files.old).file name.now) (done p.printed p.appended)) }
+    ensures done { IsTrue (F.folder files.old).told → IfOk result (λ p. CertFileGives book.now (ones book.now) ((F.folder files.old).file name.now) (done p.printed p.appended)) }
     ensures stop { (s : Status) → result ≡ Err s → (s ≡ Status.Memory)
         ⊎ (((s ≡ Status.ReadFault FileKind.Cert) × Rose ((F.folder files.old).load_faults name.now) ((F.folder files.new).load_faults name.now))
-        ⊎ (IsStop s × (IsTrue (F.folder files.old).told → CertFileGives book.now ((F.folder files.old).file name.now) (stopped s)))) }
+        ⊎ (IsStop s × (IsTrue (F.folder files.old).told → CertFileGives book.now (ones book.now) ((F.folder files.old).file name.now) (stopped s)))) }
     ensures kept { KeepsFiles (F.folder files.old) (F.folder files.new) }
     ensures count { CountsOnly name.now (F.folder files.old).load_faults (F.folder files.new).load_faults }
     ensures appends { (F.folder files.new).append_faults ≡ (F.folder files.old).append_faults }

@@ -1,5 +1,6 @@
-ghost use Rattle.nearest_point.specs.Problem.{AreBounds, AreTargets, HasMembers, HasSingles, row_at};
-ghost use Rattle.std.specs.Prelude.{IfSome, IsTrue, length, slice_index_or, ℕ, ◌<◌, ◌^◌, ◌≡◌};
+ghost use Rattle.nearest_point.specs.Problem.{HasMembers, HasSingles, bounds, row_at};
+ghost use Rattle.std.specs.Prelude.{IfSome, IsTrue, length, pos, slice_index_or, ℕ, ◌<◌, ◌^◌, ◌≡◌, ◌≤ℤ◌, ◌≤◌};
+ghost use Rattle.wide_num.specs.Sums.{nth, total};
 
 use super::{Nearest, nearest, search_all};
 use far_num::Row;
@@ -8,6 +9,7 @@ use std::process::Abort;
 use std::test::Fail;
 
 const MOST: i128 = 1 << 46;
+const HALF: i128 = 1 << 45;
 
 fn row(members: u16, bound: i128) -> Row {
     Row { members, bound }
@@ -24,15 +26,31 @@ fn are_ones(weights: &[u32]) -> bool
     true
 }
 
-fn are_targets(target: &[i128]) -> bool
-    ensures { IsTrue result → AreTargets target.now }
+fn are_weights(weights: &[u32]) -> bool
+    ensures { IsTrue result → (j : ℕ) → j < length weights.now → (1 ≤ slice_index_or weights.now j 0) × (slice_index_or weights.now j 0 ≤ 20) }
+{
+    for weight in weights {
+        if *weight < 1 {
+            return false;
+        }
+        if *weight > 20 {
+            return false;
+        }
+    }
+    true
+}
+
+fn are_targets(edge: i128, target: &[i128]) -> bool
+    requires { (pos 0 ≤ℤ edge) × (edge ≤ℤ pos (2 ^ 46)) }
+    ensures low { IsTrue result → (j : ℕ) → j < length target.now → pos 0 ≤ℤ nth target.now j }
+    ensures sum { IsTrue result → total (length target.now) (nth target.now) ≤ℤ edge }
 {
     let mut sum: i128 = 0;
     for x in target {
         if *x < 0 {
             return false;
         }
-        if *x > MOST - sum {
+        if *x > edge - sum {
             return false;
         }
         sum += *x;
@@ -40,14 +58,15 @@ fn are_targets(target: &[i128]) -> bool
     true
 }
 
-fn are_bounds(rows: &[Row]) -> bool
-    ensures { IsTrue result → AreBounds rows.now }
+fn are_bounds(edge: i128, rows: &[Row]) -> bool
+    ensures low { IsTrue result → (i : ℕ) → i < length rows.now → pos 0 ≤ℤ bounds rows.now i }
+    ensures small { IsTrue result → (i : ℕ) → i < length rows.now → bounds rows.now i ≤ℤ edge }
 {
     for row in rows {
         if row.bound < 0 {
             return false;
         }
-        if row.bound > MOST {
+        if row.bound > edge {
             return false;
         }
     }
@@ -102,11 +121,30 @@ fn answer(
     assert!(rt; target.len() >= 1);
     assert!(rt; target.len() <= 6);
     assert!(rt; are_ones(&weights));
-    assert!(rt; are_targets(target));
-    assert!(rt; are_bounds(rows));
+    assert!(rt; are_targets(MOST, target));
+    assert!(rt; are_bounds(MOST, rows));
     assert!(rt; have_members(1 << target.len(), rows));
     assert!(rt; have_singles(target.len(), rows));
     nearest(alloc, target, &weights, rows)
+}
+
+// Tests the conditions of `nearest` for four coordinates and any weights, and calls it.
+fn weighed_answer(
+    rt: &impl Abort,
+    alloc: Global,
+    target: &[i128],
+    weights: &[u32],
+    rows: &[Row],
+) -> Result<Nearest, AllocError> {
+    assert!(rt; target.len() >= 1);
+    assert!(rt; target.len() <= 4);
+    assert_eq!(rt; weights.len(), target.len());
+    assert!(rt; are_weights(weights));
+    assert!(rt; are_targets(HALF, target));
+    assert!(rt; are_bounds(HALF, rows));
+    assert!(rt; have_members(1 << target.len(), rows));
+    assert!(rt; have_singles(target.len(), rows));
+    nearest(alloc, target, weights, rows)
 }
 
 // The fractions of the point are `numbers` over `den`.
@@ -196,6 +234,46 @@ fn points_of_three_coordinates(rt: HostRuntime) -> Result<(), Fail> {
     Ok(())
 }
 
+// What is above the target is shared by the weights, where no other row asks for more.
+#[test]
+fn points_by_weights(rt: HostRuntime) -> Result<(), Fail> {
+    let table: [(&[i128], &[u32], &[Row], i128, &[i128]); 4] = [
+        (
+            &[14, 12],
+            &[1, 3],
+            &[row(1, 14), row(2, 12), row(3, 32)],
+            2,
+            &[31, 33],
+        ),
+        (
+            &[0, 0, 0],
+            &[1, 2, 3],
+            &[row(1, 0), row(2, 0), row(4, 0), row(7, 11)],
+            6,
+            &[11, 22, 33],
+        ),
+        (
+            &[0, 0, 0],
+            &[1, 2, 3],
+            &[row(1, 4), row(2, 0), row(4, 0), row(7, 14)],
+            1,
+            &[4, 4, 6],
+        ),
+        (
+            &[0, 0, 0, 0],
+            &[20, 1, 1, 20],
+            &[row(1, 0), row(2, 0), row(4, 0), row(8, 0), row(15, HALF)],
+            21,
+            &[10 * HALF, HALF / 2, HALF / 2, 10 * HALF],
+        ),
+    ];
+    for (target, weights, rows, den, numbers) in table {
+        let point = weighed_answer(&rt, rt.alloc(), target, weights, rows)?;
+        assert_point(&rt, &point, den, numbers);
+    }
+    Ok(())
+}
+
 #[test]
 fn point_of_six_coordinates(rt: HostRuntime) -> Result<(), Fail> {
     let rows = [
@@ -222,8 +300,8 @@ fn systems_solved(
     assert!(rt; target.len() >= 1);
     assert!(rt; target.len() <= 6);
     assert!(rt; are_ones(&weights));
-    assert!(rt; are_targets(target));
-    assert!(rt; are_bounds(rows));
+    assert!(rt; are_targets(MOST, target));
+    assert!(rt; are_bounds(MOST, rows));
     assert!(rt; have_members(1 << target.len(), rows));
     let mut systems = 0;
     search_all(alloc, target, &weights, rows, &mut systems)?;

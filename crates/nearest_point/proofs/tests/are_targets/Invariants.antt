@@ -7,5 +7,5 @@ invariant-loop-x l = record {
   not_negative : (j : ℕ) → j < l.x-index → pos 0 ≤ℤ nth l.target j;
   sum : l.sum ≡ total l.x-index (nth l.target);
   low : pos 0 ≤ℤ l.sum;
-  small : l.sum ≤ℤ pos (2 ^ 46);
+  small : l.sum ≤ℤ l.edge;
 }
