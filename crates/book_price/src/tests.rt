@@ -1,7 +1,10 @@
-use crate::price_book;
-use bid_book::read_book;
+ghost use Rattle.std.specs.Prelude.{IsTrue, length, slice_index_or, ℕ, ◌<◌, ◌≤◌};
+
+use crate::{PricedBook, price_book};
+use bid_book::{BidBook, read_book};
 use core_price::PriceStop;
-use std::alloc::AllocError;
+use std::alloc::{AllocError, Global};
+use std::process::Abort;
 
 /// One lot of each of two categories; b1 and b2 win it, and pay together what b3 bids for both.
 const BOOK: &str =
@@ -10,12 +13,83 @@ const BOOK: &str =
 const SEVEN_WIN: &str =
     "book 1\nsupply 7\nreserve 0\nbidder a\nbid 1 1\nbidder b\nbid 1 1\nbidder c\nbid 1 1\nbidder d\nbid 1 1\nbidder e\nbid 1 1\nbidder f\nbid 1 1\nbidder g\nbid 1 1\nend\n";
 
+/// The prices where all bidders weigh 1.
+fn priced_alike(alloc: Global, book: &BidBook) -> Result<PricedBook, PriceStop> {
+    let weights = vec![in alloc; 1u32; book.bidders()]?;
+    price_book(alloc, book, &weights)
+}
+
+fn are_weights(weights: &[u32]) -> bool
+    ensures { IsTrue result → (j : ℕ) → j < length weights.now → (1 ≤ slice_index_or weights.now j 0) × (slice_index_or weights.now j 0 ≤ 20) }
+{
+    for weight in weights {
+        if *weight < 1 {
+            return false;
+        }
+        if *weight > 20 {
+            return false;
+        }
+    }
+    true
+}
+
+/// The prices by these weights, whose conditions are tested.
+fn priced_by(
+    rt: &impl Abort,
+    alloc: Global,
+    book: &BidBook,
+    weights: &[u32],
+) -> Result<PricedBook, PriceStop> {
+    assert_eq!(rt; weights.len(), book.bidders());
+    assert!(rt; are_weights(weights));
+    price_book(alloc, book, weights)
+}
+
+const SIX_WIN: &str =
+    "book 1\nsupply 6\nreserve 0\nbidder a\nbid 1 5\nbidder b\nbid 1 5\nbidder c\nbid 1 5\nbidder d\nbid 1 5\nbidder e\nbid 1 5\nbidder f\nbid 1 5\nend\n";
+
+#[test]
+fn weights_share_what_is_above(rt: HostRuntime) -> Result<(), AllocError> {
+    let Ok(book) = read_book(rt.alloc(), BOOK.as_bytes()) else {
+        panic!(rt; "this is a book");
+    };
+    let Ok(priced) = priced_by(&rt, rt.alloc(), &book, &[1, 3, 1, 1, 1]) else {
+        panic!(rt; "it can be priced");
+    };
+    let cert = &priced.cert;
+    let rows = cert.rows.items();
+    assert_eq!(rt; cert.den, 2);
+    assert!(rt; cert.pay.items() == [31i128, 33, 0, 0, 0].as_slice());
+    if rows.len() != 1 {
+        panic!(rt; "one row asks for the payments");
+    }
+    assert_eq!(rt; rows[0].first, 2);
+    assert_eq!(rt; rows[0].second, 3);
+    Ok(())
+}
+
+#[test]
+fn six_winners_weigh_alike(rt: HostRuntime) -> Result<(), AllocError> {
+    let Ok(book) = read_book(rt.alloc(), SIX_WIN.as_bytes()) else {
+        panic!(rt; "this is a book");
+    };
+    match priced_by(&rt, rt.alloc(), &book, &[2, 1, 1, 1, 1, 1]) {
+        Err(PriceStop::Winners(count)) => assert_eq!(rt; count, 6),
+        _ => panic!(rt; "they don't all weigh 1"),
+    }
+    match priced_by(&rt, rt.alloc(), &book, &[1, 1, 1, 1, 1, 1]) {
+        Ok(priced) => assert!(rt; priced.cert.pay.items() == [0i128; 6].as_slice()),
+        Err(_) => panic!(rt; "all weigh 1"),
+    }
+    Ok(())
+}
+
 #[test]
 fn certificate_shows_the_prices(rt: HostRuntime) -> Result<(), AllocError> {
     let Ok(book) = read_book(rt.alloc(), BOOK.as_bytes()) else {
         panic!(rt; "this is a book");
     };
-    let Ok(priced) = price_book(rt.alloc(), &book) else {
+    let Ok(priced) = priced_alike(rt.alloc(), &book) else {
         panic!(rt; "it can be priced");
     };
     let cert = &priced.cert;
@@ -37,7 +111,7 @@ fn certificate_has_parts_and_rows(rt: HostRuntime) -> Result<(), AllocError> {
     let Ok(book) = read_book(rt.alloc(), BOOK.as_bytes()) else {
         panic!(rt; "this is a book");
     };
-    let Ok(priced) = price_book(rt.alloc(), &book) else {
+    let Ok(priced) = priced_alike(rt.alloc(), &book) else {
         panic!(rt; "it can be priced");
     };
     let parts = priced.cert.withouts.items();
@@ -59,7 +133,7 @@ fn more_than_six_winners_are_counted(rt: HostRuntime) -> Result<(), AllocError> 
     let Ok(book) = read_book(rt.alloc(), SEVEN_WIN.as_bytes()) else {
         panic!(rt; "this is a book");
     };
-    match price_book(rt.alloc(), &book) {
+    match priced_alike(rt.alloc(), &book) {
         Err(PriceStop::Winners(count)) => assert_eq!(rt; count, 7),
         _ => panic!(rt; "seven win"),
     }

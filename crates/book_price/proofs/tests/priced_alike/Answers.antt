@@ -1,0 +1,15 @@
+use Rattle.std.proofs.Common.{◌≡◌, ◌∙◌, ◌-◌, ℕ, ap, arith, length, replicate, slice_index_or, subst, sym, List}
+use Rattle.std.proofs.lemmas.List.{get_or-replicate, length-replicate}
+use Rattle.auction_model.specs.Book.{Book}
+use Rattle.cert_laws.specs.Tests.{bidders_of}
+use Rattle.cert_laws.specs.Weights.{IsWeighing}
+use Rattle.book_price.proofs.tests.priced_alike.Goals as goal
+
+ones : (book : Book) (weights : List ℕ) → weights ≡ replicate (bidders_of book) 1 → IsWeighing book weights
+ones book weights e = subst (IsWeighing book) (sym e) (record {
+  long = length-replicate {A = ℕ} (bidders_of book) 1;
+  each = λ j some inside. (let d = get_or-replicate {A = ℕ} (bidders_of book) (j - 1) 1 0 (omega (arith, some, inside)) in (omega (arith, d), omega (arith, d)));
+})
+
+pub price_book-requires : goal.price_book-requires
+price_book-requires c = ones c.args.book.now c.deref.result.now (c.deref.ensures.value ∙ c.in_ok-weights.ensures.items_if_clones_equal (λ y e. e) ∙ ap (λ n. replicate n 1) c.bidders.ensures.bidders)
