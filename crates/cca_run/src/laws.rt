@@ -1,6 +1,10 @@
 // What holds of the definitions of a run, whoever runs it.
-ghost use Rattle.std.specs.Prelude.{◌≡◌, ℕ, List, Option};
-ghost use Rattle.cca_run.specs.Outcome.{Outcome, Gives};
+ghost use Rattle.std.specs.Prelude.{◌≡◌, ◌<◌, ◌≤◌, ℕ, List, Option, length};
+ghost use Rattle.auction_model.specs.Book.{Book};
+ghost use Rattle.cert_laws.specs.Tests.{bidders_of};
+ghost use Rattle.core_price.specs.Weights.{FewWin, ManyWin};
+ghost use Rattle.row_laws.specs.Winners.{winners_in};
+ghost use Rattle.cca_run.specs.Outcome.{Outcome, Gives, ones};
 
 use auction_model::{book_market, core_outcome, vickrey_prices, winning_choice};
 use bid_book::one_book;
@@ -25,3 +29,9 @@ pub fn one_outcome()
     one_price_text();
     one_run_text();
 }
+
+/// With weights of 1 too many win exactly where more than six do. The choice has a number for each bidder.
+pub fn limit_of_ones()
+    ensures few { (book : Book) (z : List ℕ) → length z ≡ bidders_of book → winners_in z ≤ 6 → FewWin z (ones book) }
+    ensures many { (book : Book) (z : List ℕ) → length z ≡ bidders_of book → ManyWin z (ones book) → 6 < winners_in z }
+{}

@@ -12,7 +12,7 @@ mod top;
 mod win;
 mod words;
 
-pub use laws::one_outcome;
+pub use laws::{limit_of_ones, one_outcome};
 pub use status::{FileKind, Status};
 pub use top::run;
 
