@@ -44,11 +44,7 @@ pub struct PricedBook {
 ///
 /// Errors: `Winners` exactly where more than six win, or more than four that don't all weigh 1, with their number; `Memory`
 /// for want of memory.
-pub fn price_book(
-    alloc: Global,
-    book: &BidBook,
-    weights: &[u32],
-) -> Result<PricedBook, PriceStop>
+pub fn price_book(alloc: Global, book: &BidBook, weights: &[u32]) -> Result<PricedBook, PriceStop>
     requires { IsWeighing book.now weights.now }
     ensures shape { IfOk result (λ p. IsFor (bidders_of book.now) (states book.now) p.cert) }
     ensures cert { IfOk result (λ p. IsPricedCert book.now (weight_of weights.now) (cert_value p.cert)) }
