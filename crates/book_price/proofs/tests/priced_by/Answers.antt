@@ -1,8 +1,11 @@
-use Rattle.std.proofs.Common.{◌≡◌, ◌∙◌, ◌-◌, arith, rules}
+use Rattle.std.proofs.Common.{◌≡◌, ◌∙◌, ◌-◌, arith, length, rules}
+use Rattle.cert_laws.specs.Tests.{bidders_of}
 use Rattle.book_price.proofs.tests.priced_by.Goals as goal
 
 pub price_book-requires : goal.price_book-requires
-price_book-requires c = record {
-  long = search rules;
-  each = λ j some inside. c.are_weights.ensures (search rules) (j - 1) (omega (arith, some, inside, search rules));
-}
+price_book-requires g c =
+    let long : length c.args.weights.now ≡ bidders_of c.args.book.now = search rules in
+    record {
+      long = long;
+      each = λ j some inside. c.are_weights.ensures (search rules) (j - 1) (omega (arith, some, inside, long));
+    }
