@@ -117,6 +117,7 @@ fn read_bid(alloc: Global, book: &BidBook, line: &[u8]) -> Result<Entry, LineSto
     Ok(Entry {
         bid: Bid { package, amount },
         net,
+        better: 0,
     })
 }
 

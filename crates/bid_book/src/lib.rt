@@ -1,6 +1,7 @@
 //! Books of bids and their text.
 #![tactic(auto)]
 
+mod better;
 mod book;
 mod entries;
 mod fields;
