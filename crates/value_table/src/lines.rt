@@ -42,6 +42,9 @@ fn count_bids(lowering: &Lowering, j: u16, line: &mut [i128], below: &[i128])
     ensures { IsCountedLine lowering.now (j - 1) line.new }
 {
     for i in 0..lowering.bids(j) {
+        if lowering.is_needless(j, i + 1) {
+            continue;
+        }
         let worth = lowering.worth(j, i + 1);
         let bid = lowering.book.bid(j, i + 1);
         add_bid(lowering.book.supply(), line, below, &bid.package, worth);

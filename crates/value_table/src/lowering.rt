@@ -20,7 +20,8 @@ pub struct Lowering<'a> {
 impl<'a> Lowering<'a> {
     ghost use Rattle.std.specs.Prelude.{◌<◌};
     ghost use Rattle.auction_model.specs.Book.{bids_of};
-    ghost use Rattle.value_table.specs.Counted.{counted_bids, counted};
+    ghost use Rattle.std.specs.Prelude.{IsTrue};
+    ghost use Rattle.value_table.specs.Counted.{counted_bids, counted, IsNeedless};
 
     /// How many bids of bidder `j` count.
     pub fn bids(&self, j: u16) -> u16
@@ -48,6 +49,21 @@ impl<'a> Lowering<'a> {
         ensures size { unsigned_abs result ≤ 2 ^ 120 }
     {
         idle_worth(self.surplus[j as usize - 1])
+    }
+
+    /// Whether bid `i` of bidder `j` changes no entry, since an earlier number of it, or none, takes no more and counts at least
+    /// as much.
+    pub fn is_needless(&self, j: u16, i: u16) -> bool
+        requires bidder { (0 < j) × (j ≤ length self.now.book.now.bidders) }
+        requires bid { (0 < i) × (i ≤ (counted_bids self.now).bids j) }
+        ensures { IsTrue result → IsNeedless self.now j i }
+    {
+        let _bidders = self.book.bidders();
+        let _bids = self.bids(j);
+        if self.den >= 0 && self.book.better(j, i) != 0 {
+            return true;
+        }
+        self.worth(j, i) <= self.idle(j)
     }
 }
 
