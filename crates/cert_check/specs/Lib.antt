@@ -3,6 +3,7 @@ pub mod Head
 pub mod Multipliers
 pub mod Verdicts
 pub mod Faults
+pub mod Growth
 pub mod LoweredWorths
 pub mod LineTests
 pub mod EarlierBids

@@ -20,7 +20,8 @@ pub struct Offers<'a> {
 }
 
 impl<'a> Offers<'a> {
-    ghost use Rattle.cert_check.specs.LineTests.{offered, worth_of};
+    ghost use Rattle.std.specs.Prelude.{IsTrue};
+    ghost use Rattle.cert_check.specs.LineTests.{offered, worth_of, IsNeedless};
 
     /// How many bids of bidder `j` there are.
     pub fn bids(&self, j: u16) -> u16
@@ -43,6 +44,20 @@ impl<'a> Offers<'a> {
         } else {
             net_worth(self.book, j, i)
         }
+    }
+
+    /// Whether an earlier number of bidder `j`, or none, takes no more than its bid `i` and is worth at least as much. On a line
+    /// that never falls its rule follows then from the others.
+    pub fn is_needless(&self, j: u16, i: u16) -> bool
+        requires bidder { (0 < j) × (j ≤ bidders_of self.now.book.now) }
+        requires bid { (0 < i) × (i ≤ length (bids_of self.now.book.now j)) }
+        ensures { IsTrue result → IsNeedless self.now j i }
+    {
+        let _bidders = self.book.bidders();
+        if self.cert.den >= 0 && self.book.better(j, i) != 0 {
+            return true;
+        }
+        self.worth(j, i) <= 0
     }
 }
 
