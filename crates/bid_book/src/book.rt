@@ -81,8 +81,8 @@ impl BidBook {
         Ok(())
     }
 
-    /// Puts a bid behind those of the last bidder.
-    pub(crate) fn add_bid(&mut self, entry: Entry) -> Result<(), AllocError>
+    /// Puts a bid behind those of the last bidder. The rival is a number that may make it needless, or any other number.
+    pub(crate) fn add_bid(&mut self, entry: Entry, rival: u16) -> Result<(), AllocError>
         requires some { 0 < length self.old.bidders }
         requires kept { IsBookWithinLimits (with_bid self.old (bid_value entry)) }
         requires net { HasNet self.old.reserves entry }
@@ -90,7 +90,7 @@ impl BidBook {
     {
         let last = self.bidders.len() - 1;
         let bidder = &mut self.bidders[last];
-        let better = better_among(&bidder.bids, &entry);
+        let better = better_among(&bidder.bids, &entry, rival);
         bidder.bids.push(Entry { better, ..entry })?;
         Ok(())
     }

@@ -9,6 +9,7 @@ mod head;
 mod laws;
 mod name;
 mod read;
+mod rivals;
 mod stop;
 
 pub use auction_text::LimitKind;
