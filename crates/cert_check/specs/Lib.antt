@@ -5,5 +5,6 @@ pub mod Verdicts
 pub mod Faults
 pub mod Growth
 pub mod LoweredWorths
+pub mod Tested
 pub mod LineTests
 pub mod EarlierBids

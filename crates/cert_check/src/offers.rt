@@ -4,12 +4,14 @@ ghost use Rattle.auction_model.specs.Book.{bids_of, net_of};
 ghost use Rattle.cert_laws.specs.Tests.{bidders_of, lowered_net};
 ghost use Rattle.cert_text.specs.CertValues.{cert_value};
 ghost use Rattle.cert_check.specs.LoweredWorths.{CanLower, gain_of};
+ghost use Rattle.cert_check.specs.Tested.{IsTested};
 
 use bid_book::BidBook;
 use cert_text::Certificate;
 
 /// The bids that a table is tested for. Bidder `skip` has none, and 0 skips nobody. A bid is worth its net amount, or, where
-/// worths are lowered, the denominator times that, less what its bidder gains at the payments.
+/// worths are lowered, the denominator times that, less what its bidder gains at the payments. Where a bidder is skipped the
+/// certificate's own table was tested.
 #[derive(Drop)]
 pub struct Offers<'a> {
     pub book: &'a BidBook,
@@ -17,6 +19,7 @@ pub struct Offers<'a> {
     pub skip: u16,
     pub lowered: bool,
     pub ghost lower: { lowered ≡ true → CanLower book.now (cert_value cert.now) },
+    pub ghost tested: { 0 < skip → IsTested book.now cert.now },
 }
 
 impl<'a> Offers<'a> {
