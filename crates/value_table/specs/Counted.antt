@@ -1,7 +1,7 @@
 -- What a lowering counts, and its lines and tables: words of private contracts.
-use Rattle.std.specs.Prelude.{ℕ, ◌<◌, IsTrue, List, ℤ, ◌≤ℤ◌}
+use Rattle.std.specs.Prelude.{ℕ, ◌<◌, ◌^◌, IsTrue, List, length, ℤ, ◌≤ℤ◌}
 use Rattle.auction_model.specs.Book.{net_of}
-use Rattle.auction_model.specs.Lowered.{lowered}
+use Rattle.auction_model.specs.Lowered.{lowered, spread}
 use Rattle.auction_model.specs.Menu.{Menu}
 use Rattle.auction_model.specs.Package.{is_within}
 use Rattle.value_table.specs.BookTable.{menu_without, IsBookLine, AreBookLines, IsBookTable}
@@ -30,3 +30,7 @@ pub record IsNeedless (l : Lowering) (j i : ℕ) : Type 0 where
   pub earlier : other < i
   pub smaller : IsTrue (is_within ((counted_bids l).lots j other) ((counted_bids l).lots j i))
   pub worth : counted l j i ≤ℤ counted l j other
+
+-- no sum leaves 62 bits
+abbrev pub IsNarrow : Lowering → Type 0
+IsNarrow l = spread (counted_bids l).bids (length l.book.now.bidders) (net_of l.book.now) l.den l.surplus.now < 2 ^ 61

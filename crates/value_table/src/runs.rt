@@ -126,7 +126,7 @@ fn raise_block(
 }
 
 /// How many categories there are up to the last of which a package has some, and at least one.
-fn used_categories(counts: &[u16]) -> usize
+pub fn used_categories(counts: &[u16]) -> usize
     requires { 0 < length counts.now }
     ensures some { 0 < result }
     ensures most { result ≤ length counts.now }
