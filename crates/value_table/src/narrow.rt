@@ -8,25 +8,42 @@ use std::alloc::{AllocError, Global};
 
 /// The numbers in 64 bits each.
 fn narrowed(alloc: Global, line: &[i128]) -> Result<Vec<i64>, AllocError>
-    requires { (s : ℕ) → unsigned_abs (slice_index_or line.now s (pos 0)) ≤ 2 ^ 62 }
+    requires few { length line.now ≤ 4096 }
+    requires sizes { (s : ℕ) → unsigned_abs (slice_index_or line.now s (pos 0)) ≤ 2 ^ 62 }
     ensures { IfOk result (λ v. v.items ≡ line.now) }
 {
-    let mut numbers = Vec::with_capacity(alloc, line.len())?;
-    for i in 0..line.len() {
-        numbers.push(line[i] as i64)?;
-    }
+    let mut numbers = vec![in alloc; 0i64; line.len()]?;
+    narrow_into(&mut numbers, line);
     Ok(numbers)
+}
+
+fn narrow_into(numbers: &mut [i64], line: &[i128])
+    requires places { length numbers.old ≡ length line.now }
+    requires sizes { (s : ℕ) → unsigned_abs (slice_index_or line.now s (pos 0)) ≤ 2 ^ 62 }
+    ensures { numbers.new ≡ line.now }
+{
+    for i in 0..line.len() {
+        numbers[i] = line[i] as i64;
+    }
 }
 
 /// The numbers in 128 bits each.
 fn widened(alloc: Global, line: &[i64]) -> Result<Vec<i128>, AllocError>
+    requires few { length line.now ≤ 4096 }
     ensures { IfOk result (λ v. v.items ≡ line.now) }
 {
-    let mut numbers = Vec::with_capacity(alloc, line.len())?;
-    for i in 0..line.len() {
-        numbers.push(line[i] as i128)?;
-    }
+    let mut numbers = vec![in alloc; 0i128; line.len()]?;
+    widen_into(&mut numbers, line);
     Ok(numbers)
+}
+
+fn widen_into(numbers: &mut [i128], line: &[i64])
+    requires places { length numbers.old ≡ length line.now }
+    ensures { numbers.new ≡ line.now }
+{
+    for i in 0..line.len() {
+        numbers[i] = line[i] as i128;
+    }
 }
 
 /// Counts all bids of bidder `j` in a line that counts none.
@@ -63,6 +80,7 @@ pub fn count_narrow(
     requires line { (s : ℕ) → s < length below.now → slice_index_or line.now s (pos 0) ≡ slice_index_or below.now s (pos 0) +ℤ counted lowering.now j 0 }
     ensures { IfOk result (λ v. IsCountedLine lowering.now (j - 1) v.items) }
 {
+    let _states = lowering.book.supply().states();
     let below = narrowed(alloc, below)?;
     let mut line = narrowed(alloc, line)?;
     count_narrow_bids(lowering, j, &mut line, &below);

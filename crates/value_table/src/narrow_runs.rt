@@ -16,10 +16,7 @@ fn raise_run(line: &mut [i64], below: &[i64], worth: i64)
     ensures { (s : ℕ) → s < length line.old → slice_index_or line.new s (pos 0) ≡ int_max (slice_index_or line.old s (pos 0)) (worth +ℤ slice_index_or below.now s (pos 0)) }
 {
     for i in 0..line.len() {
-        let sum = worth + below[i];
-        if line[i] < sum {
-            line[i] = sum;
-        }
+        line[i] = line[i].max(worth + below[i]);
     }
 }
 
