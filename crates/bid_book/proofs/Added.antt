@@ -11,7 +11,9 @@ use Rattle.bid_book.specs.declared.book.BookBidder.{BookBidder}
 use Rattle.bid_book.specs.declared.book.BidBook.TheInside.{Inside}
 use Rattle.bid_book.specs.Fields.{bid_value, bidder_value, book_value, HasNet, NetsAreKept}
 use Rattle.bid_book.specs.Stages.{bidder_with, with_bidders, with_bid}
+use Rattle.bid_book.specs.Better.{AreBetter, BeatsAmong, BettersAreKept}
 use Rattle.bid_book.proofs.BookReads.{bidders-read, bidder-read}
+use Rattle.bid_book.proofs.BetterLaws.{better-push}
 
 -- the fields with these bidders
 abbrev pub with_fields : Inside → Vec BookBidder Global → Inside
@@ -29,6 +31,11 @@ pub bidder_nets : (b : Inside) (made : BookBidder) (bidders : Vec BookBidder Glo
 bidder_nets b made bidders nets pushed none =
     subst (All (λ (x : BookBidder). All (HasNet b.reserves.items) x.bids.items)) (sym pushed)
     (All-push (λ (x : BookBidder). All (HasNet b.reserves.items) x.bids.items) b.bidders.items made nets (subst (All (HasNet b.reserves.items)) (sym none) (All-nil (HasNet b.reserves.items))))
+
+pub bidder_betters : (b : Inside) (made : BookBidder) (bidders : Vec BookBidder Global) → BettersAreKept b → bidders.items ≡ b.bidders.items ++ made ∷ [] → made.bids.items ≡ [] → BettersAreKept (with_fields b bidders)
+bidder_betters b made bidders betters pushed none =
+    subst (All (λ (x : BookBidder). AreBetter x.bids.items)) (sym pushed)
+    (All-push (λ (x : BookBidder). AreBetter x.bids.items) b.bidders.items made betters (subst AreBetter (sym none) (λ i d inside. absurd (omega (arith, inside)))))
 
 module _ (b : Inside) (last : ℕ) (last_is : last ≡ length b.bidders.items) (some : 0 < length b.bidders.items) (old : BookBidder) (read : old ≡ get_or b.bidders.items (last - 1) old) (bids : Vec Entry Global) where
   -- the last bidder has these bids
@@ -72,3 +79,15 @@ module _ (b : Inside) (last : ℕ) (last_is : last ≡ length b.bidders.items) (
 
   pub pushed_nets : (entry : Entry) → bids.items ≡ old.bids.items ++ entry ∷ [] → NetsAreKept b → HasNet b.reserves.items entry → NetsAreKept changed
   pushed_nets entry pushed nets net = changed_nets nets (subst (All (HasNet b.reserves.items)) (sym pushed) (All-push (HasNet b.reserves.items) old.bids.items entry (own_nets nets) net))
+
+  own_betters : BettersAreKept b → AreBetter old.bids.items
+  own_betters betters = subst (λ (x : BookBidder). AreBetter x.bids.items) (sym read) (betters (last - 1) old (omega arith))
+
+  changed_betters : BettersAreKept b → AreBetter bids.items → BettersAreKept changed
+  changed_betters betters own = All-set (λ (x : BookBidder). AreBetter x.bids.items) b.bidders.items (last - 1) (record { name = old.name; bids = bids }) own betters
+
+  pub same_betters : bids.items ≡ old.bids.items → BettersAreKept b → BettersAreKept changed
+  same_betters same betters = changed_betters betters (subst AreBetter (sym same) (own_betters betters))
+
+  pub pushed_betters : (entry : Entry) → bids.items ≡ old.bids.items ++ entry ∷ [] → BettersAreKept b → BeatsAmong old.bids.items entry entry.better → BettersAreKept changed
+  pushed_betters entry pushed betters own = changed_betters betters (subst AreBetter (sym pushed) (better-push old.bids.items entry (own_betters betters) own))

@@ -4,6 +4,7 @@ ghost use Rattle.auction_model.specs.Book.{bidder_of, bids_of, bid_of, lots_of, 
 ghost use Rattle.bid_book.specs.Kept.{IsBidBook};
 
 use crate::Name;
+use crate::better::better_among;
 use lots::{Bid, Supply};
 use std::alloc::{AllocError, Global};
 use std::marker::Model;
@@ -15,6 +16,8 @@ pub struct Entry {
     pub bid: Bid,
     /// The amount less the reserve of the package.
     pub net: i128,
+    /// An earlier bid of the same bidder that is no larger in any category and worth at least as much, or 0.
+    pub better: u16,
 }
 
 /// A bidder with its bids, in the order of their packages.
@@ -40,10 +43,11 @@ impl Model for BidBook {
 
     ghost use Rattle.bid_book.specs.Kept.{IsBidBook};
     ghost use Rattle.bid_book.specs.Fields.{book_value, NetsAreKept};
+    ghost use Rattle.bid_book.specs.Better.{BettersAreKept};
 
     ghost view = { book_value };
 
-    ghost invariant = { λ b. IsBidBook (book_value b) × NetsAreKept b };
+    ghost invariant = { λ b. IsBidBook (book_value b) × NetsAreKept b × BettersAreKept b };
 }
 
 impl BidBook {
@@ -52,6 +56,7 @@ impl BidBook {
     ghost use Rattle.bid_book.specs.Fields.{HasNet, bid_value};
     ghost use Rattle.lots.specs.Limits.{IsSupply};
     ghost use Rattle.bid_book.specs.Stages.{bidder_with, opened, with_bid, with_bidders};
+    ghost use Rattle.bid_book.specs.Better.{IsBetter};
 
     /// The book of this supply with these reserves, before its first bidder.
     pub(crate) fn open(alloc: Global, supply: Supply, reserves: Vec<u64>) -> BidBook
@@ -76,8 +81,8 @@ impl BidBook {
         Ok(())
     }
 
-    /// Puts a bid behind those of the last bidder.
-    pub(crate) fn add_bid(&mut self, entry: Entry) -> Result<(), AllocError>
+    /// Puts a bid behind those of the last bidder. The rival is a number that may make it needless, or any other number.
+    pub(crate) fn add_bid(&mut self, entry: Entry, rival: u16) -> Result<(), AllocError>
         requires some { 0 < length self.old.bidders }
         requires kept { IsBookWithinLimits (with_bid self.old (bid_value entry)) }
         requires net { HasNet self.old.reserves entry }
@@ -85,7 +90,8 @@ impl BidBook {
     {
         let last = self.bidders.len() - 1;
         let bidder = &mut self.bidders[last];
-        bidder.bids.push(entry)?;
+        let better = better_among(&bidder.bids, &entry, rival);
+        bidder.bids.push(Entry { better, ..entry })?;
         Ok(())
     }
 
@@ -154,5 +160,17 @@ impl BidBook {
         let bidder = &self.bidders[j as usize - 1];
         let entry = &bidder.bids[i as usize - 1];
         entry.net
+    }
+
+    /// An earlier bid of bidder `j` that is no larger than its bid `i` in any category and worth at least as much, and 0 where
+    /// none was found. Whoever looks for the first of the greatest choices can leave such a bid `i` out.
+    pub fn better(&self, j: u16, i: u16) -> u16
+        requires bidder { (0 < j) × (j ≤ length self.now.bidders) }
+        requires bid { (0 < i) × (i ≤ length (bids_of self.now j)) }
+        ensures { 0 < result → IsBetter self.now j i result }
+    {
+        let bidder = &self.bidders[j as usize - 1];
+        let entry = &bidder.bids[i as usize - 1];
+        entry.better
     }
 }

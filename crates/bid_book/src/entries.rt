@@ -10,6 +10,7 @@ ghost use Rattle.bid_book.specs.Stages.{Adds, AddsBid, AddsBidder, last_excess, 
 
 use crate::book::Entry;
 use crate::fields::{is_name, lot_counts, numbers_behind};
+use crate::rivals::Rivals;
 use crate::stop::LineStop;
 use crate::{BidBook, LimitKind, Name};
 use lots::{Bid, Package, Supply};
@@ -22,14 +23,22 @@ const MOST_BIDDERS: usize = 12;
 const MOST_BIDS: u16 = 600;
 
 /// Takes the line of a bidder or of a bid.
-pub fn take_entry(alloc: Global, book: &mut BidBook, line: &[u8]) -> Result<(), LineStop>
+pub fn take_entry(
+    alloc: Global,
+    book: &mut BidBook,
+    rivals: &mut Rivals,
+    line: &[u8],
+) -> Result<(), LineStop>
     ensures ok { OnOk result (Adds book.old book.new line.now × (last_excess 0 book.new.bidders ≡ None)) }
     ensures form { result ≡ Err LineStop.Form → (new : Book) → Adds book.old new line.now → ⊥ }
     ensures limit { (kind : LimitKind) (count : ℕ) → result ≡ Err (LineStop.Limit kind count) → (new : Book) × Adds book.old new line.now × (last_excess 0 new.bidders ≡ Some (kind, count)) }
 {
     match line.strip_prefix(b"bidder ") {
-        Some(name) => take_bidder(alloc, book, name),
-        None => take_bid(alloc, book, line),
+        Some(name) => {
+            rivals.clear();
+            take_bidder(alloc, book, name)
+        }
+        None => take_bid(alloc, book, rivals, line),
     }
 }
 
@@ -77,7 +86,12 @@ fn is_used(book: &BidBook, name: &[u8]) -> bool
 }
 
 /// Takes the line of a bid of the last bidder.
-fn take_bid(alloc: Global, book: &mut BidBook, line: &[u8]) -> Result<(), LineStop>
+fn take_bid(
+    alloc: Global,
+    book: &mut BidBook,
+    rivals: &mut Rivals,
+    line: &[u8],
+) -> Result<(), LineStop>
     ensures ok { OnOk result (AddsBid book.old book.new line.now × (last_excess 0 book.new.bidders ≡ None)) }
     ensures form { result ≡ Err LineStop.Form → (new : Book) → AddsBid book.old new line.now → ⊥ }
     ensures limit { (kind : LimitKind) (count : ℕ) → result ≡ Err (LineStop.Limit kind count) → (new : Book) × AddsBid book.old new line.now × (last_excess 0 new.bidders ≡ Some (kind, count)) }
@@ -89,7 +103,8 @@ fn take_bid(alloc: Global, book: &mut BidBook, line: &[u8]) -> Result<(), LineSt
     if book.bids(book.bidders() as u16) >= MOST_BIDS {
         return Err(LineStop::Limit(LimitKind::Bids, 601));
     }
-    book.add_bid(entry)?;
+    let rival = rivals.take(book.supply(), &entry.bid.package, entry.net)?;
+    book.add_bid(entry, rival)?;
     Ok(())
 }
 
@@ -117,6 +132,7 @@ fn read_bid(alloc: Global, book: &BidBook, line: &[u8]) -> Result<Entry, LineSto
     Ok(Entry {
         bid: Bid { package, amount },
         net,
+        better: 0,
     })
 }
 

@@ -1,6 +1,7 @@
 //! Books of bids and their text.
 #![tactic(auto)]
 
+mod better;
 mod book;
 mod entries;
 mod fields;
@@ -8,6 +9,7 @@ mod head;
 mod laws;
 mod name;
 mod read;
+mod rivals;
 mod stop;
 
 pub use auction_text::LimitKind;

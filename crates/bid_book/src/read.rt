@@ -7,6 +7,7 @@ ghost use Rattle.line_text.specs.LineText.{Says, beyond, faulty, stated};
 
 use crate::entries::take_entry;
 use crate::head::{take_first, take_reserve, take_supply};
+use crate::rivals::Rivals;
 use crate::stop::LineStop;
 use crate::{BidBook, BookStop, LimitKind};
 use line_text::line_len;
@@ -36,9 +37,10 @@ pub fn read_book(alloc: Global, bytes: &[u8]) -> Result<BidBook, BookStop>
     ensures limit { (kind : LimitKind) (count : ℕ) → result ≡ Err (BookStop.Limit kind count) → Says IsBook lines bytes.now (beyond (kind, count)) }
 {
     let mut stage = Stage::Start;
+    let mut rivals = Rivals::new(alloc);
     let mut place = 0;
     while let Some(len) = line_len(&bytes[place..]) {
-        match take_line(alloc, stage, &bytes[place..][..len]) {
+        match take_line(alloc, stage, &mut rivals, &bytes[place..][..len]) {
             Ok(next) => stage = next,
             Err(stop) => return Err(stop.at(place as u64)),
         }
@@ -54,7 +56,12 @@ pub fn read_book(alloc: Global, bytes: &[u8]) -> Result<BidBook, BookStop>
 }
 
 /// Takes the next line.
-fn take_line(alloc: Global, stage: Stage, line: &[u8]) -> Result<Stage, LineStop>
+fn take_line(
+    alloc: Global,
+    stage: Stage,
+    rivals: &mut Rivals,
+    line: &[u8],
+) -> Result<Stage, LineStop>
     ensures ok { IfOk result (λ next. Step stage line.now next × (excess next ≡ None)) }
     ensures form { result ≡ Err LineStop.Form → (t : Stage) → Step stage line.now t → ⊥ }
     ensures limit { (kind : LimitKind) (count : ℕ) → result ≡ Err (LineStop.Limit kind count) → (t : Stage) × Step stage line.now t × (excess t ≡ Some (kind, count)) }
@@ -63,13 +70,18 @@ fn take_line(alloc: Global, stage: Stage, line: &[u8]) -> Result<Stage, LineStop
         Stage::Start => take_first(line),
         Stage::Headed => Ok(Stage::Supplied(take_supply(alloc, line)?)),
         Stage::Supplied(supply) => Ok(Stage::Listing(take_reserve(alloc, supply, line)?)),
-        Stage::Listing(book) => take_listed(alloc, book, line),
+        Stage::Listing(book) => take_listed(alloc, book, rivals, line),
         Stage::Ended(_) => Err(LineStop::Form),
     }
 }
 
 /// Takes the line of a bidder or of a bid, or the last line.
-fn take_listed(alloc: Global, mut book: BidBook, line: &[u8]) -> Result<Stage, LineStop>
+fn take_listed(
+    alloc: Global,
+    mut book: BidBook,
+    rivals: &mut Rivals,
+    line: &[u8],
+) -> Result<Stage, LineStop>
     ensures ok { IfOk result (λ next. Step (Stage.Listing book) line.now next × (excess next ≡ None)) }
     ensures form { result ≡ Err LineStop.Form → (t : Stage) → Step (Stage.Listing book) line.now t → ⊥ }
     ensures limit { (kind : LimitKind) (count : ℕ) → result ≡ Err (LineStop.Limit kind count) → (t : Stage) × Step (Stage.Listing book) line.now t × (excess t ≡ Some (kind, count)) }
@@ -77,6 +89,6 @@ fn take_listed(alloc: Global, mut book: BidBook, line: &[u8]) -> Result<Stage, L
     if line == b"end".as_slice() {
         return Ok(Stage::Ended(book));
     }
-    take_entry(alloc, &mut book, line)?;
+    take_entry(alloc, &mut book, rivals, line)?;
     Ok(Stage::Listing(book))
 }

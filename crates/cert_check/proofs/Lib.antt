@@ -8,7 +8,9 @@ pub mod PartLaws
 pub mod VerdictLaws
 pub mod Blocks
 pub mod Gains
+pub mod GrowthLaws
 pub mod LineLaws
+pub mod TestedLaws
 pub mod TableLaws
 pub mod EarlierLaws
 pub mod ValueLaws

@@ -3,6 +3,8 @@ pub mod Head
 pub mod Multipliers
 pub mod Verdicts
 pub mod Faults
+pub mod Growth
 pub mod LoweredWorths
+pub mod Tested
 pub mod LineTests
 pub mod EarlierBids

@@ -58,3 +58,11 @@ pub record TableAt (m : Menu) (worth : ℕ → ℕ → ℤ) (supply : List ℕ) 
 
 abbrev pub TestsTable : Offers → List (List ℤ) → ℤ → ℕ → Type 0
 TestsTable o table most place = TableAt (offered o) (worth_of o) o.book.now.supply table most place
+
+-- an earlier number of bidder j, or none, takes no more than its bid i and is worth at least as much
+pub record IsNeedless (o : Offers) (j i : ℕ) : Type 0 where
+  pub other : ℕ
+  pub earlier : other < i
+  pub smaller : IsTrue (is_within (lots_of o.book.now j other) (lots_of o.book.now j i))
+  pub worth : 0 < other → worth_of o j i ≤ℤ worth_of o j other
+  pub none : other ≡ 0 → worth_of o j i ≤ℤ pos 0

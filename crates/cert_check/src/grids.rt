@@ -1,5 +1,5 @@
 // The rules of a whole table.
-ghost use Rattle.std.specs.Prelude.{◌≤◌};
+ghost use Rattle.std.specs.Prelude.{◌≡◌, ℕ, ◌≤◌, ◌<◌, [], length, slice_index_or, IsTrue};
 ghost use Rattle.cert_form.specs.CertText.{IsTable};
 ghost use Rattle.cert_laws.specs.Tests.{bidders_of, states};
 ghost use Rattle.cert_check.specs.Faults.{FirstFault};
@@ -10,12 +10,41 @@ use crate::lines::{last_fault, line_fault};
 use crate::offers::Offers;
 use choices::Grid;
 
+/// Whether two tables have the same line.
+fn share_line(table: &Grid, other: &Grid, k: usize) -> bool
+    requires line { k < length table.now }
+    requires other { k < length other.now }
+    ensures { IsTrue result → slice_index_or table.now k [] ≡ slice_index_or other.now k [] }
+{
+    table.line(k) == other.line(k)
+}
+
+/// Whether line `k` of a table without a bidder and the line below it are those of the certificate's own table, and their bids are
+/// the same: then it was tested there.
+fn is_tested(offers: &Offers, table: &Grid, k: usize) -> bool
+    requires table { IsTable (bidders_of offers.now.book.now) (states offers.now.book.now) table.now }
+    requires line { k ≤ bidders_of offers.now.book.now }
+    ensures { IsTrue result → (s : ℕ) → ObeysIn offers.now table.now k s }
+{
+    if offers.lowered || offers.skip == 0 || k < offers.skip as usize {
+        return false;
+    }
+    let own = &offers.cert.table;
+    if !share_line(table, own, k) {
+        return false;
+    }
+    k == offers.book.bidders() || share_line(table, own, k + 1)
+}
+
 /// The first place at which line `k` breaks a rule, and the number of states where there is none.
 fn rule_fault(offers: &Offers, table: &Grid, k: usize) -> usize
     requires table { IsTable (bidders_of offers.now.book.now) (states offers.now.book.now) table.now }
     requires line { k ≤ bidders_of offers.now.book.now }
     ensures { FirstFault (ObeysIn offers.now table.now k) (states offers.now.book.now) result }
 {
+    if is_tested(offers, table, k) {
+        return offers.book.supply().states();
+    }
     if k == offers.book.bidders() {
         return last_fault(table.line(k));
     }

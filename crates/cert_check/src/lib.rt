@@ -6,6 +6,7 @@ mod checking;
 mod choice;
 mod earlier;
 mod grids;
+mod growth;
 mod lines;
 mod members;
 mod multipliers;

@@ -5,6 +5,7 @@ ghost use Rattle.cert_laws.specs.Tests.{bidders_of, states};
 ghost use Rattle.cert_check.specs.Faults.{FirstFault};
 ghost use Rattle.cert_check.specs.LineTests.{offered, KeepsNone, KeepsZero, KeepsBid, KeepsSome};
 
+use crate::growth::is_growing;
 use crate::offers::Offers;
 use crate::rule::LineRule;
 use crate::walk::{block_fault, run_fault, used_categories};
@@ -46,7 +47,7 @@ fn bid_fault(offers: &Offers, j: u16, i: u16, line: &[i128], below: &[i128], unt
     ensures { FirstFault (KeepsBid offers.now j line.now below.now i) until result }
 {
     let supply = offers.book.supply();
-    let states = supply.states();
+    let _states = supply.states();
     let bid = offers.book.bid(j, i);
     let rule = LineRule {
         line,
@@ -56,7 +57,14 @@ fn bid_fault(offers: &Offers, j: u16, i: u16, line: &[i128], below: &[i128], unt
     };
     let counts = bid.package.counts();
     let used = used_categories(counts);
-    block_fault(&rule, supply.counts(), &counts[..used], states, 0, until)
+    block_fault(
+        &rule,
+        supply.counts(),
+        supply.widths(),
+        &counts[..used],
+        0,
+        until,
+    )
 }
 
 /// The first place at which the line of bidder `j` breaks a rule, and its length where there is none.
@@ -67,8 +75,13 @@ pub fn line_fault(offers: &Offers, j: u16, line: &[i128], below: &[i128]) -> usi
     requires sizes { (s : ℕ) → unsigned_abs (slice_index_or below.now s (pos 0)) < 2 ^ 122 }
     ensures { FirstFault (KeepsSome offers.now j line.now below.now ((offered offers.now).bids j)) (length line.now) result }
 {
+    let supply = offers.book.supply();
+    let grows = is_growing(supply.counts(), supply.widths(), below);
     let mut found = none_fault(line, below);
     for i in 0..offers.bids(j) {
+        if grows && offers.is_needless(j, i + 1) {
+            continue;
+        }
         found = bid_fault(offers, j, i + 1, line, below, found);
     }
     found

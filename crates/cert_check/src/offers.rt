@@ -4,12 +4,14 @@ ghost use Rattle.auction_model.specs.Book.{bids_of, net_of};
 ghost use Rattle.cert_laws.specs.Tests.{bidders_of, lowered_net};
 ghost use Rattle.cert_text.specs.CertValues.{cert_value};
 ghost use Rattle.cert_check.specs.LoweredWorths.{CanLower, gain_of};
+ghost use Rattle.cert_check.specs.Tested.{IsTested};
 
 use bid_book::BidBook;
 use cert_text::Certificate;
 
 /// The bids that a table is tested for. Bidder `skip` has none, and 0 skips nobody. A bid is worth its net amount, or, where
-/// worths are lowered, the denominator times that, less what its bidder gains at the payments.
+/// worths are lowered, the denominator times that, less what its bidder gains at the payments. Where a bidder is skipped the
+/// certificate's own table was tested.
 #[derive(Drop)]
 pub struct Offers<'a> {
     pub book: &'a BidBook,
@@ -17,10 +19,12 @@ pub struct Offers<'a> {
     pub skip: u16,
     pub lowered: bool,
     pub ghost lower: { lowered ≡ true → CanLower book.now (cert_value cert.now) },
+    pub ghost tested: { 0 < skip → IsTested book.now cert.now },
 }
 
 impl<'a> Offers<'a> {
-    ghost use Rattle.cert_check.specs.LineTests.{offered, worth_of};
+    ghost use Rattle.std.specs.Prelude.{IsTrue};
+    ghost use Rattle.cert_check.specs.LineTests.{offered, worth_of, IsNeedless};
 
     /// How many bids of bidder `j` there are.
     pub fn bids(&self, j: u16) -> u16
@@ -43,6 +47,20 @@ impl<'a> Offers<'a> {
         } else {
             net_worth(self.book, j, i)
         }
+    }
+
+    /// Whether an earlier number of bidder `j`, or none, takes no more than its bid `i` and is worth at least as much. On a line
+    /// that never falls its rule follows then from the others.
+    pub fn is_needless(&self, j: u16, i: u16) -> bool
+        requires bidder { (0 < j) × (j ≤ bidders_of self.now.book.now) }
+        requires bid { (0 < i) × (i ≤ length (bids_of self.now.book.now j)) }
+        ensures { IsTrue result → IsNeedless self.now j i }
+    {
+        let _bidders = self.book.bidders();
+        if self.cert.den >= 0 && self.book.better(j, i) != 0 {
+            return true;
+        }
+        self.worth(j, i) <= 0
     }
 }
 

@@ -5,8 +5,9 @@ ghost use Rattle.cert_form.specs.Certificate.{part_of};
 ghost use Rattle.cert_form.specs.CertText.{IsTable};
 ghost use Rattle.cert_laws.specs.Tests.{bidders_of, states, IsPart, C4};
 ghost use Rattle.cert_text.specs.Parts.{without_value};
-ghost use Rattle.cert_text.specs.CertValues.{cert_value, IsFor};
+ghost use Rattle.cert_text.specs.CertValues.{cert_value};
 ghost use Rattle.cert_check.specs.Places.{IsFirstFailing};
+ghost use Rattle.cert_check.specs.Tested.{IsTested};
 
 use crate::choice::is_allowed;
 use crate::grids::table_test;
@@ -20,6 +21,7 @@ fn shows_best(book: &BidBook, cert: &Certificate, part: &WithoutPart, j: u16) ->
     requires bidder { (0 < j) × (j ≤ bidders_of book.now) }
     requires choice { length part.now.choice ≡ bidders_of book.now }
     requires table { IsTable (bidders_of book.now) (states book.now) part.now.table }
+    requires tested { IsTested book.now cert.now }
     ensures { IsTrue result ↔ IsPart book.now j (without_value part.now) }
 {
     if part.choice.number(j) != 0 || !is_allowed(book, &part.choice) {
@@ -37,7 +39,7 @@ fn shows_best(book: &BidBook, cert: &Certificate, part: &WithoutPart, j: u16) ->
 /// Whether the part without bidder `j` shows the best choice without it.
 fn has_part(book: &BidBook, cert: &Certificate, j: u16) -> bool
     requires bidder { (0 < j) × (j ≤ bidders_of book.now) }
-    requires shape { IsFor (bidders_of book.now) (states book.now) cert.now }
+    requires tested { IsTested book.now cert.now }
     ensures { IsTrue result ↔ IsPart book.now j (part_of (cert_value cert.now).withouts j) }
 {
     for part in cert.withouts.items() {
@@ -51,7 +53,7 @@ fn has_part(book: &BidBook, cert: &Certificate, j: u16) -> bool
 /// The first winner whose part doesn't show the best choice without it: its choice isn't known, uses the winner or doesn't fit,
 /// or its table breaks a rule or has more for the whole supply.
 pub(crate) fn parts_test(book: &BidBook, cert: &Certificate) -> Option<u64>
-    requires shape { IsFor (bidders_of book.now) (states book.now) cert.now }
+    requires tested { IsTested book.now cert.now }
     ensures { IsFirstFailing (C4 book.now (cert_value cert.now)) result }
 {
     for k in 0..book.bidders() {

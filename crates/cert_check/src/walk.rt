@@ -3,7 +3,7 @@
 // category of which the package has some, the places are one run.
 ghost use Rattle.std.specs.Prelude.{◌≡◌, ◌↔◌, ◌+◌, ◌^◌, ◌≤◌, ◌<◌, length, ◌+ℤ◌, ◌≤ℤ◌, unsigned_abs, IsTrue};
 ghost use Rattle.auction_model.specs.Package.{IsNothingFrom};
-ghost use Rattle.auction_model.specs.Place.{states_of, place_of};
+ghost use Rattle.auction_model.specs.Place.{states_of, place_of, widths_of};
 ghost use Rattle.cert_check.specs.Faults.{FirstFault, CoversRun, CoversBlock};
 
 use crate::rule::LineRule;
@@ -31,13 +31,15 @@ pub fn run_fault(rule: &LineRule, start: usize, stop: usize, until: usize) -> us
     until
 }
 
-/// How many categories there are up to the last of which a package has some.
+/// How many categories there are up to the last of which a package has some, and at least one.
 pub fn used_categories(counts: &[u16]) -> usize
+    requires { 0 < length counts.now }
+    ensures some { 0 < result }
     ensures most { result ≤ length counts.now }
     ensures rest { IsNothingFrom result counts.now }
 {
-    let mut used = 0;
-    for i in 0..counts.len() {
+    let mut used = 1;
+    for i in 1..counts.len() {
         if counts[i] != 0 {
             used = i + 1;
         }
@@ -45,36 +47,88 @@ pub fn used_categories(counts: &[u16]) -> usize
     used
 }
 
+/// The same as `block_fault` of a package of one category: in a block its places are one run.
+fn one_fault(
+    rule: &LineRule,
+    supply: &[u16],
+    widths: &[usize],
+    lots: &[u16],
+    base: usize,
+    until: usize,
+) -> usize
+    requires most { length rule.now.line.now < 2 ^ 40 }
+    requires widths { widths.now ≡ widths_of supply.now }
+    requires one { length lots.now ≡ 1 }
+    requires categories { length lots.now ≤ length supply.now }
+    requires room { base + states_of supply.now ≤ length rule.now.line.now }
+    requires shift { rule.now.shift ≤ base + place_of supply.now lots.now }
+    ensures { FirstFault (CoversBlock rule.now base supply.now lots.now) until result }
+{
+    let width = widths[0];
+    let start = base + lots[0] as usize * width;
+    let stop = base + (supply[0] as usize + 1) * width;
+    run_fault(rule, start, stop, until)
+}
+
+/// The same as `block_fault` of a package of two categories, without a call for each run.
+fn two_fault(
+    rule: &LineRule,
+    supply: &[u16],
+    widths: &[usize],
+    lots: &[u16],
+    base: usize,
+    until: usize,
+) -> usize
+    requires most { length rule.now.line.now < 2 ^ 40 }
+    requires widths { widths.now ≡ widths_of supply.now }
+    requires two { length lots.now ≡ 2 }
+    requires categories { length lots.now ≤ length supply.now }
+    requires room { base + states_of supply.now ≤ length rule.now.line.now }
+    requires shift { rule.now.shift ≤ base + place_of supply.now lots.now }
+    ensures { FirstFault (CoversBlock rule.now base supply.now lots.now) until result }
+{
+    let radix = supply[0] as usize + 1;
+    let width = widths[0];
+    let count = lots[0] as usize;
+    let mut found = until;
+    for row in radix.min(count)..radix {
+        let start = base + row * width;
+        found = one_fault(rule, &supply[1..], &widths[1..], &lots[1..], start, found);
+    }
+    found
+}
+
 /// The first place of a block, below `until`, at which the package fits and the line breaks the rule, and `until` where there is
 /// none.
 pub fn block_fault(
     rule: &LineRule,
     supply: &[u16],
+    widths: &[usize],
     lots: &[u16],
-    states: usize,
     base: usize,
     until: usize,
 ) -> usize
     requires most { length rule.now.line.now < 2 ^ 40 }
+    requires widths { widths.now ≡ widths_of supply.now }
+    requires some { 0 < length lots.now }
     requires categories { length lots.now ≤ length supply.now }
-    requires states { states ≡ states_of supply.now }
-    requires room { base + states ≤ length rule.now.line.now }
+    requires room { base + states_of supply.now ≤ length rule.now.line.now }
     requires shift { rule.now.shift ≤ base + place_of supply.now lots.now }
     ensures { FirstFault (CoversBlock rule.now base supply.now lots.now) until result }
 {
-    if lots.is_empty() {
-        return run_fault(rule, base, base + states, until);
+    if lots.len() == 1 {
+        return one_fault(rule, supply, widths, lots, base, until);
+    }
+    if lots.len() == 2 {
+        return two_fault(rule, supply, widths, lots, base, until);
     }
     let radix = supply[0] as usize + 1;
-    let width = states / radix;
+    let width = widths[0];
     let count = lots[0] as usize;
-    if lots.len() == 1 {
-        return run_fault(rule, base + count * width, base + states, until);
-    }
     let mut found = until;
     for digit in radix.min(count)..radix {
         let start = base + digit * width;
-        found = block_fault(rule, &supply[1..], &lots[1..], width, start, found);
+        found = block_fault(rule, &supply[1..], &widths[1..], &lots[1..], start, found);
     }
     found
 }

@@ -1,7 +1,7 @@
 // Signed numbers of a line.
-ghost use Rattle.std.specs.Prelude.{◌≡◌, ◌≢◌, ℕ, ◌+◌, ◌*◌, ◌≤◌, ◌<◌, ◌↔◌, length, List, ◌∷◌, IsTrue, slice_index, MatchOption, IfOk, [], ℤ};
+ghost use Rattle.std.specs.Prelude.{◌≡◌, ◌≢◌, ℕ, ◌+◌, ◌*◌, ◌≤◌, ◌<◌, ◌↔◌, length, List, ◌∷◌, IsTrue, slice_index, MatchOption, IfOk, IfSome, drop, [], ℤ};
 ghost use Rattle.cert_form.specs.Numeral.{numbers_text};
-ghost use Rattle.cert_text.specs.Fields.{ReadsNatural, ReadsSigned, IsField, IsTally, HasNoLeadingZero, IsNoField, KeepsField, HasNumbers};
+ghost use Rattle.cert_text.specs.Fields.{FieldEnds, ReadsNatural, ReadsSigned, IsField, IsTally, HasNoLeadingZero, IsNoField, KeepsField, HasNumbers};
 
 /// A number at the front of a text, and where its digits end.
 #[derive(Clone, Copy)]
@@ -46,6 +46,9 @@ pub(crate) enum NumbersStop {
 }
 
 const TOP: u128 = 1 << 120;
+
+/// A number below this is of 64 bits with one more digit.
+const SHORT: u64 = 1 << 60;
 
 /// Reads numbers, each behind one space, to the end of the text. Says whether one is out of range; such a one stands as 0.
 pub(crate) fn read_numbers(text: &[u8], out: &mut Vec<i128>) -> Result<bool, NumbersStop>
@@ -129,6 +132,43 @@ fn not_below_zero(text: &[u8]) -> Signed
 
 /// The natural number at the front of the text, up to a space or to its end.
 fn read_natural(text: &[u8]) -> Natural
+    ensures { ReadsNatural text.now result }
+{
+    match read_short(text) {
+        Some(number) => number,
+        None => read_long(text),
+    }
+}
+
+/// The same for a number of few digits, and None where there is none.
+fn read_short(text: &[u8]) -> Option<Natural>
+    ensures { IfSome result (λ number. ReadsNatural text.now number) }
+{
+    let mut n = 0u64;
+    let mut stop: usize = 0;
+    while stop < text.len() && n < SHORT && text[stop].is_ascii_digit() {
+        n = 10 * n + (text[stop] - b'0') as u64;
+        stop += 1;
+    }
+    if !ends_at(text, stop) || !may_be_number(text, stop) {
+        return None;
+    }
+    Some(Natural::Within(n as u128, stop))
+}
+
+/// Whether a field ends at this place.
+fn ends_at(text: &[u8], stop: usize) -> bool
+    requires { stop ≤ length text.now }
+    ensures { IsTrue result → FieldEnds (drop stop text.now) }
+{
+    if stop == text.len() {
+        return true;
+    }
+    text[stop] == b' '
+}
+
+/// The same for a number of any size.
+fn read_long(text: &[u8]) -> Natural
     ensures { ReadsNatural text.now result }
 {
     let mut tally = Tally {

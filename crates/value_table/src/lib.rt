@@ -4,6 +4,8 @@
 mod book_chooser;
 mod lines;
 mod lowering;
+mod narrow;
+mod narrow_runs;
 mod runs;
 mod table;
 #[cfg(test)]

@@ -6,6 +6,7 @@ ghost use Rattle.value_table.specs.BookTable.{IsBookTable};
 ghost use Rattle.value_table.specs.Counted.{counted_bids, counted, IsCountedLine, AreCountedLines, IsCountedTable};
 
 use crate::lowering::Lowering;
+use crate::narrow::count_narrow;
 use crate::runs::add_bid;
 use choices::Grid;
 use std::alloc::{AllocError, Global};
@@ -42,6 +43,9 @@ fn count_bids(lowering: &Lowering, j: u16, line: &mut [i128], below: &[i128])
     ensures { IsCountedLine lowering.now (j - 1) line.new }
 {
     for i in 0..lowering.bids(j) {
+        if lowering.is_needless(j, i + 1) {
+            continue;
+        }
         let worth = lowering.worth(j, i + 1);
         let bid = lowering.book.bid(j, i + 1);
         add_bid(lowering.book.supply(), line, below, &bid.package, worth);
@@ -60,6 +64,10 @@ fn next_line(
     ensures { IfOk result (λ v. IsCountedLine lowering.now (j - 1) v.items) }
 {
     let mut line = idle_line(alloc, below, lowering.idle(j))?;
+    if lowering.is_narrow() {
+        let counted = count_narrow(alloc, lowering, j, &line, below)?;
+        return Ok(counted);
+    }
     count_bids(lowering, j, &mut line, below);
     Ok(line)
 }

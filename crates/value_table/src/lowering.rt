@@ -1,9 +1,15 @@
 // What bids count in a table.
-ghost use Rattle.std.specs.Prelude.{◌≡◌, ◌+◌, ◌*◌, ◌^◌, ◌≤◌, length, pos, neg_ℤ, ◌-ℤ◌, ◌*ℤ◌, unsigned_abs};
+ghost use Rattle.std.specs.Prelude.{IsTrue, ℕ, slice_index_or, ◌≡◌, ◌+◌, ◌*◌, ◌^◌, ◌≤◌, length, pos, neg_ℤ, ◌-ℤ◌, ◌*ℤ◌, unsigned_abs};
 ghost use Rattle.std.specs.Int.{int_max};
 ghost use Rattle.value_table.specs.BookTable.{IsInRange};
 
 use bid_book::BidBook;
+
+/// The greatest denominator with which a table is narrow.
+const NARROW_DEN: u128 = 1 << 14;
+
+/// The greatest surplus with which a table is narrow.
+const NARROW_SURPLUS: u128 = 1 << 56;
 
 /// What the bids of a book count in a table. Bidder `skip` has no bids. A bid of another bidder counts `den` times its net
 /// amount less the surplus of its bidder. A bidder that isn't used counts its idle worth. A surplus is times `den`.
@@ -20,7 +26,7 @@ pub struct Lowering<'a> {
 impl<'a> Lowering<'a> {
     ghost use Rattle.std.specs.Prelude.{◌<◌};
     ghost use Rattle.auction_model.specs.Book.{bids_of};
-    ghost use Rattle.value_table.specs.Counted.{counted_bids, counted};
+    ghost use Rattle.value_table.specs.Counted.{counted_bids, counted, IsNeedless, IsNarrow};
 
     /// How many bids of bidder `j` count.
     pub fn bids(&self, j: u16) -> u16
@@ -49,6 +55,41 @@ impl<'a> Lowering<'a> {
     {
         idle_worth(self.surplus[j as usize - 1])
     }
+
+    /// Whether bid `i` of bidder `j` changes no entry, since an earlier number of it, or none, takes no more and counts at least
+    /// as much.
+    pub fn is_needless(&self, j: u16, i: u16) -> bool
+        requires bidder { (0 < j) × (j ≤ length self.now.book.now.bidders) }
+        requires bid { (0 < i) × (i ≤ (counted_bids self.now).bids j) }
+        ensures { IsTrue result → IsNeedless self.now j i }
+    {
+        let _bidders = self.book.bidders();
+        let _bids = self.bids(j);
+        if self.den >= 0 && self.book.better(j, i) != 0 {
+            return true;
+        }
+        self.worth(j, i) <= self.idle(j)
+    }
+
+    /// Whether all sums are of 62 bits, by a test that needs no sum.
+    pub fn is_narrow(&self) -> bool
+        ensures { IsTrue result → IsNarrow self.now }
+    {
+        let _bidders = self.book.bidders();
+        self.den.unsigned_abs() <= NARROW_DEN && are_narrow(self.surplus)
+    }
+}
+
+/// Whether no number is larger than a narrow surplus.
+fn are_narrow(numbers: &[i128]) -> bool
+    ensures { IsTrue result → (k : ℕ) → unsigned_abs (slice_index_or numbers.now k (pos 0)) ≤ 2 ^ 56 }
+{
+    for i in 0..numbers.len() {
+        if numbers[i].unsigned_abs() > NARROW_SURPLUS {
+            return false;
+        }
+    }
+    true
 }
 
 fn lowered_worth(den: i128, net: i128, surplus: i128) -> i128

@@ -23,6 +23,67 @@ fn raise_run(line: &mut [i128], below: &[i128], worth: i128)
     }
 }
 
+/// Counts one more bid that wants lots of the first of some categories alone: in the places with enough of it, which are one run.
+fn raise_one(
+    supply: &[u16],
+    widths: &[usize],
+    counts: &[u16],
+    line: &mut [i128],
+    below: &[i128],
+    worth: i128,
+)
+    requires widths { widths.now ≡ widths_of supply.now }
+    requires one { length counts.now ≡ 1 }
+    requires categories { length counts.now ≤ length supply.now }
+    requires states { states_of supply.now ≤ 4096 }
+    requires places { length below.now ≡ states_of supply.now }
+    requires line { length line.old ≡ states_of supply.now }
+    requires worth { unsigned_abs worth ≤ 2 ^ 120 }
+    requires sizes { (s : ℕ) → unsigned_abs (slice_index_or below.now s (pos 0)) ≤ 2 ^ 120 }
+    ensures { (s : ℕ) → s < length line.old → slice_index_or line.new s (pos 0) ≡ raised supply.now below.now counts.now worth s (slice_index_or line.old s (pos 0)) }
+{
+    let from = counts[0] as usize * widths[0];
+    let all = line.len();
+    if from < all {
+        raise_run(&mut line[from..], &below[..all - from], worth);
+    }
+}
+
+/// Counts one more bid that wants lots of two categories, without a call for each run.
+fn raise_two(
+    supply: &[u16],
+    widths: &[usize],
+    counts: &[u16],
+    line: &mut [i128],
+    below: &[i128],
+    worth: i128,
+)
+    requires widths { widths.now ≡ widths_of supply.now }
+    requires two { length counts.now ≡ 2 }
+    requires categories { length counts.now ≤ length supply.now }
+    requires states { states_of supply.now ≤ 4096 }
+    requires places { length below.now ≡ states_of supply.now }
+    requires line { length line.old ≡ states_of supply.now }
+    requires worth { unsigned_abs worth ≤ 2 ^ 120 }
+    requires sizes { (s : ℕ) → unsigned_abs (slice_index_or below.now s (pos 0)) ≤ 2 ^ 120 }
+    ensures { (s : ℕ) → s < length line.old → slice_index_or line.new s (pos 0) ≡ raised supply.now below.now counts.now worth s (slice_index_or line.old s (pos 0)) }
+{
+    let width = widths[0];
+    let count = counts[0] as usize;
+    for row in count..supply[0] as usize + 1 {
+        let to = row * width;
+        let from = (row - count) * width;
+        raise_one(
+            &supply[1..],
+            &widths[1..],
+            &counts[1..],
+            &mut line[to..to + width],
+            &below[from..from + width],
+            worth,
+        );
+    }
+}
+
 /// Counts one more bid in the places of some categories.
 fn raise_block(
     supply: &[u16],
@@ -42,32 +103,30 @@ fn raise_block(
     requires sizes { (s : ℕ) → unsigned_abs (slice_index_or below.now s (pos 0)) ≤ 2 ^ 120 }
     ensures { (s : ℕ) → s < length line.old → slice_index_or line.new s (pos 0) ≡ raised supply.now below.now counts.now worth s (slice_index_or line.old s (pos 0)) }
 {
+    if counts.len() == 1 {
+        return raise_one(supply, widths, counts, line, below, worth);
+    }
+    if counts.len() == 2 {
+        return raise_two(supply, widths, counts, line, below, worth);
+    }
     let width = widths[0];
     let count = counts[0] as usize;
-    if counts.len() == 1 {
-        let from = count * width;
-        let all = line.len();
-        if from < all {
-            raise_run(&mut line[from..], &below[..all - from], worth);
-        }
-    } else {
-        for block in count..supply[0] as usize + 1 {
-            let to = block * width;
-            let from = (block - count) * width;
-            raise_block(
-                &supply[1..],
-                &widths[1..],
-                &counts[1..],
-                &mut line[to..to + width],
-                &below[from..from + width],
-                worth,
-            );
-        }
+    for block in count..supply[0] as usize + 1 {
+        let to = block * width;
+        let from = (block - count) * width;
+        raise_block(
+            &supply[1..],
+            &widths[1..],
+            &counts[1..],
+            &mut line[to..to + width],
+            &below[from..from + width],
+            worth,
+        );
     }
 }
 
 /// How many categories there are up to the last of which a package has some, and at least one.
-fn used_categories(counts: &[u16]) -> usize
+pub fn used_categories(counts: &[u16]) -> usize
     requires { 0 < length counts.now }
     ensures some { 0 < result }
     ensures most { result ≤ length counts.now }

@@ -27,3 +27,11 @@ lowered_test-requires-clause-choice c = held-C2 c.args.book.now (weight_of c.arg
 
 pub lowered_test-requires-clause-value : goal.lowered_test-requires-clause-value
 lowered_test-requires-clause-value c = held-C3 c.args.book.now (weight_of c.args.weights.now) (cert_value c.args.cert.now) c.args.test c.requires.before (omega arith)
+
+pub parts_test-requires : goal.parts_test-requires
+parts_test-requires c = record {
+  tested = record {
+    shape = c.requires.shape;
+    value = held-C3 c.args.book.now (weight_of c.args.weights.now) (cert_value c.args.cert.now) c.args.test c.requires.before (omega arith);
+  };
+}

@@ -6,9 +6,9 @@ use Rattle.cert_check.proofs.Trims.{trim-place}
 use mir.Val.{SFits, to_z, of_z}
 use mir.Syntax.{w128}
 use Rattle.cert_check.proofs.lines.bid_fault.Goals as goal
-use Rattle.cert_check.proofs.lines.bid_fault.Goals.{After-counts}
+use Rattle.cert_check.proofs.lines.bid_fault.Goals.{After-widths}
 
-place_is : (c : After-counts) → c.place.result ≡ place_of c.counts.result.now c.counts-counts.result.now
+place_is : (c : After-widths) → c.place.result ≡ place_of c.counts.result.now c.counts-counts.result.now
 place_is c = simp (c.counts.ensures.counts, c.counts-counts.ensures) c.place.ensures.place
 
 pub block_fault-requires-clause-shift : goal.block_fault-requires-clause-shift

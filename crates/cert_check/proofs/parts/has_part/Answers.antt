@@ -13,7 +13,7 @@ form c =
     let b = bidders_of c.args.book.now in
     let s = states c.args.book.now in
     part-form b s 1 c.args.cert.now.choice c.items-part-items.result.now c.args.cert.now.withouts c.loop-part.part-index c.part-item.result c.items-part-items.ensures
-    (cert-kept b s c.args.cert.now c.requires.shape).withouts c.loop-part-test.true c.part-item.is
+    (cert-kept b s c.args.cert.now c.requires.tested.shape).withouts c.loop-part-test.true c.part-item.is
 
 pub shows_best-requires-clause-choice : goal.shows_best-requires-clause-choice
 shows_best-requires-clause-choice c = (form c).choice

@@ -2,6 +2,7 @@ use Rattle.std.proofs.Common.{◌≡◌, ◌∙◌, ◌+◌, refl, arith, rules}
 use Rattle.std.proofs.lemmas.Int.{to_z-of_z}
 use Rattle.auction_model.proofs.BidderLaws.{bidder-none, bidder-more, bidder-all}
 use Rattle.value_table.proofs.Sizes.{line-small}
+use Rattle.value_table.proofs.Needless.{line-needless}
 use Rattle.value_table.specs.Counted.{counted_bids, counted}
 use mir.Val.{SFits, to_z, of_z}
 use mir.Syntax.{w128}
@@ -28,3 +29,7 @@ returns c =
     let l = c.args.lowering.now in
     let all : c.loop-i.i ≡ (counted_bids l).bids c.args.j = omega (arith, c.bids-i-end.ensures.bids) in
     bidder-all (counted_bids l) (counted l) l.book.now.supply c.args.j c.requires.bidder.0 c.loop-i.line c.requires.bidder.1 (rw all at c.loop-i.invariant)
+
+pub loop-i-preserved-then-is_needless : goal.loop-i-preserved-then-is_needless
+loop-i-preserved-then-is_needless c =
+    line-needless c.args.lowering.now c.args.j c.loop-i.i c.loop-i.line c.requires.bidder.0 (c.is_needless.ensures c.if-is_needless.true) c.loop-i.invariant

@@ -12,4 +12,5 @@ invariant_of-result c =
       subst (λ (bs : List BookBidder). IsBidBook (record { supply = c.args.supply; reserves = c.args.reserves.items; bidders = map bidder_value bs })) none
           (kept _ (opened_within c.args.supply c.args.reserves.items c.requires.supply c.requires.reserves)),
       λ k d lt. absurd (omega (arith, ap length none)),
+      λ k d lt. absurd (omega (arith, ap length none)),
     )

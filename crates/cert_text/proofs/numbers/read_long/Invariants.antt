@@ -1,7 +1,7 @@
 use Rattle.std.proofs.Common.{◌≡◌, take}
 use Rattle.cert_form.proofs.Numerals.{read_on, AreDigits}
 use Rattle.cert_text.specs.Fields.{IsTally}
-use Rattle.cert_text.proofs.numbers.read_natural.Given as goal
+use Rattle.cert_text.proofs.numbers.read_long.Given as goal
 
 abbrev pub invariant-loop-c : goal.invariant-loop-c
 invariant-loop-c l = record {

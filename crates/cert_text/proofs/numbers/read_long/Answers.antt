@@ -3,8 +3,8 @@ use Rattle.std.proofs.lemmas.Bool.Decides.{nat_tests}
 use Rattle.cert_form.proofs.Numerals.{IsDigit, read_on}
 use Rattle.cert_text.specs.Fields.{FieldEnds, IsTally, HasNoLeadingZero}
 use Rattle.cert_text.proofs.Fronts.{no_number_at, no_leading_zero, field_made, digits_more, read_on_more, ends_at, ends_last}
-use Rattle.cert_text.proofs.numbers.read_natural.Goals as goal
-use Rattle.cert_text.proofs.numbers.read_natural.Goals.{else-loop-c-test, then-loop-c-test+then-c-eq32}
+use Rattle.cert_text.proofs.numbers.read_long.Goals as goal
+use Rattle.cert_text.proofs.numbers.read_long.Goals.{else-loop-c-test, then-loop-c-test+then-c-eq32}
 
 pub returns-then-not-is_ascii_digit : goal.returns-then-not-is_ascii_digit
 returns-then-not-is_ascii_digit c =

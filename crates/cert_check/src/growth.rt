@@ -1,0 +1,41 @@
+// Lines that never fall: where more is left of each category, they have at least as much. On such a line the rule of a bid follows
+// from that of a bid that is no larger and worth at least as much.
+ghost use Rattle.std.specs.Prelude.{◌≡◌, ◌≤◌, ◌<◌, length, IsTrue};
+ghost use Rattle.auction_model.specs.Place.{states_of, widths_of};
+ghost use Rattle.cert_check.specs.Growth.{Grows, RisesBy};
+
+/// Whether no number is below the one `width` places before it.
+fn rises_by(line: &[i128], width: usize) -> bool
+    ensures { IsTrue result → RisesBy width line.now }
+{
+    for s in width..line.len() {
+        if line[s] < line[s - width] {
+            return false;
+        }
+    }
+    true
+}
+
+/// Whether a line never falls where more is left.
+pub fn is_growing(supply: &[u16], widths: &[usize], line: &[i128]) -> bool
+    requires widths { widths.now ≡ widths_of supply.now }
+    requires some { 0 < length supply.now }
+    requires states { states_of supply.now ≤ 4096 }
+    requires places { length line.now ≡ states_of supply.now }
+    ensures { IsTrue result → Grows supply.now line.now }
+{
+    let width = widths[0];
+    if !rises_by(line, width) {
+        return false;
+    }
+    if supply.len() == 1 {
+        return true;
+    }
+    for block in 0..supply[0] as usize + 1 {
+        let from = block * width;
+        if !is_growing(&supply[1..], &widths[1..], &line[from..from + width]) {
+            return false;
+        }
+    }
+    true
+}

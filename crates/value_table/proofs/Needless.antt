@@ -1,0 +1,47 @@
+-- Bids that change no entry.
+use Rattle.std.specs.Prelude.{◌≡◌, ℕ, zero, suc, ◌+◌, ◌-◌, ◌*◌, ◌≤◌, ◌<◌, List, length, ℤ, pos, negsuc, ◌-ℤ◌, ◌*ℤ◌, ◌≤ℤ◌, refl}
+use Rattle.std.proofs.Common.{arith, sym, subst}
+use Rattle.std.proofs.lemmas.Int.{ints}
+use Rattle.std.proofs.Math.Nat.{mul-le-mul_left}
+use Rattle.auction_model.specs.Book.{net_of, bids_of}
+use Rattle.auction_model.proofs.LineLaws.{IsLineUpTo}
+use Rattle.auction_model.proofs.DominatedLaws.{line-dominated}
+use Rattle.bid_book.specs.Better.{IsBetter}
+use Rattle.bid_book.specs.Kept.{IsBidBook}
+use Rattle.value_table.specs.declared.lowering.Lowering.{Lowering}
+use Rattle.value_table.specs.Counted.{counted_bids, counted, IsNeedless}
+
+less-order : (x y : ℕ) (s : ℤ) → x ≤ y → (pos x -ℤ s) ≤ℤ (pos y -ℤ s)
+less-order x y s low = omega (arith, ints)
+
+-- lowering keeps the order of amounts that aren't negative
+lowered-in_order : (den a b s : ℤ) → pos 0 ≤ℤ den → pos 0 ≤ℤ a → a ≤ℤ b → ((den *ℤ a) -ℤ s) ≤ℤ ((den *ℤ b) -ℤ s)
+lowered-in_order (pos d) (pos x) (pos y) s den own le = less-order (d * x) (d * y) s (mul-le-mul_left d (omega (arith, ints, le)))
+lowered-in_order (pos d) (pos x) (negsuc y) s den own le = absurd (omega (arith, ints, le))
+lowered-in_order (pos d) (negsuc x) b s den own le = absurd (omega (arith, ints, own))
+lowered-in_order (negsuc d) a b s den own le = absurd (omega (arith, ints, den))
+
+counted-in_order : (l : Lowering) (j i h : ℕ) → 0 < h → h < i → pos 0 ≤ℤ l.den → pos 0 ≤ℤ net_of l.book.now j i → net_of l.book.now j i ≤ℤ net_of l.book.now j h → counted l j i ≤ℤ counted l j h
+counted-in_order l j zero h some low den own le = absurd (omega (arith, low))
+counted-in_order l j (suc i) zero some low den own le = absurd (omega (arith, some))
+counted-in_order l j (suc i) (suc h) some low den own le = lowered-in_order l.den (net_of l.book.now j (suc i)) (net_of l.book.now j (suc h)) _ den own le
+
+pub needless-better : (l : Lowering) (j i h : ℕ) → IsBidBook l.book.now → i ≤ length (bids_of l.book.now j) → 0 < h → pos 0 ≤ℤ l.den → IsBetter l.book.now j i h → IsNeedless l j i
+needless-better l j i h kept known some den better = record {
+  other = h;
+  earlier = better.earlier;
+  smaller = better.smaller;
+  worth = counted-in_order l j i h some better.earlier den (kept.not_negative j i known) better.worth;
+}
+
+pub needless-idle : (l : Lowering) (j i : ℕ) → 0 < i → counted l j i ≤ℤ counted l j 0 → IsNeedless l j i
+needless-idle l j i some le = record { other = 0; earlier = some; smaller = refl; worth = le }
+
+-- a line that counts the bids before such a bid counts it too
+pub line-needless : (l : Lowering) (j i : ℕ) (line : List ℤ) → 0 < j → IsNeedless l j (i + 1) → IsLineUpTo (counted_bids l) (counted l) l.book.now.supply (j - 1) i line → IsLineUpTo (counted_bids l) (counted l) l.book.now.supply (j - 1) (i + 1) line
+line-needless l j i line some n was =
+    let next : j ≡ suc (j - 1) = omega arith in
+    let up : i + 1 ≡ suc i = omega arith in
+    let needless : IsNeedless l (suc (j - 1)) (suc i) = subst (λ (k : ℕ). IsNeedless l k (suc i)) next (subst (IsNeedless l j) up n) in
+    subst (λ (k : ℕ). IsLineUpTo (counted_bids l) (counted l) l.book.now.supply (j - 1) k line) (sym up)
+    (line-dominated (counted_bids l) (counted l) l.book.now.supply (j - 1) i needless.other line (omega (arith, needless.earlier)) needless.smaller needless.worth was)

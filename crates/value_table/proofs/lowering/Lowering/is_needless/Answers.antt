@@ -1,0 +1,27 @@
+use Rattle.std.proofs.Common.{◌<◌, ◌≤◌, ◌≤ℤ◌, arith, rules, length, pos}
+use Rattle.std.proofs.lemmas.Int.{to_z-of_z, ints}
+use Rattle.auction_model.specs.Book.{bids_of}
+use Rattle.value_table.specs.Counted.{counted}
+use Rattle.value_table.proofs.Needless.{needless-better, needless-idle}
+use mir.Val.{SFits}
+use mir.Syntax.{w128}
+use Rattle.value_table.proofs.lowering.Lowering.is_needless.Goals as goal
+
+pub returns-then-better-ne0 : goal.returns-then-better-ne0
+returns-then-better-ne0 c = λ _.
+    let l = c.args.self.now in
+    let den_fits : SFits w128 l.den = search rules in
+    let test = simp to_z-of_z at c.if-self-ge0.true in
+    let den : pos 0 ≤ℤ l.den = grind (arith, ints, test) in
+    let some : 0 < c.better.result = omega (arith, c.if-better-ne0.true) in
+    let known : c.args.i ≤ length (bids_of l.book.now c.args.j) = omega (arith, c.requires.bid.1, c.bids-bids.ensures.bids, c.bids-bids.ensures.most) in
+    needless-better l c.args.j c.args.i c.better.result c.bidders-bidders.ensures.kept known some den (c.better.ensures some)
+
+pub returns : goal.returns
+returns c = λ test.
+    let l = c.args.self.now in
+    let worth_fits : SFits w128 c.worth.result = search rules in
+    let idle_fits : SFits w128 c.idle.result = search rules in
+    let low = simp to_z-of_z at test in
+    let le : counted l c.args.j c.args.i ≤ℤ counted l c.args.j 0 = grind (arith, ints, low, c.worth.ensures.worth, c.idle.ensures.worth) in
+    needless-idle l c.args.j c.args.i c.requires.bid.0 le
