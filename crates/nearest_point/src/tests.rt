@@ -9,6 +9,7 @@ use std::process::Abort;
 use std::test::Fail;
 
 const MOST: i128 = 1 << 46;
+
 const HALF: i128 = 1 << 45;
 
 fn row(members: u16, bound: i128) -> Row {
