@@ -1,5 +1,5 @@
 -- The bids of a book are within their caps over themselves.
-use Rattle.std.proofs.Common.{◌≡◌, ℕ, suc, ◌+◌, ◌-◌, ◌<◌, ◌≤◌, max, Bool, true, false, not, ◌||◌, List, [], ◌∷◌, ◌++◌, Option, Some, None, refl, sym, ◌∙◌, ap, inl, inr, arith, map}
+use Rattle.std.proofs.Common.{◌≡◌, ℕ, suc, ◌+◌, ◌-◌, ◌<◌, ◌≤◌, max, min, Bool, true, false, not, ◌||◌, List, [], ◌∷◌, ◌++◌, Option, Some, None, refl, sym, ◌∙◌, ap, inl, inr, arith, map}
 use Rattle.std.specs.Prelude.{if◌then◌else◌, filter, nat_le, ◌==◌}
 use Rattle.std.proofs.lemmas.Bool.{cases_Bool, cond-true, cond-false, leb-true, leb-false, le-leb, eqb-true, and_parts}
 use Rattle.auction_model.specs.Book.{BookBid}
@@ -7,7 +7,7 @@ use Rattle.auction_model.specs.Package.{cost_of}
 use Rattle.auction_rules.specs.PackageTests.{is_empty, is_same, is_before}
 use Rattle.auction_rules.specs.Step.{last_or}
 use Rattle.auction_rules.specs.Rounds.{OwnRound}
-use Rattle.auction_rules.specs.Caps.{no_round, last_round, enough, constraining, clock_bid, greatest, highest, cap_by, cap_of, excess_cap, excess_or, first_excess, list_fault}
+use Rattle.auction_rules.specs.Caps.{no_round, last_round, enough, constraining, clock_bid, greatest, highest, cap_by, cap_among, cap_with, excess_cap, excess_or, first_excess, list_fault_with}
 use Rattle.auction_rules.specs.Lines.{placed, in_order, priced}
 use Rattle.auction_rules.specs.BookOfLog.{bid_lots, best_bids}
 use Rattle.auction_rules.proofs.PackageLaws.{is_same-true, is_same-refl}
@@ -103,13 +103,20 @@ highest-best_bids rounds list lots =
     ]
 
 -- so the caps are the same
-pub cap_of-best_bids : (points : List ℕ) (rounds : List OwnRound) (list : List BookBid) (lots : List ℕ)
-    → cap_of points rounds (best_bids (map clock_bid rounds ++ list)) lots ≡ cap_of points rounds list lots
-cap_of-best_bids points rounds list lots =
-    let by : (r : OwnRound) → cap_by rounds (best_bids (map clock_bid rounds ++ list)) r lots ≡ cap_by rounds list r lots
-    = λ r. ap (λ (h : ℕ). h + cost_of r.prices lots - cost_of r.prices r.held) (highest-best_bids rounds list r.held) in
-    let n : OwnRound = constraining (cost_of points lots) rounds in
-    ap (λ (a : ℕ). if is_same lots (last_round rounds).held then None else Some a) (by n)
+cap_by-best_bids : (rounds : List OwnRound) (list : List BookBid) (lots : List ℕ) (r : OwnRound) → cap_by rounds (best_bids (map clock_bid rounds ++ list)) r lots ≡ cap_by rounds list r lots
+cap_by-best_bids rounds list lots r = ap (λ (h : ℕ). h + cost_of r.prices lots - cost_of r.prices r.held) (highest-best_bids rounds list r.held)
+
+pub cap_among-best_bids : (final_cap : Bool) (points : List ℕ) (rounds : List OwnRound) (list : List BookBid) (lots : List ℕ)
+    → cap_among final_cap points rounds (best_bids (map clock_bid rounds ++ list)) lots ≡ cap_among final_cap points rounds list lots
+cap_among-best_bids true points rounds list lots =
+    ap (λ (n : ℕ). min n (cap_by rounds (best_bids (map clock_bid rounds ++ list)) (last_round rounds) lots)) (cap_by-best_bids rounds list lots (constraining (cost_of points lots) rounds))
+    ∙ ap (min (cap_by rounds list (constraining (cost_of points lots) rounds) lots)) (cap_by-best_bids rounds list lots (last_round rounds))
+cap_among-best_bids false points rounds list lots = cap_by-best_bids rounds list lots (constraining (cost_of points lots) rounds)
+
+pub cap_with-best_bids : (final_cap : Bool) (points : List ℕ) (rounds : List OwnRound) (list : List BookBid) (lots : List ℕ)
+    → cap_with final_cap points rounds (best_bids (map clock_bid rounds ++ list)) lots ≡ cap_with final_cap points rounds list lots
+cap_with-best_bids final_cap points rounds list lots =
+    ap (λ (a : ℕ). if is_same lots (last_round rounds).held then None else Some a) (cap_among-best_bids final_cap points rounds list lots)
 
 -- Rounds whose prices never fall, and in which the bidder is eligible for what it holds.
 pub data RisesTo : OwnRound → OwnRound → Type 0 where
@@ -167,6 +174,16 @@ floors points lots d (r ∷ rounds) first rising eligible =
           rw short (later.0, omega (arith, later.1, own))
     ]
 
+-- and at most its price in the last of the rounds
+floors_last : (lots : List ℕ) (d : OwnRound) (rounds : List OwnRound) → RisesToEach d rounds → AreRising rounds
+    → (cost_of d.prices lots ≤ cost_of (last_or d rounds).prices lots) × (greatest lots (map clock_bid rounds) ≤ cost_of (last_or d rounds).prices lots)
+floors_last lots d [] first rising = (omega arith, omega arith)
+floors_last lots d (r ∷ rounds) first rising =
+    let later : (cost_of r.prices lots ≤ cost_of (last_or r rounds).prices lots) × (greatest lots (map clock_bid rounds) ≤ cost_of (last_or r rounds).prices lots) = floors_last lots r rounds rising.0 rising.1 in
+    let up : cost_of d.prices lots ≤ cost_of r.prices lots = rise d r lots first.0 in
+    let own : (if is_same r.held lots then cost_of r.prices r.held else 0) ≤ cost_of r.prices lots = own_at r lots in
+    (omega (arith, later.0, up), omega (arith, later.0, later.1, own))
+
 -- what holds of each round, and of d, holds of the last of those that are enough
 abbrev EachRound : (OwnRound → Type 0) → List OwnRound → Type 0
 EachRound P [] = Unit {0}
@@ -179,6 +196,10 @@ EachRound-last_enough P n d (r ∷ rounds) h each =
       | inl long ↦ rw long (EachRound-last_enough P n r rounds each.0 each.1)
       | inr short ↦ rw short (EachRound-last_enough P n d rounds h each.1)
     ]
+
+EachRound-last : (P : OwnRound → Type 0) (d : OwnRound) (rounds : List OwnRound) → P d → EachRound P rounds → P (last_or d rounds)
+EachRound-last P d [] h each = h
+EachRound-last P d (r ∷ rounds) h each = EachRound-last P r rounds each.0 each.1
 
 EachRound-weaker : (P Q : OwnRound → Type 0) (rounds : List OwnRound) → ((r : OwnRound) → P r → Q r) → EachRound P rounds → EachRound Q rounds
 EachRound-weaker P Q [] weaker each = tt
@@ -230,15 +251,25 @@ cap_cases : (same : Bool) (a least cap : ℕ) → (if same then None else Some a
 cap_cases true a least cap h low = cc
 cap_cases false a least cap h low = let e : a ≡ cap = Some-injective h in omega (arith, e, low)
 
+among-least : (final_cap : Bool) (points : List ℕ) (rounds : List OwnRound) (list : List BookBid) (lots : List ℕ) (least : ℕ) → least ≤ cap_by rounds list (constraining (cost_of points lots) rounds) lots
+    → least ≤ cap_by rounds list (last_round rounds) lots → least ≤ cap_among final_cap points rounds list lots
+among-least true points rounds list lots least low low' = omega (arith, low, low')
+among-least false points rounds list lots least low low' = low
+
 -- a clock bid is within the cap
-pub clock-within_cap : (points : List ℕ) (rounds : List OwnRound) (list : List BookBid) (lots : List ℕ) (cap : ℕ) → AreRising rounds → AreEligible points rounds
-    → cap_of points rounds list lots ≡ Some cap → greatest lots (map clock_bid rounds) ≤ cap
-clock-within_cap points rounds list lots cap rising eligible h =
+pub clock-within_cap : (final_cap : Bool) (points : List ℕ) (rounds : List OwnRound) (list : List BookBid) (lots : List ℕ) (cap : ℕ) → AreRising rounds → AreEligible points rounds
+    → cap_with final_cap points rounds list lots ≡ Some cap → greatest lots (map clock_bid rounds) ≤ cap
+clock-within_cap final_cap points rounds list lots cap rising eligible h =
     let n : OwnRound = constraining (cost_of points lots) rounds in
+    let f : OwnRound = last_round rounds in
     let below_n : greatest lots (map clock_bid rounds) ≤ cost_of n.prices lots = (floors points lots no_round rounds (no_round-rises rounds) rising eligible).1 in
+    let below_f : greatest lots (map clock_bid rounds) ≤ cost_of f.prices lots = (floors_last lots no_round rounds (no_round-rises rounds) rising).1 in
     let floor_n : cost_of n.prices lots ≤ cap_by rounds list n lots = cap_by-floor rounds list n lots
     (EachRound-last_enough (IsFloored rounds list) (cost_of points lots) no_round rounds (no_round-floored rounds list) (each_floored rounds list)) in
-    cap_cases (is_same lots (last_round rounds).held) (cap_by rounds list n lots) (greatest lots (map clock_bid rounds)) cap h (omega (arith, below_n, floor_n))
+    let floor_f : cost_of f.prices lots ≤ cap_by rounds list f lots = cap_by-floor rounds list f lots
+    (EachRound-last (IsFloored rounds list) no_round rounds (no_round-floored rounds list) (each_floored rounds list)) in
+    cap_cases (is_same lots (last_round rounds).held) (cap_among final_cap points rounds list lots) (greatest lots (map clock_bid rounds)) cap h
+    (among-least final_cap points rounds list lots (greatest lots (map clock_bid rounds)) (omega (arith, below_n, floor_n)) (omega (arith, below_f, floor_f)))
 
 -- a valid list is within its caps
 excess-within : (o : Option ℕ) (amount entry : ℕ) (later : Option (ℕ × ℕ)) (cap : ℕ) → excess_or entry (excess_cap o amount) later ≡ None → o ≡ Some cap → amount ≤ cap
@@ -279,13 +310,13 @@ within-first_excess cap_at amount entry (p ∷ ps) within =
     ∙ within-first_excess cap_at amount (suc entry) ps within
 
 -- The bids of a book are a valid list: each is at most its cap over the book's own bids, but for what is held in the final round.
-pub list_fault-best_bids : (points : List ℕ) (rounds : List OwnRound) (list : List BookBid) → AreRising rounds → AreEligible points rounds
-    → list_fault points rounds list ≡ None → list_fault points rounds (best_bids (map clock_bid rounds ++ list)) ≡ None
-list_fault-best_bids points rounds list rising eligible valid =
+pub list_fault-best_bids : (final_cap : Bool) (points : List ℕ) (rounds : List OwnRound) (list : List BookBid) → AreRising rounds → AreEligible points rounds
+    → list_fault_with final_cap points rounds list ≡ None → list_fault_with final_cap points rounds (best_bids (map clock_bid rounds ++ list)) ≡ None
+list_fault-best_bids final_cap points rounds list rising eligible valid =
     let all : List BookBid = map clock_bid rounds ++ list in
-    within-first_excess (cap_of points rounds (best_bids all)) (λ p. greatest p all) 1 _
+    within-first_excess (cap_with final_cap points rounds (best_bids all)) (λ p. greatest p all) 1 _
     (λ p cap h.
-    let same : cap_of points rounds list p ≡ Some cap = sym (cap_of-best_bids points rounds list p) ∙ h in
-    let clock : greatest p (map clock_bid rounds) ≤ cap = clock-within_cap points rounds list p cap rising eligible same in
-    let given : greatest p list ≤ cap = list-within_cap (cap_of points rounds list) 1 list p cap valid same in
+    let same : cap_with final_cap points rounds list p ≡ Some cap = sym (cap_with-best_bids final_cap points rounds list p) ∙ h in
+    let clock : greatest p (map clock_bid rounds) ≤ cap = clock-within_cap final_cap points rounds list p cap rising eligible same in
+    let given : greatest p list ≤ cap = list-within_cap (cap_with final_cap points rounds list) 1 list p cap valid same in
     omega (arith, clock, given, greatest-append p (map clock_bid rounds) list))

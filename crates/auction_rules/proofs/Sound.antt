@@ -210,5 +210,5 @@ pub list_fault-bids_in_book : (terms : Terms) (log : List Event) (j : ℕ)
 list_fault-bids_in_book terms log j =
     let s : Standing = standing terms (admitted terms log) j in
     let sound : IsSound terms s = IsSound-standing terms j log in
-    list_fault-best_bids terms.points s.rounds s.submitted
+    list_fault-best_bids false terms.points s.rounds s.submitted
     (AreRising-own_rounds terms (held_in terms (admitted terms log)) j (closed_after terms (held_in terms (admitted terms log)) (closes (admitted terms log)))) sound.eligible sound.valid

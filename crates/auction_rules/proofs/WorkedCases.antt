@@ -8,7 +8,8 @@ use Rattle.auction_rules.specs.Step.{ticks_of, stepped}
 use Rattle.auction_model.specs.Book.{BookBid}
 use Rattle.auction_rules.specs.Replies.{reply_to, price_top, drafts_full, close_reply}
 use Rattle.auction_rules.specs.BookOfLog.{bids_in_book, book_of_log, is_complete}
-use Rattle.auction_rules.specs.Rounds.{raised_prices}
+use Rattle.auction_rules.specs.Rounds.{OwnRound, raised_prices}
+use Rattle.auction_rules.specs.Caps.{list_fault_with}
 use Rattle.auction_rules.specs.State.{state_of}
 
 -- two bidders, three lots of one category, and a step of a fifth
@@ -189,3 +190,16 @@ refuses_to_close_round_300_with_excess_demand = refl
 closes_round_299_with_excess_demand : close_reply slow always_two 298 ≡ reply.Ok
 unfolding ticks_of
 closes_round_299_with_excess_demand = refl
+
+-- two closed rounds of a bidder, in categories of which it asks for one and then for the other, and its list
+abbrev moved : List OwnRound
+moved = record { prices = 10 ∷ 10 ∷ []; eligibility = 3; held = 2 ∷ 0 ∷ [] } ∷ record { prices = 20 ∷ 10 ∷ []; eligibility = 2; held = 0 ∷ 1 ∷ [] } ∷ []
+
+abbrev moved_list : List BookBid
+moved_list = record { lots = 0 ∷ 1 ∷ []; amount = 12 } ∷ record { lots = 0 ∷ 3 ∷ []; amount = 33 } ∷ record { lots = 2 ∷ 0 ∷ []; amount = 42 } ∷ []
+
+admits_a_list_without_a_final_cap : list_fault_with false (1 ∷ 1 ∷ []) moved moved_list ≡ None
+admits_a_list_without_a_final_cap = refl
+
+refuses_an_entry_above_the_final_cap : list_fault_with true (1 ∷ 1 ∷ []) moved moved_list ≡ Some (2, 32)
+refuses_an_entry_above_the_final_cap = refl

@@ -1,5 +1,5 @@
 -- Relative caps, over the clock rounds of one bidder.
-use Rattle.std.specs.Prelude.{ℕ, zero, suc, ◌+◌, ◌-◌, max, List, [], ◌∷◌, ◌++◌, Option, Some, None, map, slice_index_or, nat_le, if◌then◌else◌}
+use Rattle.std.specs.Prelude.{ℕ, zero, suc, ◌+◌, ◌-◌, max, min, Bool, true, false, List, [], ◌∷◌, ◌++◌, Option, Some, None, map, slice_index_or, nat_le, if◌then◌else◌}
 use Rattle.auction_model.specs.Book.{BookBid}
 use Rattle.auction_model.specs.Package.{cost_of}
 use Rattle.auction_rules.specs.PackageTests.{is_empty, is_same}
@@ -55,10 +55,21 @@ highest rounds list lots = if is_empty lots then 0 else greatest lots (map clock
 abbrev pub cap_by : List OwnRound → List BookBid → OwnRound → List ℕ → ℕ
 cap_by rounds list r lots = highest rounds list r.held + cost_of r.prices lots - cost_of r.prices r.held
 
+-- the cap of a package other than what is held in the final round: that by its constraining round, and with a final cap the lesser
+-- of this and that by the final round
+abbrev pub cap_among : Bool → List ℕ → List OwnRound → List BookBid → List ℕ → ℕ
+cap_among true points rounds list lots =
+    min (cap_by rounds list (constraining (cost_of points lots) rounds) lots) (cap_by rounds list (last_round rounds) lots)
+cap_among false points rounds list lots = cap_by rounds list (constraining (cost_of points lots) rounds) lots
+
 -- None for what is held in the final round, which has no cap
+abbrev pub cap_with : Bool → List ℕ → List OwnRound → List BookBid → List ℕ → Option ℕ
+cap_with final_cap points rounds list lots =
+    if is_same lots (last_round rounds).held then None else Some (cap_among final_cap points rounds list lots)
+
+-- the cap without a final cap
 abbrev pub cap_of : List ℕ → List OwnRound → List BookBid → List ℕ → Option ℕ
-cap_of points rounds list lots =
-    if is_same lots (last_round rounds).held then None else Some (cap_by rounds list (constraining (cost_of points lots) rounds) lots)
+cap_of points rounds list lots = cap_with false points rounds list lots
 
 -- the amount is above the cap, if there is one
 abbrev pub excess_cap : Option ℕ → ℕ → Option ℕ
@@ -77,5 +88,9 @@ first_excess cap entry [] = None
 first_excess cap entry (b ∷ bids) = excess_or entry (excess_cap (cap b.lots) b.amount) (first_excess cap (suc entry) bids)
 
 -- the first entry of the list that is above its cap over the list
+abbrev pub list_fault_with : Bool → List ℕ → List OwnRound → List BookBid → Option (ℕ × ℕ)
+list_fault_with final_cap points rounds list = first_excess (cap_with final_cap points rounds list) 1 list
+
+-- the same without a final cap
 abbrev pub list_fault : List ℕ → List OwnRound → List BookBid → Option (ℕ × ℕ)
-list_fault points rounds list = first_excess (cap_of points rounds list) 1 list
+list_fault points rounds list = list_fault_with false points rounds list

@@ -1,0 +1,112 @@
+-- What is worked out once for a list gives the constraining round and the highest amounts.
+use Rattle.std.proofs.Common.{◌≡◌, ◌⊎◌, ℕ, zero, suc, ◌+◌, ◌-◌, ◌^◌, ◌<◌, ◌≤◌, max, List, [], ◌∷◌, length, get_or, set, drop, refl, sym, subst, ◌∙◌, ap, inl, inr, arith}
+use Rattle.std.specs.Prelude.{slice_index}
+use Rattle.std.proofs.lemmas.Bool.{cases_order}
+use Rattle.std.proofs.lemmas.List.{length-map, length-drop, get_or-map, get_or-drop, get_or-set_same, get_or-set_other, drop_more}
+use Rattle.auction_model.specs.Book.{BookBid}
+use Rattle.auction_rules.specs.Rounds.{OwnRound}
+use Rattle.auction_rules.specs.State.{Round, own_of}
+use Rattle.auction_rules.specs.Caps.{no_round, highest}
+use Rattle.clock_stage.specs.Kept as kept
+use Rattle.relative_cap.specs.OwnRounds.{rounds_of, own_in, eligibility_in, IsConstraining}
+use Rattle.relative_cap.specs.Levels.{peak_of, peak_from, CanConstrain, ArePeaksFrom, IsHigh, AreLevels, IsLastEnough}
+
+peak-most : (rounds : List OwnRound) (k : ℕ) → k < length rounds → (get_or rounds k no_round).eligibility ≤ peak_of rounds
+peak-most [] k inside = absurd (omega arith)
+peak-most (r ∷ rounds) zero inside = omega arith
+peak-most (r ∷ rounds) (suc k) inside = omega (arith, peak-most rounds k (omega arith))
+
+-- no later eligibility is above the peak
+later-below : (history : List Round) (j r s : ℕ) → r < s → s ≤ length history → eligibility_in history j s ≤ peak_from history j r
+later-below history j r s low high =
+    let rest : List Round = drop r history in
+    let i : ℕ = s - 1 - r in
+    let inside : i < length rest = omega (arith, length-drop r history) in
+    let place : r + i ≡ s - 1 = omega arith in
+    let is : get_or (rounds_of j rest) i no_round ≡ own_in history j s
+    = get_or-map (own_of j) rest i kept.no_round no_round inside
+    ∙ ap (own_of j) (get_or-drop r history i kept.no_round ∙ ap (λ m. get_or history m kept.no_round) place) in
+    omega (arith, ap (λ (o : OwnRound). o.eligibility) is, peak-most (rounds_of j rest) i (omega (arith, length-map rest (own_of j))))
+
+-- the peak from a round on is its eligibility or a later one
+peak-at : (history : List Round) (j r : ℕ) → 1 ≤ r → r ≤ length history → peak_from history j (r - 1) ≡ max (eligibility_in history j r) (peak_from history j r)
+peak-at history j r low high =
+    let next : r - 1 + 1 ≡ r = omega arith in
+    ap (λ (h : List Round). peak_of (rounds_of j h)) (drop_more history (r - 1) kept.no_round (omega arith))
+    ∙ ap (λ m. max (eligibility_in history j r) (peak_from history j m)) next
+
+pub peak-step : (history : List Round) (j k peak eligibility more : ℕ) → k < length history → peak ≡ peak_from history j (k + 1) → eligibility ≡ eligibility_in history j (k + 1)
+    → more ≡ max peak eligibility → more ≡ peak_from history j k
+peak-step history j k peak eligibility more inside is own by =
+    let back : k ≡ k + 1 - 1 = omega arith in
+    omega (arith, is, own, by, ap (peak_from history j) back, peak-at history j (k + 1) (omega arith) (omega arith))
+
+pub peak-end : (history : List Round) (j k : ℕ) → length history ≤ k → peak_from history j k ≡ 0
+peak-end [] j zero past = refl
+peak-end [] j (suc k) past = refl
+peak-end (h ∷ history) j zero past = absurd (omega arith)
+peak-end (h ∷ history) j (suc k) past = peak-end history j k (omega arith)
+
+-- the first peak is at least the first eligibility
+pub peak-first : (history : List Round) (j needed : ℕ) (peaks : List ℕ) → 1 ≤ length history → needed ≤ eligibility_in history j 1 → ArePeaksFrom 0 history j peaks → needed ≤ slice_index peaks 0
+peak-first history j needed peaks some enough are = omega (arith, enough, are 0 (omega arith) (omega arith), later-below history j 0 1 (omega arith) some)
+
+-- the last number that is enough gives the constraining round
+enough-at : (history : List Round) (j needed r : ℕ) → 1 ≤ r → r ≤ length history → needed ≤ peak_from history j (r - 1) → (r ≡ length history) ⊎ (peak_from history j r < needed)
+    → needed ≤ eligibility_in history j r
+enough-at history j needed r low high enough (inl last) = omega (arith, enough, peak-at history j r low high, peak-end history j r (omega (arith, last)))
+enough-at history j needed r low high enough (inr short) = omega (arith, enough, peak-at history j r low high, short)
+
+short-behind : (history : List Round) (j needed r : ℕ) → (r ≡ length history) ⊎ (peak_from history j r < needed) → (s : ℕ) → r < s → s ≤ length history → eligibility_in history j s < needed
+short-behind history j needed r (inl last) s low high = absurd (omega (arith, last))
+short-behind history j needed r (inr short) s low high = omega (arith, short, later-below history j r s low high)
+
+can-at : (history : List Round) (j needed r : ℕ) → 1 ≤ r → needed ≤ eligibility_in history j r → (r ≡ length history) ⊎ (peak_from history j r < needed) → CanConstrain history j (r - 1)
+can-at history j needed r low enough (inl last) = inl (omega (arith, last))
+can-at history j needed r low enough (inr short) =
+    let next : r ≡ r - 1 + 1 = omega arith in
+    inr (subst (λ m. peak_from history j m < eligibility_in history j m) next (omega (arith, short, enough)))
+
+later-of : (history : List Round) (j needed : ℕ) (peaks : List ℕ) (rounds r : ℕ) → rounds ≡ length history → ArePeaksFrom 0 history j peaks → r ≤ rounds
+    → (r ≡ rounds) ⊎ (slice_index peaks r < needed) → (r ≡ length history) ⊎ (peak_from history j r < needed)
+later-of history j needed peaks rounds r count are most (inl last) = inl (last ∙ count)
+later-of history j needed peaks rounds r count are most (inr short) =
+    elim (cases_order r rounds) [
+      | inl last ↦ inl (last ∙ count)
+      | inr other ↦ elim other [
+        | inl less ↦ inr (omega (arith, short, are r (omega arith) (omega (arith, count))))
+        | inr more ↦ absurd (omega arith)
+      ]
+    ]
+
+pub constraining-by_peaks : (history : List Round) (j needed : ℕ) (peaks : List ℕ) (rounds r : ℕ) → rounds ≡ length history → ArePeaksFrom 0 history j peaks
+    → IsLastEnough needed peaks rounds r → IsConstraining needed history j r × CanConstrain history j (r - 1)
+constraining-by_peaks history j needed peaks rounds r count are is =
+    let high : r ≤ length history = omega (arith, is.last, count) in
+    let later : (r ≡ length history) ⊎ (peak_from history j r < needed) = later-of history j needed peaks rounds r count are is.last is.later in
+    let peak : needed ≤ peak_from history j (r - 1) = omega (arith, is.enough, are (r - 1) (omega arith) (omega (arith, is.first))) in
+    let enough : needed ≤ eligibility_in history j r = enough-at history j needed r is.first high peak later in
+    (record { first = is.first; last = high; enough = enough; later = short-behind history j needed r later }, can-at history j needed r is.first enough later)
+
+pub can-last : (history : List Round) (j : ℕ) (last : ℕ) → 1 ≤ length history → last ≡ length history → CanConstrain history j (last - 1)
+can-last history j last some at = inl (omega (arith, at))
+
+-- the highest amount for what was held in round r
+pub level-high : (history : List Round) (j : ℕ) (bids : List BookBid) (peaks highs : List ℕ) (r : ℕ) → AreLevels history j bids peaks highs → 1 ≤ r → r ≤ length history → CanConstrain history j (r - 1)
+    → (slice_index highs (r - 1) ≡ highest (rounds_of j history) bids (own_in history j r).held) × (slice_index highs (r - 1) ≤ 2 ^ 42)
+level-high history j bids peaks highs r are low high can =
+    let next : r - 1 + 1 ≡ r = omega arith in
+    let is : IsHigh history j bids (r - 1) (slice_index highs (r - 1)) = are.each_high (r - 1) (omega arith) (omega arith) can in
+    (is.0 ∙ ap (λ m. highest (rounds_of j history) bids (own_in history j m).held) next, is.1)
+
+-- a write in front of what is known
+pub set-from : (P : ℕ → ℕ → Type 0) (xs : List ℕ) (i v p : ℕ) → p ≡ i + 1 → i < length xs → ((k : ℕ) → p ≤ k → P k (slice_index xs k)) → P i v
+    → (k : ℕ) → i ≤ k → P k (slice_index (set xs i v) k)
+set-from P xs i v p next inside before own k low =
+    elim (cases_order k i) [
+      | inl same ↦ subst (λ m. P m (slice_index (set xs i v) m)) (sym same) (subst (P i) (sym (get_or-set_same xs i v 0 inside)) own)
+      | inr other ↦ elim other [
+        | inl less ↦ absurd (omega arith)
+        | inr more ↦ subst (P k) (sym (get_or-set_other xs i k v 0 (λ e. absurd (omega arith)))) (before k (omega arith))
+      ]
+    ]

@@ -1,0 +1,5 @@
+pub mod RoundLaws
+pub mod AmountLaws
+pub mod PlaceLaws
+pub mod CapLaws
+pub mod LevelLaws

@@ -1,0 +1,47 @@
+-- What is worked out once for a whole list: for each round the greatest eligibility from it on, and the highest amount for what was
+-- held in it. Places are counted from 0.
+use Rattle.std.specs.Prelude.{◌≡◌, ◌⊎◌, ℕ, ◌+◌, ◌-◌, ◌^◌, ◌≤◌, ◌<◌, max, List, [], ◌∷◌, length, drop, slice_index}
+use Rattle.auction_model.specs.Book.{BookBid}
+use Rattle.auction_rules.specs.Rounds.{OwnRound}
+use Rattle.auction_rules.specs.State.{Round}
+use Rattle.auction_rules.specs.Caps.{highest}
+use Rattle.relative_cap.specs.OwnRounds.{rounds_of, own_in, eligibility_in}
+
+-- the greatest eligibility
+abbrev pub peak_of : List OwnRound → ℕ
+peak_of [] = 0
+peak_of (r ∷ rounds) = max r.eligibility (peak_of rounds)
+
+-- the greatest eligibility behind the first k rounds
+abbrev pub peak_from : List Round → ℕ → ℕ → ℕ
+peak_from history j k = peak_of (rounds_of j (drop k history))
+
+-- the round at place k constrains some package: it is the final one, or its eligibility is above all later ones
+abbrev pub CanConstrain : List Round → ℕ → ℕ → Type 0
+CanConstrain history j k = (k + 1 ≡ length history) ⊎ (peak_from history j (k + 1) < eligibility_in history j (k + 1))
+
+-- the greatest eligibilities from the place on
+abbrev pub ArePeaksFrom : ℕ → List Round → ℕ → List ℕ → Type 0
+ArePeaksFrom place history j peaks = (k : ℕ) → place ≤ k → k < length history → slice_index peaks k ≡ peak_from history j k
+
+-- the highest amount for what bidder j held in the round at place k
+abbrev pub IsHigh : List Round → ℕ → List BookBid → ℕ → ℕ → Type 0
+IsHigh history j bids k high = (high ≡ highest (rounds_of j history) bids (own_in history j (k + 1)).held) × (high ≤ 2 ^ 42)
+
+-- the highest amounts from the place on, where they are needed
+abbrev pub AreHighsFrom : ℕ → List Round → ℕ → List BookBid → List ℕ → Type 0
+AreHighsFrom place history j bids highs =
+    (k : ℕ) → place ≤ k → k < length history → CanConstrain history j k → IsHigh history j bids k (slice_index highs k)
+
+pub record AreLevels (history : List Round) (j : ℕ) (bids : List BookBid) (peaks highs : List ℕ) : Type 0 where
+  pub peaks_room : length history ≤ length peaks
+  pub highs_room : length history ≤ length highs
+  pub each_peak : ArePeaksFrom 0 history j peaks
+  pub each_high : AreHighsFrom 0 history j bids highs
+
+-- the place is the last one, or the last whose number is enough
+pub record IsLastEnough (needed : ℕ) (peaks : List ℕ) (rounds r : ℕ) : Type 0 where
+  pub first : 1 ≤ r
+  pub last : r ≤ rounds
+  pub enough : needed ≤ slice_index peaks (r - 1)
+  pub later : (r ≡ rounds) ⊎ (slice_index peaks r < needed)

@@ -1,0 +1,14 @@
+-- What caps and entries above them say.
+use Rattle.std.specs.Prelude.{ℕ, Option, Some, None}
+use Rattle.relative_cap.specs.declared.limits.Cap.{Cap}
+use Rattle.relative_cap.specs.declared.limits.Cap.TheVariants.{NoCap, At}
+use Rattle.relative_cap.specs.declared.limits.OverCap.{OverCap}
+
+-- the greatest amount that is allowed, and None without a cap
+abbrev pub cap_value : Cap → Option ℕ
+cap_value NoCap = None
+cap_value (At limit) = Some limit
+
+-- the number of the entry, and the cap
+abbrev pub excess_value : OverCap → ℕ × ℕ
+excess_value over = (over.entry, over.limit)

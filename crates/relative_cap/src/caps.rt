@@ -1,0 +1,184 @@
+// Caps, and the first entry above its cap.
+ghost use Rattle.std.specs.Prelude.{◌≡◌, ◌≤◌, ◌<◌, ◌^◌, All, length, map, option_map};
+ghost use Rattle.auction_model.specs.Package.{cost_of};
+ghost use Rattle.auction_rules.specs.Caps.{cap_by, cap_with, excess_cap, list_fault_with};
+ghost use Rattle.auction_rules.specs.PackageTests.{InOrder};
+ghost use Rattle.clock_stage.specs.Kept.{IsHeld, categories_in};
+ghost use Rattle.relative_cap.specs.Asked.{ArePoints, IsBidderOf, IsEligible, IsEntry};
+ghost use Rattle.relative_cap.specs.Levels.{AreLevels};
+ghost use Rattle.relative_cap.specs.Limits.{cap_value, excess_value};
+ghost use Rattle.relative_cap.specs.OwnRounds.{entry_lots, bid_value, cap_at, eligibility_in, own_in, rounds_of};
+
+use crate::amounts::highest;
+use crate::levels::{fill_levels, last_peak};
+use crate::limits::{Cap, OverCap};
+use crate::packages::is_same;
+use crate::rounds::constraining_round;
+use clock_stage::History;
+use lots::{Bid, Package};
+
+/// What the package may cost by round `r`: the highest amount for what bidder `j` held in it, which is given, and the price of the
+/// difference.
+fn cap_from(history: &History, j: u16, r: u32, high: u64, package: &Package) -> u64
+    requires bidder { IsBidderOf history.now j }
+    requires round { (1 ≤ r) × (r ≤ length history.now) }
+    requires categories { IsHeld (categories_in history.now) «package».now }
+    requires least { cost_of (own_in history.now j r).prices (own_in history.now j r).held ≤ high }
+    requires most { high ≤ 2 ^ 42 }
+    ensures { result ≡ cap_at high (own_in history.now j r) «package».now }
+{
+    let prices = history.prices(r);
+    high + package.cost(prices) - history.package(r, j).cost(prices)
+}
+
+/// What the package may cost by round `r`: the highest amount for what bidder `j` held in it, and the price of the difference.
+fn cap_by(history: &History, j: u16, r: u32, list: &[Bid], package: &Package) -> u64
+    requires bidder { IsBidderOf history.now j }
+    requires round { (1 ≤ r) × (r ≤ length history.now) }
+    requires list { All (IsEntry (categories_in history.now)) list.now }
+    requires order { InOrder (map entry_lots list.now) }
+    requires categories { IsHeld (categories_in history.now) «package».now }
+    ensures { result ≡ cap_by (rounds_of j history.now) (map bid_value list.now) (own_in history.now j r) «package».now }
+{
+    let high = highest(history, j, list, history.package(r, j));
+    cap_from(history, j, r, high, package)
+}
+
+/// The cap of a package for bidder `j` over a list, in whole units of money: the highest amount for what the bidder held in the
+/// constraining round, and the price of the difference at the prices of that round. With a final cap it is the lesser of this and
+/// the same by the final round, which is the last of the history. What the bidder held in the final round has no cap. The list is
+/// in the order of packages. It takes no memory.
+pub fn cap(
+    history: &History,
+    points: &[u32],
+    final_cap: bool,
+    j: u16,
+    list: &[Bid],
+    package: &Package,
+) -> Cap
+    requires bidder { IsBidderOf history.now j }
+    requires points { ArePoints history.now points.now }
+    requires list { All (IsEntry (categories_in history.now)) list.now }
+    requires order { InOrder (map entry_lots list.now) }
+    requires categories { IsHeld (categories_in history.now) «package».now }
+    requires eligible { cost_of points.now «package».now ≤ eligibility_in history.now j 1 }
+    ensures { cap_value result ≡ cap_with final_cap points.now (rounds_of j history.now) (map bid_value list.now) «package».now }
+{
+    let last = history.rounds();
+    if is_same(package, history.package(last, j)) {
+        return Cap::NoCap;
+    }
+    let r = constraining_round(history, points, j, package);
+    let round_cap = cap_by(history, j, r, list, package);
+    if final_cap {
+        Cap::At(round_cap.min(cap_by(history, j, last, list, package)))
+    } else {
+        Cap::At(round_cap)
+    }
+}
+
+/// The cap, where the amount is above it.
+fn excess(cap: Cap, amount: u64) -> Option<u64>
+    ensures { result ≡ excess_cap (cap_value cap) amount }
+{
+    match cap {
+        Cap::At(limit) if amount > limit => Some(limit),
+        _ => None,
+    }
+}
+
+/// The cap of a package over the list whose levels are given.
+fn level_cap(
+    history: &History,
+    points: &[u32],
+    final_cap: bool,
+    j: u16,
+    list: &[Bid],
+    peaks: &[u64],
+    highs: &[u64],
+    package: &Package,
+) -> Cap
+    requires bidder { IsBidderOf history.now j }
+    requires points { ArePoints history.now points.now }
+    requires list { All (IsEntry (categories_in history.now)) list.now }
+    requires levels { AreLevels history.now j (map bid_value list.now) peaks.now highs.now }
+    requires categories { IsHeld (categories_in history.now) «package».now }
+    requires eligible { cost_of points.now «package».now ≤ eligibility_in history.now j 1 }
+    ensures { cap_value result ≡ cap_with final_cap points.now (rounds_of j history.now) (map bid_value list.now) «package».now }
+{
+    let last = history.rounds();
+    if is_same(package, history.package(last, j)) {
+        return Cap::NoCap;
+    }
+    let r = last_peak(peaks, last, package.points(points));
+    let round_cap = cap_from(history, j, r, highs[r as usize - 1], package);
+    if final_cap {
+        Cap::At(round_cap.min(cap_from(history, j, last, highs[last as usize - 1], package)))
+    } else {
+        Cap::At(round_cap)
+    }
+}
+
+/// The first entry above its cap over the list whose levels are given.
+fn first_fault(
+    history: &History,
+    points: &[u32],
+    final_cap: bool,
+    j: u16,
+    list: &[Bid],
+    peaks: &[u64],
+    highs: &[u64],
+) -> Option<OverCap>
+    requires bidder { IsBidderOf history.now j }
+    requires points { ArePoints history.now points.now }
+    requires list { All (IsEntry (categories_in history.now)) list.now }
+    requires eligible { All (IsEligible points.now history.now j) list.now }
+    requires few { length list.now < 2 ^ 32 }
+    requires levels { AreLevels history.now j (map bid_value list.now) peaks.now highs.now }
+    ensures { option_map excess_value result ≡ list_fault_with final_cap points.now (rounds_of j history.now) (map bid_value list.now) }
+{
+    for (index, bid) in list.iter().enumerate() {
+        let cap = level_cap(
+            history,
+            points,
+            final_cap,
+            j,
+            list,
+            peaks,
+            highs,
+            &bid.package,
+        );
+        if let Some(limit) = excess(cap, bid.amount) {
+            let entry = index as u32 + 1;
+            return Some(OverCap { entry, limit });
+        }
+    }
+    None
+}
+
+/// How many rounds a history has at most.
+const MOST_ROUNDS: usize = 300;
+
+/// The first entry of the list of bidder `j` whose amount is above its cap over the list, if there is one: its number, counted
+/// from 1, with its cap. The list is in the order of packages. It takes no memory, and works out once for the whole list what the
+/// rounds say.
+pub fn list_fault(
+    history: &History,
+    points: &[u32],
+    final_cap: bool,
+    j: u16,
+    list: &[Bid],
+) -> Option<OverCap>
+    requires bidder { IsBidderOf history.now j }
+    requires points { ArePoints history.now points.now }
+    requires list { All (IsEntry (categories_in history.now)) list.now }
+    requires order { InOrder (map entry_lots list.now) }
+    requires eligible { All (IsEligible points.now history.now j) list.now }
+    requires few { length list.now < 2 ^ 32 }
+    ensures { option_map excess_value result ≡ list_fault_with final_cap points.now (rounds_of j history.now) (map bid_value list.now) }
+{
+    let mut peaks = [0; MOST_ROUNDS];
+    let mut highs = [0; MOST_ROUNDS];
+    fill_levels(history, history.rounds(), j, list, &mut peaks, &mut highs);
+    first_fault(history, points, final_cap, j, list, &peaks, &highs)
+}
