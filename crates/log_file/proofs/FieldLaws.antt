@@ -1,0 +1,134 @@
+-- The fields of a record spell one value.
+use Rattle.std.proofs.Common.{inl, inr, ◌≡◌, ◌≢◌, ℕ, suc, ◌-◌, ◌≤◌, ◌<◌, Option, Result, Ok, Err, List, [], ◌∷◌, ◌++◌, length, take, drop, take-append-drop, refl, sym, ap, subst, ◌∙◌, arith}
+use Rattle.std.specs.Prelude.{IfNone, MatchResult}
+use Rattle.std.specs.Result.{result_ok}
+use Rattle.std.specs.List.{AllByRecursion, All}
+use Rattle.std.specs.Str.{IsUtf8}
+use Rattle.std.specs.Fmt.{decimal}
+use Rattle.std.proofs.lemmas.List.{take_all}
+use Rattle.std.proofs.lemmas.List.Elements.{All-nil, All-cons}
+use Rattle.std.proofs.lemmas.Str.{IsUtf8-from_ascii}
+use Rattle.std.proofs.lemmas.Str.Ascii.{IsAscii-from_all}
+use Rattle.wide_num.proofs.Decimal.{numeral_decimal, AreDigits}
+use Rattle.auction_text.specs.BookForm.{IsName, IsNameByte}
+use Rattle.auction_text.specs.BookLines.{numbers_text}
+use Rattle.bid_book.specs.Stops.{Stops}
+use Rattle.log_file.specs.LogForm.{AreCounts, counts_text}
+
+-- ---- names
+
+each_all : {X : Type 0} (P : X → Type 0) (xs : List X) → AllByRecursion P xs → All P xs
+each_all P [] all = All-nil P
+each_all P (x ∷ xs) all = All-cons P x xs all.0 (each_all P xs all.1)
+
+byte_low : (c : ℕ) → IsNameByte c → c < 128
+byte_low c (inl letter) = omega (arith, letter)
+byte_low c (inr (inl digit)) = omega (arith, digit)
+byte_low c (inr (inr line)) = omega (arith, line)
+
+bytes_low : (cs : List ℕ) → AllByRecursion IsNameByte cs → AllByRecursion (λ b. b < 128) cs
+bytes_low [] all = tt
+bytes_low (c ∷ cs) all = (byte_low c all.0, bytes_low cs all.1)
+
+-- a name is text
+pub name_utf8 : (name : List ℕ) → IsName name → IsUtf8 name
+name_utf8 [] is = absurd is
+name_utf8 (c ∷ cs) is = IsUtf8-from_ascii (c ∷ cs) (IsAscii-from_all (c ∷ cs) (each_all (λ b. b < 128) (c ∷ cs) (omega (arith, is.0), bytes_low cs is.1)))
+
+pub ok_some : {T E : Type 0} (r : Result T E) (o : Option T) (P : T → Type 0) (Q : E → Type 0) (Z : Type 0) → o ≡ result_ok r → MatchResult r P Q → ((e : E) → Q e → ⊥) → IfNone o Z
+ok_some (Ok x) o P Q Z is match other = subst (λ (p : Option _). IfNone p Z) (sym is) tt
+ok_some (Err e) o P Q Z is match other = absurd (other e match)
+
+-- ---- counts
+
+abbrev pub NoSpace : List ℕ → Type 0
+NoSpace cs = AllByRecursion (λ c. c ≢ 32) cs
+
+-- a text falls apart at its first space in one way
+pub one_field : (a b x y : List ℕ) → NoSpace a → NoSpace b → Stops x → Stops y → a ++ x ≡ b ++ y → (a ≡ b) × (x ≡ y)
+one_field [] [] x y na nb sx sy is = (refl, is)
+one_field [] (d ∷ b) [] y na nb sx sy is = absurd (cc is)
+one_field [] (d ∷ b) (c ∷ x) y na nb sx sy is = let e : c ≡ d = cc in absurd (nb.0 (sym e ∙ sx))
+one_field (d ∷ a) [] x [] na nb sx sy is = absurd (cc is)
+one_field (d ∷ a) [] x (c ∷ y) na nb sx sy is = let e : d ≡ c = cc in absurd (na.0 (e ∙ sy))
+one_field (c ∷ a) (d ∷ b) x y na nb sx sy is =
+    let heads : c ≡ d = cc in
+    let tails : a ++ x ≡ b ++ y = cc in
+    let rest = one_field a b x y na.1 nb.1 sx sy tails in (cc (heads, rest.0), rest.1)
+
+pub numbers_stops : (ns : List ℕ) → Stops (numbers_text ns)
+numbers_stops [] = tt
+numbers_stops (n ∷ ns) = refl
+
+digits_own : (ds : List ℕ) → AreDigits ds → NoSpace ds
+digits_own [] all = tt
+digits_own (d ∷ ds) all = ((λ space. omega (arith, all.0)), digits_own ds all.1)
+
+pub number_own : (n : ℕ) → n ≤ 65535 → NoSpace (decimal n)
+number_own n small = digits_own (decimal n) (numeral_decimal n (omega (arith, small))).digits
+
+-- the first count that a text spells stands before its first space
+pub record FirstCount (field more ns : List ℕ) : Type 0 where
+  pub count : ℕ
+  pub later : List ℕ
+  pub whole : ns ≡ count ∷ later
+  pub low : count ≤ 65535
+  pub all_low : AllByRecursion (λ n. n ≤ 65535) later
+  pub field_is : field ≡ decimal count
+  pub more_is : more ≡ numbers_text later
+
+pub first_count : (categories : ℕ) (text field more ns : List ℕ) → 0 < categories → text ≡ field ++ more → NoSpace field → Stops more → AreCounts categories ns → text ≡ counts_text ns → FirstCount field more ns
+first_count categories text field more [] some split own stops are is = absurd (omega (arith, some, are.0))
+first_count categories text field more (n ∷ ns) some split own stops are is =
+    let parts = one_field field (decimal n) more (numbers_text ns) own (number_own n are.1.0) stops (numbers_stops ns) (sym split ∙ is) in
+    record { count = n; later = ns; whole = refl; low = are.1.0; all_low = are.1.1; field_is = parts.0; more_is = parts.1 }
+
+-- the text falls apart at its first space
+pub record Splits (text field more : List ℕ) : Type 0 where
+  pub split : text ≡ field ++ more
+  pub own : NoSpace field
+  pub stops : Stops more
+
+pub splits : (text field more : List ℕ) (n : ℕ) → field ≡ take n text → more ≡ drop n text → NoSpace (take n text) → Stops (drop n text) → Splits text field more
+splits text field more n front back own stops = record {
+  split = sym (take-append-drop n text) ∙ ap (λ (l : List ℕ). l ++ drop n text) (sym front) ∙ ap (λ (l : List ℕ). field ++ l) (sym back);
+  own = subst NoSpace (sym front) own;
+  stops = subst Stops (sym back) stops;
+}
+
+pub first_of : (categories : ℕ) (text field more ns : List ℕ) → 0 < categories → Splits text field more → AreCounts categories ns → text ≡ counts_text ns → FirstCount field more ns
+first_of categories text field more ns some at are is = first_count categories text field more ns some at.split at.own at.stops are is
+
+-- with nothing behind the first count it is the only one
+pub only_count : (categories : ℕ) (field more ns : List ℕ) → FirstCount field more ns → AreCounts categories ns → length more < 1 → categories ≡ 1
+only_count categories field more ns first are short = only categories more first.later short first.more_is (sym are.0 ∙ ap length first.whole)
+  where
+    only : (categories : ℕ) (more later : List ℕ) → length more < 1 → more ≡ numbers_text later → categories ≡ suc (length later) → categories ≡ 1
+    only categories more [] short is count = count
+    only categories more (n ∷ later) short is count = absurd (omega (arith, short, ap length is))
+
+-- with something behind it there is another one
+pub other_counts : (categories : ℕ) (field more ns : List ℕ) (first : FirstCount field more ns) → AreCounts categories ns → 1 ≤ length more
+    → (1 < categories) × AreCounts (categories - 1) first.later × (take (length more - 1) (drop 1 more) ≡ counts_text first.later)
+other_counts categories field more ns first are long =
+    let count : categories ≡ suc (length first.later) = sym are.0 ∙ ap length first.whole in
+    let spaced = other more first.later long first.more_is in
+    (omega (arith, count, spaced.0), (omega (arith, count), first.all_low), spaced.1)
+  where
+    other : (more later : List ℕ) → 1 ≤ length more → more ≡ numbers_text later → (0 < length later) × (take (length more - 1) (drop 1 more) ≡ counts_text later)
+    other more [] long is = absurd (omega (arith, long, ap length is))
+    other more (n ∷ later) long is = (omega arith, ap (λ (l : List ℕ). take (length l - 1) (drop 1 l)) is ∙ take_all (length (numbers_text (n ∷ later)) - 1) (counts_text (n ∷ later)) (omega arith))
+
+-- counts behind a space are spelled as those behind the first count
+pub behind_space : (ns : List ℕ) → 0 < length ns → numbers_text ns ≡ 32 ∷ counts_text ns
+behind_space [] some = absurd (omega (arith, some))
+behind_space (n ∷ ns) some = refl
+
+-- one count alone
+pub one_count : (text field more : List ℕ) (count : ℕ) → text ≡ field ++ more → more ≡ [] → field ≡ decimal count → text ≡ counts_text (count ∷ [])
+one_count text field more count split none is = split ∙ ap (λ (l : List ℕ). l ++ more) is ∙ ap (λ (l : List ℕ). decimal count ++ l) none
+
+-- a count before others
+pub count_before : (text field more behind ns : List ℕ) (count : ℕ) → text ≡ field ++ more → more ≡ 32 ∷ behind → field ≡ decimal count → behind ≡ counts_text ns → 0 < length ns → text ≡ counts_text (count ∷ ns)
+count_before text field more behind ns count split spaced is rest some =
+    split ∙ ap (λ (l : List ℕ). l ++ more) is ∙ ap (λ (l : List ℕ). decimal count ++ l) (spaced ∙ ap (λ (l : List ℕ). 32 ∷ l) rest ∙ sym (behind_space ns some))

@@ -1,0 +1,63 @@
+-- The records of a log, one after the other.
+use Rattle.std.proofs.Common.{◌≡◌, ℕ, suc, ◌<◌, List, [], ◌∷◌, ◌++◌, length, refl, sym, ap, subst, ◌∙◌, arith, append_assoc, length-append}
+use Rattle.std.proofs.lemmas.List.{append-nil}
+use Rattle.auction_rules.specs.Terms.{Terms}
+use Rattle.auction_rules.specs.declared.Event.{Event}
+use Rattle.std.specs.Prelude.{Option, Some, None, Result, Err, IfErr}
+use Rattle.log_file.specs.declared.LogStop.{LogStop}
+use Rattle.log_file.specs.declared.LogStop.TheVariants.{Memory}
+use Rattle.log_file.specs.LogForm.{States, StatesNone, ReadsAs}
+use Rattle.log_file.specs.LogReading.{AllState, AreLog, AreTooMany, BeginWith, IsFirstFault, IsStop, max_records}
+
+abbrev pub Rows : Type 0
+Rows = List (List (List ℕ))
+
+state_push : (terms : Terms) (rows : Rows) (events : List Event) (r : List (List ℕ)) (e : Event) → AllState terms rows events → States terms r e → AllState terms (rows ++ r ∷ []) (events ++ e ∷ [])
+state_push terms [] [] r e all is = (is, tt)
+state_push terms (x ∷ rows) (y ∷ events) r e all is = (all.0, state_push terms rows events r e all.1 is)
+state_push terms [] (y ∷ events) r e all is = absurd all
+state_push terms (x ∷ rows) [] r e all is = absurd all
+
+-- before the first record
+pub begin : (terms : Terms) (rows : Rows) → BeginWith terms rows [] rows
+begin terms rows = record { before = []; whole = refl; states = tt; few = omega arith }
+
+-- one record more
+pub begin_more : (terms : Terms) (rows : Rows) (events : List Event) (left : Rows) (r : List (List ℕ)) (later : Rows) (e : Event) → BeginWith terms rows events left → left ≡ r ∷ later → length events < max_records
+    → States terms r e → BeginWith terms rows (events ++ e ∷ []) later
+begin_more terms rows events left r later e had is few states = record {
+  before = had.before ++ r ∷ [];
+  whole = had.whole ∙ ap (λ (l : Rows). had.before ++ l) is ∙ sym (append_assoc had.before (r ∷ []) later);
+  states = state_push terms had.before events r e had.states states;
+  few = omega (arith, few, length-append events (e ∷ []));
+}
+
+-- behind the last record
+pub log_ends : (terms : Terms) (rows : Rows) (events : List Event) (left : Rows) → BeginWith terms rows events left → left ≡ [] → AreLog terms rows events
+log_ends terms rows events left had none =
+    let whole : rows ≡ had.before = had.whole ∙ ap (λ (l : Rows). had.before ++ l) none ∙ append-nil had.before in
+    (subst (λ (l : Rows). AllState terms l events) (sym whole) had.states, had.few)
+
+pub begin_at : (terms : Terms) (rows : Rows) (events : List Event) (left other : Rows) → BeginWith terms rows events left → left ≡ other → BeginWith terms rows events other
+begin_at terms rows events left other had is = subst (BeginWith terms rows events) is had
+
+-- a record that states nothing is the first fault
+pub first_fault : (terms : Terms) (rows : Rows) (events : List Event) (left : Rows) (r : List (List ℕ)) (later : Rows) → BeginWith terms rows events left → left ≡ r ∷ later → length events < max_records
+    → StatesNone terms r → IsFirstFault terms rows (suc (length events))
+first_fault terms rows events left r later had is few none = (events, r, later, begin_at terms rows events left (r ∷ later) had is, none, few, refl)
+
+-- a record behind the greatest number of them
+pub too_many : (terms : Terms) (rows : Rows) (events : List Event) (left : Rows) (r : List (List ℕ)) (later : Rows) → BeginWith terms rows events left → left ≡ r ∷ later → length events ≡ max_records
+    → AreTooMany terms rows
+too_many terms rows events left r later had is many = (events, r, later, begin_at terms rows events left (r ∷ later) had is, many)
+
+-- ---- answers
+
+pub memory_stop : {T : Type 0} (terms : Terms) (rows : Rows) (r : Result T LogStop) (e : LogStop) → r ≡ Err e → e ≡ Memory → IfErr r (IsStop terms rows)
+memory_stop terms rows r e is memory = rw (is, memory) tt
+
+pub stated : (terms : Terms) (fields : List (List ℕ)) (o : Option Event) (e : Event) → o ≡ Some e → ReadsAs terms fields o → States terms fields e
+stated terms fields o e is reads = subst (ReadsAs terms fields) is reads
+
+pub unstated : (terms : Terms) (fields : List (List ℕ)) (o : Option Event) → o ≡ None → ReadsAs terms fields o → StatesNone terms fields
+unstated terms fields o is reads = subst (ReadsAs terms fields) is reads

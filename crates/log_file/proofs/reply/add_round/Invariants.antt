@@ -1,0 +1,7 @@
+use Rattle.std.proofs.Common.{◌≡◌, ◌++◌, codes, drop}
+use Rattle.std.specs.Fmt.{decimal}
+use Rattle.auction_text.specs.BookLines.{numbers_text}
+use Rattle.log_file.proofs.reply.add_round.Given as goal
+
+abbrev pub invariant-loop-price : goal.invariant-loop-price
+invariant-loop-price l = l.text ++ numbers_text (drop l.price-index l.prices) ≡ l.fn.text ++ (codes "round " ++ decimal l.round ++ numbers_text l.prices)

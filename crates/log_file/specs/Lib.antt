@@ -1,0 +1,4 @@
+pub mod LogForm
+pub mod LogReading
+pub mod ReplyText
+pub mod RecordsLeft

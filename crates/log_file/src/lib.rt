@@ -1,0 +1,61 @@
+//! The log of an auction: the reader of its file, and the lines that its replies are printed as.
+#![tactic(auto)]
+
+ghost use Rattle.std.specs.Prelude.{◌≡◌};
+ghost use Rattle.log_file.specs.declared.LogStop.TheVariants.{Memory};
+
+mod events;
+mod fields;
+mod laws;
+mod read;
+mod record;
+mod reply;
+#[cfg(test)]
+mod tests;
+
+pub use auction_rules::{Event, Reply};
+pub use auction_text::LimitKind;
+pub use events::Events;
+pub use laws::one_reading;
+pub use read::read_log;
+pub use reply::reply_line;
+use std::alloc::{AllocError, AllocFailed};
+
+/// Why bytes are no log.
+#[derive(Clone, Copy, Debug, PartialEq, Eq)]
+pub enum LogStop {
+    /// The number of the first record that is of no form, counted from 1.
+    Form(u64),
+    /// There are more records than a log may have: always `Records` with one more than the limit, which is how many were looked
+    /// at. Whether the last of these has a form isn't asked.
+    Limit(LimitKind, u64),
+    /// There was no memory.
+    Memory,
+}
+
+impl From<AllocError> for LogStop {
+    ghost from_gives = { λ _ stop. stop ≡ Memory };
+
+    fn from(_error: AllocError) -> LogStop {
+        LogStop::Memory
+    }
+}
+
+impl<T: Drop> From<AllocFailed<T>> for LogStop {
+    ghost from_gives = { λ _ stop. stop ≡ Memory };
+
+    fn from(_error: AllocFailed<T>) -> LogStop {
+        LogStop::Memory
+    }
+}
+
+/// What an admitted close has done.
+#[derive(Clone, Copy, Debug, PartialEq, Eq)]
+pub enum CloseDone {
+    /// It posted the round of this number.
+    Round(u32),
+    /// It ended the clock, and the sealed round is open.
+    Sealed,
+    /// It ended the sealed round.
+    Closed,
+}
