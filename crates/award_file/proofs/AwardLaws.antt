@@ -8,7 +8,7 @@ use Rattle.std.proofs.lemmas.Bool.Decides.{nat_tests}
 use Rattle.std.proofs.lemmas.List.{length-map}
 use Rattle.std.proofs.lemmas.List.Elements.{All-from_recursion}
 use Rattle.toml.specs.Data.{Members, get_member}
-use Rattle.auction_text.specs.BookForm.{IsOffer}
+use Rattle.book_form.specs.BookForm.{IsOffer}
 use Rattle.auction_rules.specs.Step.{last_or}
 use Rattle.auction_rules.specs.Terms.{Terms}
 use Rattle.lots.specs.Limits.{IsSupply}
@@ -185,7 +185,7 @@ caps-of t h =
           (each (walk.cap_fault n) walk.limit_or_none (λ b. IsRule n (walk.rule_of n b)) (cap-is n) [] tables list.1)),
     )
 
-award-of : (t : Members) → walk.award_fault t ≡ None → IsSupply (walk.terms_of t).supply → length (walk.terms_of t).bidders ≤ 12 → AreNamedApart (walk.terms_of t).bidders → IsAward (walk.terms_of t)
+award-of : (t : Members) → walk.award_fault t ≡ None → IsSupply (walk.terms_of t).supply → length (walk.terms_of t).bidders ≤ 16 → AreNamedApart (walk.terms_of t).bidders → IsAward (walk.terms_of t)
 award-of t h supply few apart =
     let categories = (categories-are t (parts-pass t h).1).1 in
     let count : length (walk.terms_of t).supply ≡ walk.category_count t = same-count walk.category_of (λ c. c.supply) (unwrap_or (walk.categories_at t) []) in
@@ -210,6 +210,6 @@ offer-stated terms h = subst (λ (x : Terms). IsOffer x.supply) h.is (offer-of h
 pub steps-stated : (terms : Terms) → IsStated terms → IsSteps (steps_of terms)
 steps-stated terms h = subst (λ (x : Terms). IsSteps (steps_of x)) h.is (steps-of h.stated h.passes)
 
-pub award-stated : (terms : Terms) → IsStated terms → IsSupply terms.supply → length terms.bidders ≤ 12 → AreNamedApart terms.bidders → IsAward terms
+pub award-stated : (terms : Terms) → IsStated terms → IsSupply terms.supply → length terms.bidders ≤ 16 → AreNamedApart terms.bidders → IsAward terms
 award-stated terms h supply few apart =
-    subst (λ (x : Terms). IsSupply x.supply → length x.bidders ≤ 12 → AreNamedApart x.bidders → IsAward x) h.is (award-of h.stated h.passes) supply few apart
+    subst (λ (x : Terms). IsSupply x.supply → length x.bidders ≤ 16 → AreNamedApart x.bidders → IsAward x) h.is (award-of h.stated h.passes) supply few apart

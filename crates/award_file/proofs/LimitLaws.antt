@@ -6,9 +6,9 @@ use Rattle.std.specs.List.{AllByRecursion, position_or_len}
 use Rattle.std.proofs.lemmas.Bool.Decides.{nat_tests}
 use Rattle.std.proofs.lemmas.Option.{same_Some}
 use Rattle.auction_model.specs.Place.{states_of}
-use Rattle.auction_text.specs.BookForm.{IsOffer}
-use Rattle.auction_text.specs.BookLines.{Excess, supply_excess}
-use Rattle.auction_text.specs.declared.LimitKind.TheVariants.{Categories, Lots, States}
+use Rattle.book_form.specs.BookForm.{IsOffer}
+use Rattle.book_form.specs.BookLines.{Excess, supply_excess}
+use Rattle.limits.specs.declared.LimitKind.TheVariants.{Categories, Lots, States}
 use Rattle.lots.specs.declared.LotStop.{LotStop}
 use Rattle.lots.specs.declared.LotStop.TheVariants as lots
 use Rattle.lots.specs.Limits.{IsSupply, categories_stop, zero_stop, lots_stop, states_stop, supply_stop}
@@ -34,17 +34,17 @@ some-there l some = grind (arith, nat_tests)
 
 -- the making of the supply of an offer stops by its limits alone
 stop-is : (supply : List ℕ) → IsOffer supply
-    → supply_stop supply ≡ stop_by (nat_le (length supply) 6) (nat_le (sum supply) 40) (nat_le (states_of supply) 4096) (length supply) (sum supply) (states_of supply)
+    → supply_stop supply ≡ stop_by (nat_le (length supply) 6) (nat_le (sum supply) 40) (nat_le (states_of supply) 16384) (length supply) (sum supply) (states_of supply)
 stop-is supply offer =
     ap (λ (z : Option LotStop). option_or (categories_stop supply) (option_or z (option_or (lots_stop supply) (states_stop supply)))) (zero-none supply offer)
-    ∙ ap (λ (a : Bool). stop_by a (nat_le (sum supply) 40) (nat_le (states_of supply) 4096) (length supply) (sum supply) (states_of supply)) (some-there (length supply) offer.some)
+    ∙ ap (λ (a : Bool). stop_by a (nat_le (sum supply) 40) (nat_le (states_of supply) 16384) (length supply) (sum supply) (states_of supply)) (some-there (length supply) offer.some)
 
 above : (limit n : ℕ) → nat_lt limit n ≡ not (nat_le n limit)
 above limit n = grind (arith, nat_tests)
 
 excess-is : (supply : List ℕ)
-    → supply_excess supply ≡ excess_by (nat_le (length supply) 6) (nat_le (sum supply) 40) (nat_le (states_of supply) 4096) (length supply) (sum supply) (states_of supply)
-excess-is supply = rw (above 6 (length supply), above 40 (sum supply), above 4096 (states_of supply)) refl
+    → supply_excess supply ≡ excess_by (nat_le (length supply) 6) (nat_le (sum supply) 40) (nat_le (states_of supply) 16384) (length supply) (sum supply) (states_of supply)
+excess-is supply = rw (above 6 (length supply), above 40 (sum supply), above 16384 (states_of supply)) refl
 
 -- ---- counts of which a supply is made
 
@@ -60,13 +60,13 @@ at-most n limit h = grind (arith, nat_tests)
 -- counts of which a supply is made
 pub made-within : (supply : List ℕ) → IsOffer supply → supply_stop supply ≡ None → IsSupply supply
 made-within supply offer none =
-    let pass = all-pass (nat_le (length supply) 6) (nat_le (sum supply) 40) (nat_le (states_of supply) 4096) (length supply) (sum supply) (states_of supply) (sym (stop-is supply offer) ∙ none) in
+    let pass = all-pass (nat_le (length supply) 6) (nat_le (sum supply) 40) (nat_le (states_of supply) 16384) (length supply) (sum supply) (states_of supply) (sym (stop-is supply offer) ∙ none) in
     record {
       allowed = none;
       some = offer.some;
       categories = at-most (length supply) 6 pass.0;
       lots = at-most (sum supply) 40 pass.1;
-      states = at-most (states_of supply) 4096 pass.2;
+      states = at-most (states_of supply) 16384 pass.2;
     }
 
 passed : (n limit : ℕ) → n ≤ limit → nat_le n limit ≡ true
@@ -74,7 +74,7 @@ passed n limit h = grind (arith, nat_tests)
 
 -- a supply exceeds no limit
 pub within-limits : (supply : List ℕ) → IsSupply supply → supply_excess supply ≡ None
-within-limits supply is = excess-is supply ∙ rw (passed (length supply) 6 is.categories, passed (sum supply) 40 is.lots, passed (states_of supply) 4096 is.states) refl
+within-limits supply is = excess-is supply ∙ rw (passed (length supply) 6 is.categories, passed (sum supply) 40 is.lots, passed (states_of supply) 16384 is.states) refl
 
 -- ---- counts of which none is made
 
@@ -88,4 +88,4 @@ over true true true l m t stop h = absurd (cc h)
 pub stops-over : (supply : List ℕ) (stop : LotStop) → IsOffer supply → supply_stop supply ≡ Some stop → IsLimit (supply_excess supply) (limit_stop stop)
 stops-over supply stop offer stops =
     subst (λ (e : Option Excess). IsLimit e (limit_stop stop)) (sym (excess-is supply))
-    (over (nat_le (length supply) 6) (nat_le (sum supply) 40) (nat_le (states_of supply) 4096) (length supply) (sum supply) (states_of supply) stop (sym (stop-is supply offer) ∙ stops))
+    (over (nat_le (length supply) 6) (nat_le (sum supply) 40) (nat_le (states_of supply) 16384) (length supply) (sum supply) (states_of supply) stop (sym (stop-is supply offer) ∙ stops))

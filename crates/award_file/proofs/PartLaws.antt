@@ -2,8 +2,8 @@
 use Rattle.std.proofs.Common.{◌≡◌, ℕ, ◌≤◌, ◌<◌, List, [], ◌∷◌, map, Option, Some, None, refl, sym, ap, ◌∙◌, arith}
 use Rattle.std.specs.Option.{option_or}
 use Rattle.std.proofs.lemmas.Bool.Decides.{nat_tests}
-use Rattle.auction_text.specs.BookLines.{Excess}
-use Rattle.auction_text.specs.declared.LimitKind.TheVariants.{Bidders}
+use Rattle.book_form.specs.BookLines.{Excess}
+use Rattle.limits.specs.declared.LimitKind.TheVariants.{Bidders}
 use Rattle.auction_rules.specs.Terms.{Entrant, SpectrumRule}
 use Rattle.award_file.specs.Walk.{Category, terms_from}
 use Rattle.award_file.specs.declared.read.AwardStop.{AwardStop}
@@ -47,8 +47,8 @@ first-limits f g (Limit kind count) h = rw h
 first-limits f g Memory h = tt
 
 -- the limit of bidders, where no other is exceeded
-pub bidders-exceed : (f : Option Excess) (n : ℕ) → f ≡ None → 12 < n → option_or f (bidders_excess n) ≡ Some (Bidders, n)
+pub bidders-exceed : (f : Option Excess) (n : ℕ) → f ≡ None → 16 < n → option_or f (bidders_excess n) ≡ Some (Bidders, n)
 bidders-exceed f n none many = let e : bidders_excess n ≡ Some (Bidders, n) = grind (arith, nat_tests) in rw none e
 
-pub none-exceeded : (f : Option Excess) (n : ℕ) → f ≡ None → n ≤ 12 → option_or f (bidders_excess n) ≡ None
+pub none-exceeded : (f : Option Excess) (n : ℕ) → f ≡ None → n ≤ 16 → option_or f (bidders_excess n) ≡ None
 none-exceeded f n none few = let e : bidders_excess n ≡ None = grind (arith, nat_tests) in rw none e

@@ -8,7 +8,7 @@ use Rattle.std.proofs.lemmas.Str.{is_utf8-from_IsUtf8, IsUtf8-from_is_utf8}
 use Rattle.std.specs.Str.{IsUtf8, is_utf8}
 use Rattle.toml.specs.Data.{Members}
 use Rattle.toml.specs.Parse.{parse_document}
-use Rattle.auction_text.specs.BookLines.{Excess}
+use Rattle.book_form.specs.BookLines.{Excess}
 use Rattle.auction_rules.specs.Terms.{Terms}
 use Rattle.award_file.specs.declared.read.AwardStop.{AwardStop}
 use Rattle.award_file.specs.declared.read.AwardStop.TheVariants.{Text, Field, Limit, Memory}

@@ -3,7 +3,7 @@ use Rattle.std.specs.Prelude.{◌≡◌, ℕ, ◌+◌, ◌-◌, ◌^◌, ◌≤�
 use Rattle.std.specs.List.{All, IsDistinct, list_any}
 use Rattle.std.specs.Str.{bytes_eq}
 use Rattle.auction_rules.specs.Terms.{SpectrumRule, Entrant, Terms}
-use Rattle.auction_text.specs.BookForm.{IsName}
+use Rattle.book_form.specs.BookForm.{IsName}
 use Rattle.lots.specs.Limits.{IsSupply}
 
 -- how prices rise: the tick, and the thresholds, each an excess with its permille
@@ -65,7 +65,7 @@ pub record IsAward (terms : Terms) : Type 0 where
   pub reserves : length terms.reserves ≡ length terms.supply
   pub most_reserve : All (λ p. p ≤ 2 ^ 36) terms.reserves
   pub steps : IsSteps (steps_of terms)
-  pub few_bidders : length terms.bidders ≤ 12
+  pub few_bidders : length terms.bidders ≤ 16
   pub bidders : All (IsEntrant (length terms.supply)) terms.bidders
   pub apart : AreNamedApart terms.bidders
   pub few_rules : length terms.rules ≤ 20

@@ -4,9 +4,9 @@ use Rattle.std.specs.Str.{is_utf8}
 use Rattle.std.specs.Option.{option_or}
 use Rattle.toml.specs.Data.{Members}
 use Rattle.toml.specs.Parse.{parse_document}
-use Rattle.auction_text.specs.BookLines.{Excess, supply_excess}
-use Rattle.auction_text.specs.declared.LimitKind.{LimitKind}
-use Rattle.auction_text.specs.declared.LimitKind.TheVariants.{Categories, Lots, States, Bidders}
+use Rattle.book_form.specs.BookLines.{Excess, supply_excess}
+use Rattle.limits.specs.declared.LimitKind.{LimitKind}
+use Rattle.limits.specs.declared.LimitKind.TheVariants.{Categories, Lots, States, Bidders}
 use Rattle.auction_rules.specs.Terms.{Terms}
 use Rattle.lots.specs.declared.LotStop.{LotStop}
 use Rattle.lots.specs.declared.LotStop.TheVariants as lots
@@ -18,9 +18,9 @@ use Rattle.award_file.specs.declared.read.AwardStop.TheVariants.{Text, Field, Li
 abbrev pub stated_table : List ℕ → Option Members
 stated_table bytes = if is_utf8 bytes then parse_document bytes else None
 
--- what more than 12 bidders exceed
+-- what more than 16 bidders exceed
 abbrev pub bidders_excess : ℕ → Option Excess
-bidders_excess count = if nat_le count 12 then None else Some (Bidders, count)
+bidders_excess count = if nat_le count 16 then None else Some (Bidders, count)
 
 -- the first limit that the terms exceed, with the count: of categories, lots, states, bidders in this order
 abbrev pub terms_excess : Terms → Option Excess

@@ -99,7 +99,7 @@ impl Award {
     /// How many bidders there are.
     pub fn bidders(&self) -> usize
         ensures bidders { result ≡ length self.now.bidders }
-        ensures most { result ≤ 12 }
+        ensures most { result ≤ 16 }
         ensures kept { IsAward self.now }
     {
         self.bidders.count()

@@ -8,7 +8,7 @@ mod entrants;
 mod read;
 mod steps;
 
-pub use auction_text::LimitKind;
+pub use limits::LimitKind;
 pub use award::Award;
 pub use caps::CapFault;
 pub use read::{AwardStop, read_award};

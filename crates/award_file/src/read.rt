@@ -1,8 +1,8 @@
 // The reader of award files.
 ghost use Rattle.std.specs.Prelude.{◌≡◌, IfErr, IfOk, None, Some, map};
 ghost use Rattle.toml.specs.View.{table_view};
-ghost use Rattle.auction_text.specs.BookForm.{IsOffer};
-ghost use Rattle.auction_text.specs.BookLines.{supply_excess};
+ghost use Rattle.book_form.specs.BookForm.{IsOffer};
+ghost use Rattle.book_form.specs.BookLines.{supply_excess};
 ghost use Rattle.lots.specs.Limits.{IsSupply};
 ghost use Rattle.award_file.specs.Parts.{counts, terms_value};
 ghost use Rattle.award_file.specs.Reading.{IsFault, IsLimit, IsStated, IsStop, limit_stop, reading, reading_of, states, terms_excess};
@@ -18,7 +18,7 @@ mod spectrum_caps;
 use crate::caps::SpectrumCap;
 use crate::entrants::Entrants;
 use crate::{Award, StepTable};
-use auction_text::LimitKind;
+use limits::LimitKind;
 use bidders::read_bidders;
 use categories::{Category, read_categories};
 use fields::{broken_top, has_other, number_at};
@@ -38,7 +38,7 @@ const VERSION: u64 = 1;
 const MOST_TICK: u64 = 1 << 36;
 
 /// The most bidders of an award.
-const MOST_BIDDERS: usize = 12;
+const MOST_BIDDERS: usize = 16;
 
 /// Why bytes are no award.
 #[derive(Clone, Copy, Debug, PartialEq, Eq)]

@@ -14,9 +14,9 @@ use Rattle.std.proofs.lemmas.Str.{IsUtf8-from_ascii}
 use Rattle.std.proofs.lemmas.Str.Ascii.{IsAscii-from_all}
 use Rattle.auction_model.specs.Book.{Book, BookBid, Bidder, no_bidder, bidder_of}
 use Rattle.auction_model.specs.Package.{is_within}
-use Rattle.auction_text.specs.BookForm.{IsNameByte, IsName, IsBid}
-use Rattle.auction_text.specs.BookLines.{numbers_text, bid_excess, bidder_excess, bid_line}
-use Rattle.auction_text.specs.declared.LimitKind.TheVariants.{Bidders, Bids}
+use Rattle.book_form.specs.BookForm.{IsNameByte, IsName, IsBid}
+use Rattle.book_form.specs.BookLines.{numbers_text, bid_excess, bidder_excess, bid_line}
+use Rattle.limits.specs.declared.LimitKind.TheVariants.{Bidders, Bids}
 use Rattle.lots.specs.Limits.{IsSupply}
 use Rattle.bid_book.specs.declared.read.Stage.{Stage}
 use Rattle.bid_book.specs.declared.read.Stage.TheVariants.{Listing}
@@ -116,10 +116,10 @@ many_bids n many = grind (arith, nat_tests)
 pub few_bids : (n : ℕ) → n < 600 → bid_excess (n + 1) ≡ None
 few_bids n few = grind (arith, nat_tests)
 
-pub many_bidders : (n : ℕ) → 12 ≤ n → bidder_excess (n + 1) ≡ Some (Bidders, 13)
+pub many_bidders : (n : ℕ) → 16 ≤ n → bidder_excess (n + 1) ≡ Some (Bidders, 17)
 many_bidders n many = grind (arith, nat_tests)
 
-pub few_bidders : (n : ℕ) → n < 12 → bidder_excess (n + 1) ≡ None
+pub few_bidders : (n : ℕ) → n < 16 → bidder_excess (n + 1) ≡ None
 few_bidders n few = grind (arith, nat_tests)
 
 -- the line of a bid, as what it adds

@@ -5,7 +5,7 @@ use Rattle.std.specs.Fmt.{decimal}
 use Rattle.std.proofs.lemmas.List.{append-nil}
 use Rattle.std.proofs.lemmas.List.Elements.{All-nil, All-cons, All-head, All-tail}
 use Rattle.wide_num.proofs.Decimal.{decimal_one}
-use Rattle.auction_text.specs.BookLines.{numbers_text}
+use Rattle.book_form.specs.BookLines.{numbers_text}
 use Rattle.bid_book.specs.Stops.{AreNumbers, Stops, IsField}
 use Rattle.bid_book.proofs.Numbers.{one_field, number_own, numbers_stops}
 

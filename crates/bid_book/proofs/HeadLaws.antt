@@ -4,9 +4,9 @@ use Rattle.std.specs.Prelude.{codes, nat_eq}
 use Rattle.std.specs.List.{AllByRecursion, list_any}
 use Rattle.std.proofs.lemmas.List.{append_cancel_left}
 use Rattle.std.proofs.lemmas.Bool.Decides.{nat_tests}
-use Rattle.auction_text.specs.BookForm.{IsOffer, AreReserves}
-use Rattle.auction_text.specs.BookLines.{numbers_text, supply_line, reserve_line}
-use Rattle.auction_text.specs.declared.LimitKind.{LimitKind}
+use Rattle.book_form.specs.BookForm.{IsOffer, AreReserves}
+use Rattle.book_form.specs.BookLines.{numbers_text, supply_line, reserve_line}
+use Rattle.limits.specs.declared.LimitKind.{LimitKind}
 use Rattle.lots.specs.declared.LotStop.{LotStop}
 use Rattle.lots.specs.declared.LotStop.TheVariants as lots
 use Rattle.lots.specs.Limits.{supply_stop}

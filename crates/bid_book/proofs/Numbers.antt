@@ -3,7 +3,7 @@ use Rattle.std.proofs.Common.{◌≡◌, ◌≢◌, ℕ, ◌<◌, ◌^◌, List,
 use Rattle.std.specs.List.{AllByRecursion}
 use Rattle.std.specs.Fmt.{decimal}
 use Rattle.wide_num.proofs.Decimal.{decimal_one, numeral_decimal, AreDigits}
-use Rattle.auction_text.specs.BookLines.{numbers_text}
+use Rattle.book_form.specs.BookLines.{numbers_text}
 use Rattle.bid_book.specs.Stops.{Stops}
 
 abbrev pub NoSpace : List ℕ → Type 0

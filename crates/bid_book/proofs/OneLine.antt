@@ -3,8 +3,8 @@ use Rattle.std.proofs.Common.{inl, inr, ◌≡◌, ℕ, List, [], ◌∷◌, ◌
 use Rattle.std.specs.Prelude.{codes}
 use Rattle.std.specs.Fmt.{decimal}
 use Rattle.auction_model.specs.Book.{BookBid, Book}
-use Rattle.auction_text.specs.BookForm.{IsOffer, AreReserves}
-use Rattle.auction_text.specs.BookLines.{numbers_text, bid_line}
+use Rattle.book_form.specs.BookForm.{IsOffer, AreReserves}
+use Rattle.book_form.specs.BookLines.{numbers_text, bid_line}
 use Rattle.bid_book.specs.Stages.{with_bid, bidder_with, with_bidders, AddsBidder, AddsBid, Adds}
 use Rattle.bid_book.proofs.Numbers.{AreSmall, numbers_one, snoc_one}
 use Rattle.bid_book.proofs.Spelled.{small_supply, small_reserves, small_counts}

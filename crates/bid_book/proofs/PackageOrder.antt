@@ -4,7 +4,7 @@ use Rattle.std.specs.Prelude.{IsTrue, nat_lt, ◌&&◌, ◌||◌, ◌==◌}
 use Rattle.std.proofs.lemmas.Bool.Decides.{nat_tests}
 use Rattle.auction_model.specs.Book.{Book, BookBid, no_bid, bids_of, lots_of}
 use Rattle.auction_model.specs.Package.{ComesBefore, is_within}
-use Rattle.auction_text.specs.BookForm.{empty_package}
+use Rattle.book_form.specs.BookForm.{empty_package}
 use Rattle.bid_book.specs.Stages.{last_lots, last_bids, lots_before}
 
 -- the first list comes first, also where it is a front of the other

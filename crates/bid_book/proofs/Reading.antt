@@ -5,8 +5,8 @@ use Rattle.std.specs.List.{AllByRecursion}
 use Rattle.std.proofs.lemmas.List.{append-nil, take_at, take_all, length-replicate}
 use Rattle.line_text.proofs.Runs.{Runs, Reads, runs_append}
 use Rattle.auction_model.specs.Book.{BookBid, Bidder, Book}
-use Rattle.auction_text.specs.BookForm.{IsOffer, IsBid, AreBids, empty_package, IsBidder, AreBidders, IsBook}
-use Rattle.auction_text.specs.BookLines.{Line, numbers_text, bidder_excess, bid_excess, bid_line, bid_lines, bidder_line, bidder_lines, supply_line, reserve_line, head_lines, lines}
+use Rattle.book_form.specs.BookForm.{IsOffer, IsBid, AreBids, empty_package, IsBidder, AreBidders, IsBook}
+use Rattle.book_form.specs.BookLines.{Line, numbers_text, bidder_excess, bid_excess, bid_line, bid_lines, bidder_line, bidder_lines, supply_line, reserve_line, head_lines, lines}
 use Rattle.bid_book.specs.declared.read.Stage.{Stage}
 use Rattle.bid_book.specs.declared.read.Stage.TheVariants.{Start, Headed, Supplied, Listing, Ended}
 use Rattle.bid_book.specs.Stages.{last_lots, bidder_with, with_bidders, opened, AddsBid, Step, last_excess, excess}

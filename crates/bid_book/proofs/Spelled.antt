@@ -7,8 +7,8 @@ use Rattle.std.specs.Fmt.{decimal}
 use Rattle.wide_num.proofs.Decimal.{numeral_decimal, AreDigits}
 use Rattle.line_text.specs.LineText.{IsLine}
 use Rattle.auction_model.specs.Package.{is_within}
-use Rattle.auction_text.specs.BookForm.{IsNameByte, IsName}
-use Rattle.auction_text.specs.BookLines.{numbers_text}
+use Rattle.book_form.specs.BookForm.{IsNameByte, IsName}
+use Rattle.book_form.specs.BookLines.{numbers_text}
 use Rattle.bid_book.proofs.Numbers.{AreSmall}
 
 pub digits_line : (ds : List ℕ) → AreDigits ds → IsLine ds

@@ -6,10 +6,10 @@ use Rattle.std.specs.List.{AllByRecursion, position_or_len}
 use Rattle.std.proofs.lemmas.Bool.Decides.{nat_tests, leb_tells}
 use Rattle.std.proofs.lemmas.List.Sums.{sum_by-cons}
 use Rattle.auction_model.specs.Place.{states_of}
-use Rattle.auction_text.specs.BookForm.{IsOffer}
-use Rattle.auction_text.specs.BookLines.{Excess, supply_excess}
-use Rattle.auction_text.specs.declared.LimitKind.{LimitKind}
-use Rattle.auction_text.specs.declared.LimitKind.TheVariants.{Categories, Lots, States}
+use Rattle.book_form.specs.BookForm.{IsOffer}
+use Rattle.book_form.specs.BookLines.{Excess, supply_excess}
+use Rattle.limits.specs.declared.LimitKind.{LimitKind}
+use Rattle.limits.specs.declared.LimitKind.TheVariants.{Categories, Lots, States}
 use Rattle.lots.specs.declared.LotStop.{LotStop}
 use Rattle.lots.specs.declared.LotStop.TheVariants as lots
 use Rattle.lots.specs.Limits.{IsSupply, categories_stop, zero_stop, lots_stop, states_stop, supply_stop}
@@ -26,21 +26,21 @@ none_second (Some x) b is = absurd (cc)
 
 -- what a supply of so many categories, lots and states exceeds
 abbrev excess_of : ℕ → ℕ → ℕ → Option Excess
-excess_of l m t = if nat_lt 6 l then Some (Categories, l) else if nat_lt 40 m then Some (Lots, m) else if nat_lt 4096 t then Some (States, t) else None
+excess_of l m t = if nat_lt 6 l then Some (Categories, l) else if nat_lt 40 m then Some (Lots, m) else if nat_lt 16384 t then Some (States, t) else None
 
 -- where its making stops, if no category has none
 abbrev stop_of : ℕ → ℕ → ℕ → Option LotStop
 stop_of l m t =
     option_or (if nat_lt 0 l && nat_le l 6 then None else Some (lots.Categories l))
-    (option_or (if nat_le m 40 then None else Some (lots.Lots m)) (if nat_le t 4096 then None else Some (lots.States t)))
+    (option_or (if nat_le m 40 then None else Some (lots.Lots m)) (if nat_le t 16384 then None else Some (lots.States t)))
 
-few_tests : (l m t : ℕ) → excess_of l m t ≡ None → (l ≤ 6) × (m ≤ 40) × (t ≤ 4096)
+few_tests : (l m t : ℕ) → excess_of l m t ≡ None → (l ≤ 6) × (m ≤ 40) × (t ≤ 16384)
 few_tests l m t none = (grind (arith, nat_tests), grind (arith, nat_tests), grind (arith, nat_tests))
 
-none_exceeds : (l m t : ℕ) → l ≤ 6 → m ≤ 40 → t ≤ 4096 → excess_of l m t ≡ None
+none_exceeds : (l m t : ℕ) → l ≤ 6 → m ≤ 40 → t ≤ 16384 → excess_of l m t ≡ None
 none_exceeds l m t a b c = grind (arith, nat_tests)
 
-none_stops : (l m t : ℕ) → 0 < l → l ≤ 6 → m ≤ 40 → t ≤ 4096 → stop_of l m t ≡ None
+none_stops : (l m t : ℕ) → 0 < l → l ≤ 6 → m ≤ 40 → t ≤ 16384 → stop_of l m t ≡ None
 none_stops l m t some a b c = grind (arith, nat_tests)
 
 pub supply_within : (supply : List ℕ) → IsSupply supply → supply_excess supply ≡ None
@@ -95,12 +95,12 @@ over l m t stop some stops =
     ⊎_elim
     (λ (few : (leb l 6 ≡ true) × (l ≤ 6)). ⊎_elim
     (λ (lots_few : (leb m 40 ≡ true) × (m ≤ 40)). ⊎_elim
-    (λ (states_few : (leb t 4096 ≡ true) × (t ≤ 4096)). let none = none_stops l m t some few.1 lots_few.1 states_few.1 in let e : None ≡ Some stop = sym none ∙ stops in absurd (cc e))
-    (λ (many : (leb t 4096 ≡ false) × (4096 < t)).
+    (λ (states_few : (leb t 16384 ≡ true) × (t ≤ 16384)). let none = none_stops l m t some few.1 lots_few.1 states_few.1 in let e : None ≡ Some stop = sym none ∙ stops in absurd (cc e))
+    (λ (many : (leb t 16384 ≡ false) × (16384 < t)).
     let is : stop_of l m t ≡ Some (lots.States t) = grind (arith, nat_tests) in
     let same : stop ≡ lots.States t = cc in
     record { kind = States; count = t; exceeds = grind (arith, nat_tests); line = ap line_stop same })
-    (leb_tells t 4096))
+    (leb_tells t 16384))
     (λ (many : (leb m 40 ≡ false) × (40 < m)).
     let is : stop_of l m t ≡ Some (lots.Lots m) = grind (arith, nat_tests) in
     let same : stop ≡ lots.Lots m = cc in

@@ -9,8 +9,8 @@ use Rattle.line_text.specs.LineText.{first_excess}
 use Rattle.line_text.proofs.Lines.{first_excess-append}
 use Rattle.auction_model.specs.Book.{BookBid, Bidder, Book, no_bid, no_bidder, bidder_of, bids_of, bid_of, lots_of, net_of}
 use Rattle.auction_model.specs.Package.{is_within, cost_of}
-use Rattle.auction_text.specs.BookForm.{AreReserves, AreBids, empty_package, AreBidders}
-use Rattle.auction_text.specs.BookLines.{Excess, Line, supply_excess, bid_excess, bidder_excess, bid_lines, bidder_line, bidder_lines, head_lines, IsBookWithinLimits}
+use Rattle.book_form.specs.BookForm.{AreReserves, AreBids, empty_package, AreBidders}
+use Rattle.book_form.specs.BookLines.{Excess, Line, supply_excess, bid_excess, bidder_excess, bid_lines, bidder_line, bidder_lines, head_lines, IsBookWithinLimits}
 use Rattle.lots.specs.Limits.{IsSupply}
 use Rattle.bid_book.specs.Kept.{IsBidBook}
 use Rattle.bid_book.specs.Stages.{Adds, last_excess, opened}
@@ -25,7 +25,7 @@ parts_none xs ys none =
 bid_few : (n : ℕ) → bid_excess n ≡ None → n ≤ 600
 bid_few n none = grind (arith, nat_tests)
 
-bidder_few : (n : ℕ) → bidder_excess n ≡ None → n ≤ 12
+bidder_few : (n : ℕ) → bidder_excess n ≡ None → n ≤ 16
 bidder_few n none = grind (arith, nat_tests)
 
 bids_few : (before : ℕ) (bs : List BookBid) → first_excess (bid_lines before bs) ≡ None → before ≤ 600 → before + length bs ≤ 600
@@ -55,10 +55,10 @@ own_lines : ℕ → Bidder → List Line
 own_lines before b = bidder_line before b.name ∷ bid_lines 0 b.bids
 
 pub record Found (supply reserves : List ℕ) (before : ℕ) (bs : List Bidder) : Type 0 where
-  pub few : before + length bs ≤ 12
+  pub few : before + length bs ≤ 16
   pub each : AllByRecursion (IsSoundBidder supply reserves) bs
 
-bidders_sound : (supply reserves : List ℕ) (earlier bs : List Bidder) (before : ℕ) → AreBidders supply reserves earlier bs → first_excess (bidder_lines before bs) ≡ None → before ≤ 12 → Found supply reserves before bs
+bidders_sound : (supply reserves : List ℕ) (earlier bs : List Bidder) (before : ℕ) → AreBidders supply reserves earlier bs → first_excess (bidder_lines before bs) ≡ None → before ≤ 16 → Found supply reserves before bs
 bidders_sound supply reserves earlier [] before all none few = record { few = omega arith; each = tt }
 bidders_sound supply reserves earlier (b ∷ bs) before all none few =
     let parts = parts_none (bidder_line before b.name ∷ bid_lines 0 b.bids) (bidder_lines (before + 1) bs) none in

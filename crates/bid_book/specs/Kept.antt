@@ -2,7 +2,7 @@
 use Rattle.std.specs.Prelude.{◌≡◌, ℕ, suc, ◌≤◌, ◌<◌, ◌^◌, IsTrue, length, pos, ◌≤ℤ◌}
 use Rattle.auction_model.specs.Book.{Book, bids_of, lots_of, net_of}
 use Rattle.auction_model.specs.Package.{is_within}
-use Rattle.auction_text.specs.BookLines.{IsBookWithinLimits}
+use Rattle.book_form.specs.BookLines.{IsBookWithinLimits}
 use Rattle.lots.specs.Limits.{IsSupply}
 
 pub record IsBidBook (book : Book) : Type 0 where
@@ -10,7 +10,7 @@ pub record IsBidBook (book : Book) : Type 0 where
   pub rules : IsBookWithinLimits book
   pub supply : IsSupply book.supply
   pub reserves : length book.reserves ≡ length book.supply
-  pub bidders : length book.bidders ≤ 12
+  pub bidders : length book.bidders ≤ 16
   pub bids : (j : ℕ) → length (bids_of book j) ≤ 600
   pub categories : (j i : ℕ) → i < length (bids_of book j) → length (lots_of book j (suc i)) ≡ length book.supply
   pub within : (j i : ℕ) → i < length (bids_of book j) → IsTrue (is_within (lots_of book j (suc i)) book.supply)

@@ -1,7 +1,7 @@
 -- Why a line is not taken, and what the numbers of a line are.
 use Rattle.std.specs.Prelude.{◌≡◌, ◌≢◌, ℕ, ◌≤◌, ◌^◌, List, [], ◌∷◌, ◌++◌}
 use Rattle.std.specs.List.{AllByRecursion}
-use Rattle.auction_text.specs.declared.LimitKind.TheVariants.{Categories, Lots, States}
+use Rattle.limits.specs.declared.LimitKind.TheVariants.{Categories, Lots, States}
 use Rattle.lots.specs.declared.LotStop.{LotStop}
 use Rattle.lots.specs.declared.LotStop.TheVariants as lots
 use Rattle.bid_book.specs.declared.BookStop.{BookStop}

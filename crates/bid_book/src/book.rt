@@ -51,8 +51,8 @@ impl Model for BidBook {
 }
 
 impl BidBook {
-    ghost use Rattle.auction_text.specs.BookForm.{AreReserves};
-    ghost use Rattle.auction_text.specs.BookLines.{IsBookWithinLimits};
+    ghost use Rattle.book_form.specs.BookForm.{AreReserves};
+    ghost use Rattle.book_form.specs.BookLines.{IsBookWithinLimits};
     ghost use Rattle.bid_book.specs.Fields.{HasNet, bid_value};
     ghost use Rattle.lots.specs.Limits.{IsSupply};
     ghost use Rattle.bid_book.specs.Stages.{bidder_with, opened, with_bid, with_bidders};
@@ -113,7 +113,7 @@ impl BidBook {
     /// How many bidders there are.
     pub fn bidders(&self) -> usize
         ensures bidders { result ≡ length self.now.bidders }
-        ensures most { result ≤ 12 }
+        ensures most { result ≤ 16 }
         ensures kept { IsBidBook self.now }
     {
         self.bidders.len()

@@ -3,8 +3,8 @@ ghost use Rattle.std.specs.Prelude.{IfNone, IfOk, IfSome, IsFalse, IsTrue, None,
 ghost use Rattle.std.specs.List.{AllByRecursion};
 ghost use Rattle.auction_model.specs.Book.{Book, BookBid};
 ghost use Rattle.auction_model.specs.Package.{ComesBefore, is_within};
-ghost use Rattle.auction_text.specs.BookForm.{IsBid, IsName};
-ghost use Rattle.auction_text.specs.BookLines.{bid_line};
+ghost use Rattle.book_form.specs.BookForm.{IsBid, IsName};
+ghost use Rattle.book_form.specs.BookLines.{bid_line};
 ghost use Rattle.bid_book.specs.Fields.{HasNet, bid_value};
 ghost use Rattle.bid_book.specs.Stages.{Adds, AddsBid, AddsBidder, last_excess, lots_before};
 
@@ -17,7 +17,7 @@ use lots::{Bid, Package, Supply};
 use std::alloc::Global;
 
 /// The most bidders of a book.
-const MOST_BIDDERS: usize = 12;
+const MOST_BIDDERS: usize = 16;
 
 /// The most bids of a bidder.
 const MOST_BIDS: u16 = 600;
@@ -55,7 +55,7 @@ fn take_bidder(alloc: Global, book: &mut BidBook, name: &[u8]) -> Result<(), Lin
         return Err(LineStop::Form);
     }
     if book.bidders() >= MOST_BIDDERS {
-        return Err(LineStop::Limit(LimitKind::Bidders, 13));
+        return Err(LineStop::Limit(LimitKind::Bidders, 17));
     }
     let name = Name::new(alloc, text)?;
     book.add_bidder(alloc, name)?;

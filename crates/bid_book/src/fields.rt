@@ -2,8 +2,8 @@
 ghost use Rattle.std.specs.Prelude.{IfNone, IfOk, IfSome, IsTrue, List, drop, length, take, ℕ, ◌++◌, ◌^◌, ◌∷◌, ◌↔◌, ◌≡◌, ◌≢◌, ◌≤◌};
 ghost use Rattle.std.specs.List.{AllByRecursion};
 ghost use Rattle.std.specs.Fmt.{decimal};
-ghost use Rattle.auction_text.specs.BookForm.{IsName, IsNameByte};
-ghost use Rattle.auction_text.specs.BookLines.{numbers_text};
+ghost use Rattle.book_form.specs.BookForm.{IsName, IsNameByte};
+ghost use Rattle.book_form.specs.BookLines.{numbers_text};
 ghost use Rattle.bid_book.specs.Stops.{AreNumbers, IsField, Stops};
 
 use crate::LimitKind;

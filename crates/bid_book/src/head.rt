@@ -1,8 +1,8 @@
 // The lines that stand before the bidders.
 ghost use Rattle.std.specs.Prelude.{IfOk, IsTrue, List, None, Some, ℕ, ◌^◌, ◌↔◌, ◌≡◌, ◌≤◌};
 ghost use Rattle.std.specs.List.{AllByRecursion};
-ghost use Rattle.auction_text.specs.BookForm.{IsOffer};
-ghost use Rattle.auction_text.specs.BookLines.{supply_line};
+ghost use Rattle.book_form.specs.BookForm.{IsOffer};
+ghost use Rattle.book_form.specs.BookLines.{supply_line};
 ghost use Rattle.bid_book.specs.Stages.{Step, excess};
 
 use crate::fields::{lot_counts, numbers_behind};

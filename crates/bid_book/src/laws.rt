@@ -2,8 +2,8 @@
 ghost use Rattle.std.specs.Prelude.{◌≡◌, ℕ, List};
 ghost use Rattle.line_text.specs.LineText.{Said, Says, stated};
 ghost use Rattle.auction_model.specs.Book.{Book};
-ghost use Rattle.auction_text.specs.BookForm.{IsBook};
-ghost use Rattle.auction_text.specs.BookLines.{Excess, lines};
+ghost use Rattle.book_form.specs.BookForm.{IsBook};
+ghost use Rattle.book_form.specs.BookLines.{Excess, lines};
 
 /// Bytes say one thing of a book: a book, where the first faulty line begins, or what exceeds its limit first. So each
 /// answer of `read_book` comes exactly where the bytes say so.

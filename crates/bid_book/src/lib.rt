@@ -12,7 +12,7 @@ mod read;
 mod rivals;
 mod stop;
 
-pub use auction_text::LimitKind;
+pub use limits::LimitKind;
 pub use book::BidBook;
 pub use fields::is_name;
 pub use laws::{one_book, one_text};

@@ -1,7 +1,7 @@
 // The reader of a book's text.
 ghost use Rattle.std.specs.Prelude.{IfOk, None, Some, ℕ, ◌≡◌};
-ghost use Rattle.auction_text.specs.BookForm.{IsBook};
-ghost use Rattle.auction_text.specs.BookLines.{lines};
+ghost use Rattle.book_form.specs.BookForm.{IsBook};
+ghost use Rattle.book_form.specs.BookLines.{lines};
 ghost use Rattle.bid_book.specs.Stages.{Step, excess};
 ghost use Rattle.line_text.specs.LineText.{Says, beyond, faulty, stated};
 

@@ -3,7 +3,7 @@ use lots::{Package, Supply};
 use std::alloc::{AllocError, Global};
 
 /// The most places of a supply.
-const MOST_PLACES: usize = 4096;
+const MOST_PLACES: usize = 16384;
 
 /// The bids of one bidder so far. They come in the order of their places.
 #[derive(Drop)]

@@ -2,7 +2,7 @@
 use Rattle.std.proofs.Common.{◌≡◌, ℕ, zero, suc, ◌+◌, ◌-◌, ◌/◌, ◌%◌, ◌<◌, ◌==◌, Bool, true, false, cond, List, [], ◌∷◌, ◌++◌, length, get_or, take, drop, ℤ, refl, sym, ap, ◌∙◌, arith}
 use Rattle.std.proofs.lemmas.List.{append-nil, drop_more}
 use Rattle.choices.specs.Lines.{width_of}
-use Rattle.price_text.specs.Rounds.{members_of}
+use Rattle.print_form.specs.Rounds.{members_of}
 use Rattle.row_laws.specs.Winners.{has_bit, row_of}
 use Rattle.book_price.specs.Lowest.{lowest_member}
 

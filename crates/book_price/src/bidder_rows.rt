@@ -3,7 +3,7 @@ ghost use Rattle.std.specs.Prelude.{◌≡◌, ◌<◌, ◌^◌, ◌++◌, IfOk,
 ghost use Rattle.book_price.specs.Lowest.{lowest_member};
 ghost use Rattle.book_price.specs.Made.{row_from};
 ghost use Rattle.cert_text.specs.Parts.{row_value};
-ghost use Rattle.price_text.specs.Rounds.{members_of};
+ghost use Rattle.print_form.specs.Rounds.{members_of};
 ghost use Rattle.row_laws.specs.Winners.{row_of};
 
 use cert_text::{CertRow, CertRows};

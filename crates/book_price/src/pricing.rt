@@ -12,7 +12,7 @@ ghost use Rattle.auction_model.specs.Prices.{weight_of};
 ghost use Rattle.cert_laws.specs.Weights.{IsWeighing};
 ghost use Rattle.core_price.specs.Turns.{IsPointOfTurn, turns_of};
 ghost use Rattle.core_price.specs.Weights.{FewWin};
-ghost use Rattle.price_text.specs.Rounds.{IsLastPoint};
+ghost use Rattle.print_form.specs.Rounds.{IsLastPoint};
 ghost use Rattle.value_table.specs.TableValue.{IsPlain, IsTableOf};
 ghost use Rattle.book_price.specs.Stops.{IsBookStop};
 

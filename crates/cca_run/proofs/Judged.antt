@@ -2,9 +2,9 @@
 use Rattle.std.proofs.Common.{inl, inr, ◌≡◌, ◌⊎◌, ℕ, ◌≤◌, ◌<◌, Bool, IsTrue, IsSomeAnd, Option, Some, None, List, length, refl, subst, arith}
 use Rattle.line_text.specs.LineText.{Said, stated, faulty, beyond, Says}
 use Rattle.auction_model.specs.Book.{Book as BookValue}
-use Rattle.auction_text.specs.BookForm.{IsBook}
-use Rattle.auction_text.specs.BookLines.{lines}
-use Rattle.auction_text.specs.declared.LimitKind.{LimitKind}
+use Rattle.book_form.specs.BookForm.{IsBook}
+use Rattle.book_form.specs.BookLines.{lines}
+use Rattle.limits.specs.declared.LimitKind.{LimitKind}
 use Rattle.bid_book.specs.declared.BookStop.{BookStop}
 use Rattle.bid_book.specs.declared.BookStop.TheVariants.{Form, Limit as Above, Memory as NoMemory}
 use Rattle.cca_base.specs.Faults.{Rose}

@@ -9,23 +9,23 @@ use Rattle.auction_model.specs.Lawful.{IsMarket}
 use Rattle.auction_model.specs.Book.{Book, bids_of, net_of, market_of}
 use Rattle.auction_model.specs.Prices.{Point, AreVickreyPrices, AreWeights, IsCoreOutcome, SamePoint, weight_of}
 use Rattle.auction_model.specs.PricingRun.{Turn, IsPricingRun}
-use Rattle.auction_text.specs.BookForm.{IsBook}
-use Rattle.auction_text.specs.BookLines.{Excess, lines}
-use Rattle.auction_text.specs.WinText.{win_text}
+use Rattle.book_form.specs.BookForm.{IsBook}
+use Rattle.book_form.specs.BookLines.{Excess, lines}
+use Rattle.book_form.specs.WinText.{win_text}
 use Rattle.bid_book.proofs.Within.{kept}
 use Rattle.cert_form.specs.Certificate.{CertValue}
 use Rattle.cert_form.specs.Says.{CertSays, cert_text}
 use Rattle.cert_laws.specs.Sound.{IsSound, cert_point, cert_prices}
 use Rattle.cert_laws.specs.Tests.{FailsFirst, Holds, bidders_of, states}
-use Rattle.price_text.specs.Prices.{IsPriceText}
-use Rattle.price_text.specs.Rounds.{AreTurnLines}
+use Rattle.print_form.specs.Prices.{IsPriceText}
+use Rattle.print_form.specs.Rounds.{AreTurnLines}
 use Rattle.row_laws.specs.Winners.{winners_in}
 use Rattle.core_price.specs.Weights.{FewWin}
 use Rattle.cca_run.proofs.Ones.{not_few_and_many, ones-weigh}
 use Rattle.cca_run.specs.Command.{Command, win, price, check, book_of, command_of}
 use Rattle.cca_run.specs.Outcome.{Outcome, book_bytes, cert_bytes, AreRounds, BookGives, CertFileGives, CertFileSays, CertGives, CommandGives, CommandOf, FileGives, FileSays, Gives, HasTooMany, IsPricing, IsYesText, PriceGives, VerdictGives, done, ones, stopped}
 use Rattle.cca_run.specs.declared.status.Status.TheVariants.{No, Limit}
-use Rattle.auction_text.specs.declared.LimitKind.TheVariants.{Winners}
+use Rattle.limits.specs.declared.LimitKind.TheVariants.{Winners}
 
 -- both have one status and one text
 abbrev Same : Outcome → Outcome → Type 0

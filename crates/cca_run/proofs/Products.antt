@@ -6,7 +6,7 @@ use Rattle.std.proofs.lemmas.Int.{ints}
 use Rattle.line_text.specs.LineText.{stated}
 use Rattle.auction_model.specs.Book.{Book as BookValue, market_of}
 use Rattle.auction_model.specs.PricingRun.{IsPricingRun}
-use Rattle.auction_text.specs.declared.LimitKind.TheVariants.{Winners}
+use Rattle.limits.specs.declared.LimitKind.TheVariants.{Winners}
 use Rattle.cca_base.specs.Faults.{Rose}
 use Rattle.cert_form.specs.Certificate.{CertValue}
 use Rattle.cert_form.specs.CertText.{IsCertificate}
@@ -25,8 +25,8 @@ use Rattle.core_price.specs.declared.priced.PriceStop.TheVariants.{Winners as To
 use Rattle.core_price.specs.declared.priced.Turn.{Turn}
 use Rattle.outcome.specs.Payments.{ArePayments}
 use Rattle.outcome.specs.Rounds.{CanPrintTurn}
-use Rattle.price_text.specs.Prices.{IsPriceText}
-use Rattle.price_text.specs.Rounds.{IsLastPoint}
+use Rattle.print_form.specs.Prices.{IsPriceText}
+use Rattle.print_form.specs.Rounds.{IsLastPoint}
 use Rattle.row_laws.specs.Winners.{winners_in}
 use Rattle.wide_num.specs.Range.{InRange}
 use Rattle.cca_run.specs.Command.{Command, win, price, check, book_of, input_as}

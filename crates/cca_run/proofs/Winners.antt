@@ -4,7 +4,7 @@ use Rattle.std.proofs.Common.{sym, ◌∙◌, ap, arith, append_assoc, length-dr
 use Rattle.std.proofs.lemmas.List.{append-nil, drop_more}
 use Rattle.auction_model.specs.Market.{number_of}
 use Rattle.auction_model.specs.Book.{Book, BookBid, bidder_of, bid_of, lots_of}
-use Rattle.auction_text.specs.WinText.{winner_line, winner_lines}
+use Rattle.book_form.specs.WinText.{winner_line, winner_lines}
 
 here : (c : List ℕ) (k : ℕ) → k < length c → drop k c ≡ number_of c (k + 1) ∷ drop (k + 1) c
 here c k h = let same : k + 1 - 1 ≡ k = omega arith in rw same (drop_more c k 0 h)

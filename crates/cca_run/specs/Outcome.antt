@@ -4,18 +4,18 @@ use Rattle.line_text.specs.LineText.{Said, stated, faulty, beyond, Says}
 use Rattle.auction_model.specs.Greatest.{IsWinning}
 use Rattle.auction_model.specs.Book.{market_of, Book as BookValue}
 use Rattle.auction_model.specs.PricingRun.{Turn, IsPricingRun}
-use Rattle.auction_text.specs.BookForm.{IsBook}
-use Rattle.auction_text.specs.BookLines.{Excess, lines}
-use Rattle.auction_text.specs.WinText.{win_text}
-use Rattle.auction_text.specs.declared.LimitKind.TheVariants.{Bytes, Winners}
+use Rattle.book_form.specs.BookForm.{IsBook}
+use Rattle.book_form.specs.BookLines.{Excess, lines}
+use Rattle.book_form.specs.WinText.{win_text}
+use Rattle.limits.specs.declared.LimitKind.TheVariants.{Bytes, Winners}
 use Rattle.cert_form.specs.Certificate.{CertValue}
 use Rattle.cert_form.specs.CertText.{IsCertificate}
 use Rattle.cert_form.specs.Says.{CertSays, cert_text}
 use Rattle.cert_laws.specs.Priced.{IsPricedCert}
 use Rattle.cert_laws.specs.Sound.{IsSound, cert_point, cert_prices}
 use Rattle.cert_laws.specs.Tests.{FailsFirst, Holds, bidders_of, states}
-use Rattle.price_text.specs.Prices.{IsPriceText}
-use Rattle.price_text.specs.Rounds.{AreTurnLines, IsLastPoint}
+use Rattle.print_form.specs.Prices.{IsPriceText}
+use Rattle.print_form.specs.Rounds.{AreTurnLines, IsLastPoint}
 use Rattle.auction_model.specs.Prices.{weight_of}
 use Rattle.core_price.specs.Weights.{FewWin, ManyWin}
 use Rattle.row_laws.specs.Winners.{winners_in}

@@ -1,8 +1,8 @@
 -- The line that is printed for each status other than Done.
 use Rattle.std.specs.Prelude.{ℕ, List, [], ◌∷◌, ◌++◌, codes}
 use Rattle.std.specs.Fmt.{decimal}
-use Rattle.auction_text.specs.declared.LimitKind.{LimitKind}
-use Rattle.auction_text.specs.declared.LimitKind.TheVariants.{Bytes, Categories, Lots, States, Bidders, Bids, Records, Rounds, Price, Winners}
+use Rattle.limits.specs.declared.LimitKind.{LimitKind}
+use Rattle.limits.specs.declared.LimitKind.TheVariants.{Bytes, Categories, Lots, States, Bidders, Bids, Records, Rounds, Price, Winners}
 use Rattle.cca_run.specs.declared.status.FileKind.{FileKind}
 use Rattle.cca_run.specs.declared.status.FileKind.TheVariants.{Award, Log, Book, Cert, Out}
 use Rattle.cca_run.specs.declared.status.Status.{Status}

@@ -4,7 +4,7 @@ use Rattle.cca_base.specs.declared.read.ReadStop.{ReadStop}
 use Rattle.cca_base.specs.declared.read.ReadStop.TheVariants.{Fault, TooLong, Memory as NoRoom}
 use Rattle.bid_book.specs.declared.BookStop.{BookStop}
 use Rattle.bid_book.specs.declared.BookStop.TheVariants.{Form, Limit as Above, Memory as NoMemory}
-use Rattle.auction_text.specs.declared.LimitKind.TheVariants.{Bytes, Winners}
+use Rattle.limits.specs.declared.LimitKind.TheVariants.{Bytes, Winners}
 use Rattle.cert_text.specs.declared.stop.CertStop.{CertStop}
 use Rattle.cert_text.specs.declared.stop.CertStop.TheVariants.{Form as FaultyForm, Range, Memory as NoPlace}
 use Rattle.core_price.specs.declared.priced.PriceStop.{PriceStop}

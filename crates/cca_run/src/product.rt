@@ -1,7 +1,7 @@
 // From a command to what it prints and appends.
 ghost use Rattle.std.specs.Prelude.{◌≡◌, ◌⊎◌, [], ℕ, List, Option, Some, IfOk, IsTrue, Err};
 ghost use Rattle.std.specs.List.{AllByRecursion};
-ghost use Rattle.auction_text.specs.declared.LimitKind.{LimitKind};
+ghost use Rattle.limits.specs.declared.LimitKind.{LimitKind};
 ghost use Rattle.cca_base.specs.Faults.{Rose};
 ghost use Rattle.cca_base.specs.Files.{KeepsFiles, CountsOnly};
 ghost use Rattle.cert_laws.specs.Tests.{Holds, bidders_of, states};

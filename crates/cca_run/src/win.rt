@@ -3,7 +3,7 @@ ghost use Rattle.std.specs.Prelude.{◌≡◌, ◌<◌, ◌+◌, ℕ, List, ◌�
 ghost use Rattle.auction_model.specs.Menu.{is_known_after};
 ghost use Rattle.auction_model.specs.Greatest.{IsWinning};
 ghost use Rattle.auction_model.specs.Book.{menu_of, market_of};
-ghost use Rattle.auction_text.specs.WinText.{winner_line, winner_lines, win_text};
+ghost use Rattle.book_form.specs.WinText.{winner_line, winner_lines, win_text};
 
 use bid_book::BidBook;
 use choices::{Choice, value};

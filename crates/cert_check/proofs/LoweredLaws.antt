@@ -88,7 +88,7 @@ paid-next payments k sum all to =
       size = omega (arith, ints, small, size);
     })
 
-pub paid-small : (payments : List ℤ) (k : ℕ) (sum : ℤ) → AllInRange payments → IsPaidTo payments k sum → k < 12 → unsigned_abs (sum +ℤ get_or payments k (pos 0)) < 2 ^ 127
+pub paid-small : (payments : List ℤ) (k : ℕ) (sum : ℤ) → AllInRange payments → IsPaidTo payments k sum → k < 16 → unsigned_abs (sum +ℤ get_or payments k (pos 0)) < 2 ^ 127
 paid-small payments k sum all to few =
     let small = in-range payments all k in
     let size = to.size in

@@ -65,7 +65,7 @@ pub counted-same : (b d : Bool) (x y : ℤ) → b ≡ d → x ≡ y → (if b th
 counted-same b d x y e h = ap (λ (t : Bool). cond t x (pos 0)) e ∙ ap (λ (z : ℤ). cond d z (pos 0)) h
 
 -- a sum of a few numbers of the range fits 128 bits
-module _ (sum item : ℤ) (k : ℕ) (few : k < 12) (own : unsigned_abs item ≤ 2 ^ 120) (size : unsigned_abs sum ≤ k * 2 ^ 120) where
+module _ (sum item : ℤ) (k : ℕ) (few : k < 16) (own : unsigned_abs item ≤ 2 ^ 120) (size : unsigned_abs sum ≤ k * 2 ^ 120) where
   pub next-fits : FitsSigned w128 (sum +ℤ to_z w128 (of_z w128 item))
   next-fits = omega (arith, ints)
 

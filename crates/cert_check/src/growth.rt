@@ -20,7 +20,7 @@ fn rises_by(line: &[i128], width: usize) -> bool
 pub fn is_growing(supply: &[u16], widths: &[usize], line: &[i128]) -> bool
     requires widths { widths.now ≡ widths_of supply.now }
     requires some { 0 < length supply.now }
-    requires states { states_of supply.now ≤ 4096 }
+    requires states { states_of supply.now ≤ 16384 }
     requires places { length line.now ≡ states_of supply.now }
     ensures { IsTrue result → Grows supply.now line.now }
 {

@@ -27,7 +27,7 @@ pub(crate) enum Multiplier {
 
 /// What the members pay.
 pub(crate) fn paid_by(payments: &[i128], members: &[u16]) -> i128
-    requires count { length payments.now ≤ 12 }
+    requires count { length payments.now ≤ 16 }
     requires range { AllInRange payments.now }
     ensures { result ≡ sum_over (is_member members.now) (of_bidder payments.now) (length payments.now) }
 {

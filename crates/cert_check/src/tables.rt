@@ -56,7 +56,7 @@ pub(crate) fn lowered_test(book: &BidBook, cert: &Certificate) -> Option<u64>
 }
 
 fn sum_paid(payments: &[i128]) -> i128
-    requires few { length payments.now ≤ 12 }
+    requires few { length payments.now ≤ 16 }
     requires sizes { AllInRange payments.now }
     ensures { result ≡ sum_over everyone (of_bidder payments.now) (length payments.now) }
 {

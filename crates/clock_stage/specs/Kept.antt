@@ -39,7 +39,7 @@ pub record IsHistory (rounds : List Round) : Type 0 where
 
 -- what a clock keeps: its rounds have as many bidders and categories as the posted one, which is at most the 300th
 pub record IsClock (clock : ClockState) : Type 0 where
-  pub few_bidders : length clock.posted.held ≤ 12
+  pub few_bidders : length clock.posted.held ≤ 16
   pub few_categories : length clock.posted.prices ≤ 6
   pub posted : IsRound (length clock.posted.held) (length clock.posted.prices) clock.posted
   pub closed : All (IsRound (length clock.posted.held) (length clock.posted.prices)) clock.rounds

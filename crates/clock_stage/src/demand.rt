@@ -24,7 +24,7 @@ fn add_package(sum: &mut [u64], package: &Package)
 
 /// The sum of the packages of all bidders, of which each has as many categories as the supply.
 pub fn demand_of(alloc: Global, supply: &Supply, held: &[Package]) -> Result<Vec<u64>, AllocError>
-    requires few { length held.now ≤ 12 }
+    requires few { length held.now ≤ 16 }
     requires packages { All (IsHeld (length supply.now)) held.now }
     ensures demand { IfOk result (λ v. v.items ≡ asked_of supply.now held.now) }
     ensures categories { IfOk result (λ v. length v.items ≡ length supply.now) }

@@ -10,8 +10,8 @@ use Rattle.std.proofs.lemmas.List.Elements.{All-nil, All-cons}
 use Rattle.std.proofs.lemmas.Str.{IsUtf8-from_ascii}
 use Rattle.std.proofs.lemmas.Str.Ascii.{IsAscii-from_all}
 use Rattle.wide_num.proofs.Decimal.{numeral_decimal, AreDigits}
-use Rattle.auction_text.specs.BookForm.{IsName, IsNameByte}
-use Rattle.auction_text.specs.BookLines.{numbers_text}
+use Rattle.book_form.specs.BookForm.{IsName, IsNameByte}
+use Rattle.book_form.specs.BookLines.{numbers_text}
 use Rattle.bid_book.specs.Stops.{Stops}
 use Rattle.log_file.specs.LogForm.{AreCounts, counts_text}
 

@@ -3,7 +3,7 @@ use Rattle.std.proofs.Common.{◌≡◌, ℕ, suc, ◌+◌, ◌*◌, ◌≤◌, 
 use Rattle.std.specs.List.{AllByRecursion}
 use Rattle.std.specs.Fmt.{decimal}
 use Rattle.wide_num.proofs.Decimal.{decimal_one}
-use Rattle.auction_text.specs.BookLines.{numbers_text}
+use Rattle.book_form.specs.BookLines.{numbers_text}
 use Rattle.auction_rules.specs.Terms.{Terms}
 use Rattle.auction_rules.specs.declared.Event.{Event}
 use Rattle.auction_rules.specs.declared.Event.TheVariants.{Bid, Draft, Drop, Submit, Close}

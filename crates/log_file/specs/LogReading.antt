@@ -1,7 +1,7 @@
 -- What the bytes of a log state, and which is the first faulty record.
 use Rattle.std.specs.Prelude.{◌≡◌, ℕ, suc, ◌<◌, ◌≤◌, List, [], ◌∷◌, ◌++◌, length}
 use Rattle.csv.specs.Reading.{records, default_config, strip_bom}
-use Rattle.auction_text.specs.declared.LimitKind.TheVariants.{Records}
+use Rattle.limits.specs.declared.LimitKind.TheVariants.{Records}
 use Rattle.auction_rules.specs.Terms.{Terms}
 use Rattle.auction_rules.specs.declared.Event.{Event}
 use Rattle.log_file.specs.declared.LogStop.{LogStop}

@@ -1,7 +1,7 @@
 -- The text of a reply.
 use Rattle.std.specs.Prelude.{ℕ, Option, Some, None, List, [], ◌∷◌, ◌++◌, codes}
 use Rattle.std.specs.Fmt.{decimal}
-use Rattle.auction_text.specs.BookLines.{numbers_text}
+use Rattle.book_form.specs.BookLines.{numbers_text}
 use Rattle.auction_rules.specs.declared.Reply.{Reply}
 use Rattle.auction_rules.specs.declared.Reply.TheVariants as reply
 use Rattle.log_file.specs.declared.CloseDone.{CloseDone}

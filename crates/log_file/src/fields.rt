@@ -2,7 +2,7 @@
 ghost use Rattle.std.specs.Prelude.{◌≡◌, ◌≢◌, ℕ, ◌+◌, ◌≤◌, ◌<◌, ◌^◌, ◌++◌, List, true, false, length, take, drop, IfOk, IfNone, IfSome};
 ghost use Rattle.std.specs.List.{AllByRecursion};
 ghost use Rattle.std.specs.Fmt.{decimal};
-ghost use Rattle.auction_text.specs.BookForm.{IsName};
+ghost use Rattle.book_form.specs.BookForm.{IsName};
 ghost use Rattle.bid_book.specs.Stops.{Stops};
 ghost use Rattle.log_file.specs.LogForm.{AreCounts, IsNameOf, counts_text};
 

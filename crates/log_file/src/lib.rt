@@ -14,7 +14,7 @@ mod reply;
 mod tests;
 
 pub use auction_rules::{Event, Reply};
-pub use auction_text::LimitKind;
+pub use limits::LimitKind;
 pub use events::Events;
 pub use laws::one_reading;
 pub use read::read_log;

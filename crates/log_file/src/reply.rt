@@ -1,7 +1,7 @@
 // The lines of replies.
 ghost use Rattle.std.specs.Prelude.{◌≡◌, ◌∷◌, ◌++◌, [], codes, IfOk, OnOk};
 ghost use Rattle.std.specs.Fmt.{decimal};
-ghost use Rattle.auction_text.specs.BookLines.{numbers_text};
+ghost use Rattle.book_form.specs.BookLines.{numbers_text};
 ghost use Rattle.log_file.specs.ReplyText.{admitted_text, reply_line, reply_text};
 
 use crate::CloseDone;

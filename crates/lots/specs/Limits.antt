@@ -17,9 +17,9 @@ zero_stop counts = option_map (λ i. Zero (i + 1)) (position (λ n. n == 0) coun
 abbrev pub lots_stop : List ℕ → Option LotStop
 lots_stop counts = if nat_le (sum counts) 40 then None else Some (Lots (sum counts))
 
--- there are at most 4,096 states
+-- there are at most 16,384 states
 abbrev pub states_stop : List ℕ → Option LotStop
-states_stop counts = if nat_le (states_of counts) 4096 then None else Some (States (states_of counts))
+states_stop counts = if nat_le (states_of counts) 16384 then None else Some (States (states_of counts))
 
 -- the first of these rules that a supply of these counts breaks
 abbrev pub supply_stop : List ℕ → Option LotStop
@@ -31,7 +31,7 @@ pub record IsSupply (counts : List ℕ) : Type 0 where
   pub some : 0 < length counts
   pub categories : length counts ≤ 6
   pub lots : sum counts ≤ 40
-  pub states : states_of counts ≤ 4096
+  pub states : states_of counts ≤ 16384
 
 -- what a package keeps
 pub record IsPackage (counts : List ℕ) : Type 0 where

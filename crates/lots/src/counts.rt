@@ -64,7 +64,7 @@ pub fn check_supply(counts: &[u16]) -> Result<usize, LotStop>
         return Err(LotStop::Lots(lots));
     }
     let states = states_among(counts);
-    if states > 4096 {
+    if states > 16384 {
         return Err(LotStop::States(states));
     }
     Ok(states as usize)

@@ -24,7 +24,7 @@ pub enum LotStop {
     Zero(u64),
     /// There are so many lots, which is more than 40.
     Lots(u64),
-    /// There are so many states, which is more than 4,096.
+    /// There are so many states, which is more than 16,384.
     States(u64),
     /// There was no memory.
     Memory,

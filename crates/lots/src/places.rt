@@ -7,7 +7,7 @@ use std::alloc::{AllocError, Global};
 
 /// The place of `counts` in mixed radix.
 pub fn place_among(supply: &[u16], counts: &[u16]) -> usize
-    requires states { states_of supply.now ≤ 4096 }
+    requires states { states_of supply.now ≤ 16384 }
     requires categories { length counts.now ≡ length supply.now }
     requires fits { IsTrue (is_within counts.now supply.now) }
     ensures place { result ≡ place_of supply.now counts.now }
@@ -23,7 +23,7 @@ pub fn place_among(supply: &[u16], counts: &[u16]) -> usize
 /// Whether the remaining supply of a place has at least these counts.
 fn leaves_enough(supply: &[u16], states: usize, place: usize, counts: &[u16]) -> bool
     requires states { states ≡ states_of supply.now }
-    requires most { states ≤ 4096 }
+    requires most { states ≤ 16384 }
     requires place { place < states }
     requires categories { length counts.now ≡ length supply.now }
     ensures { result ≡ is_within counts.now (left_at supply.now place) }
@@ -43,7 +43,7 @@ fn leaves_enough(supply: &[u16], states: usize, place: usize, counts: &[u16]) ->
 /// The place of what is left of a place, or None where the counts exceed it.
 pub fn place_less(supply: &[u16], states: usize, place: usize, counts: &[u16]) -> Option<usize>
     requires states { states ≡ states_of supply.now }
-    requires most { states ≤ 4096 }
+    requires most { states ≤ 16384 }
     requires place { place < states }
     requires categories { length counts.now ≡ length supply.now }
     ensures fits { IfSome result (λ _. IsTrue (is_within counts.now (left_at supply.now place))) }
@@ -80,7 +80,7 @@ pub fn counts_at(
     place: usize,
 ) -> Result<Vec<u16>, AllocError>
     requires states { states ≡ states_of supply.now }
-    requires most { states ≤ 4096 }
+    requires most { states ≤ 16384 }
     requires place { place < states }
     ensures items { IfOk result (λ v. v.items ≡ left_at supply.now place) }
     ensures categories { IfOk result (λ v. length v.items ≡ length supply.now) }

@@ -10,7 +10,7 @@ use crate::{LotStop, Package};
 use std::alloc::{AllocError, Global};
 use std::marker::Model;
 
-/// What is sold: a count of lots for each of 1 to 6 categories, at most 40 lots and 4,096 states in all. Each state is one
+/// What is sold: a count of lots for each of 1 to 6 categories, at most 40 lots and 16,384 states in all. Each state is one
 /// remaining supply; its place is its number in mixed radix, the first category weighing most.
 #[derive(Drop)]
 pub struct Supply {
@@ -81,7 +81,7 @@ impl Supply {
     /// How many states there are: the product of the counts, each one more.
     pub fn states(&self) -> usize
         ensures states { result ≡ states_of self.now }
-        ensures most { result ≤ 4096 }
+        ensures most { result ≤ 16384 }
     {
         self.states
     }

@@ -19,7 +19,7 @@ fn supplies_stop_at_the_first_broken_rule(rt: HostRuntime) {
 #[test]
 fn supplies_tell_what_they_hold(rt: HostRuntime) -> Result<(), LotStop> {
     let supply = Supply::new(rt.alloc(), &[7, 7, 7, 7])?;
-    assert_eq!(rt; supply.states(), 4096);
+    assert_eq!(rt; supply.states(), 16384);
     let supply = Supply::new(rt.alloc(), &[2, 3])?;
     assert_eq!(rt; supply.categories(), 2);
     assert_eq!(rt; supply.units(1), 3);

@@ -6,7 +6,7 @@ use Rattle.std.proofs.lemmas.Nat.Gcd.{mod-eq-zero_of_dvd, le_of_dvd}
 use Rattle.std.proofs.Math.Nat.{div-add-mod, mod-lt, dvd-mul_right}
 use Rattle.std.proofs.Math.IntN.{*ℤ_comm}
 use Rattle.wide_num.proofs.Ints.{lin, mul-add, mul_assoc}
-use Rattle.price_text.specs.Fractions.{IsFraction}
+use Rattle.print_form.specs.Fractions.{IsFraction}
 
 divided : (g n : ℕ) → g ∣ n → n ≡ g * (n / g)
 divided g n h = omega (arith, div-add-mod n g, mod-eq-zero_of_dvd g h)

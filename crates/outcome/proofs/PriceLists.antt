@@ -10,7 +10,7 @@ use Rattle.auction_model.specs.Menu.{is_known_after}
 use Rattle.auction_model.specs.Prices.{Point}
 use Rattle.auction_model.proofs.ChoiceLaws.{known-length}
 use Rattle.choices.specs.Singles.{winners_after}
-use Rattle.price_text.specs.Prices.{reserve_of, priced_line, ArePricedLines}
+use Rattle.print_form.specs.Prices.{reserve_of, priced_line, ArePricedLines}
 use Rattle.outcome.specs.declared.prices.WinnerPrice.{WinnerPrice}
 use Rattle.outcome.specs.Fractions.{fraction_text}
 use Rattle.outcome.specs.Prices.{IsWinnerPrice, AreWinnerPrices, line_of, lines_of, reserves_of, HasBid}

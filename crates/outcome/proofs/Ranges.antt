@@ -19,7 +19,7 @@ module _ (book : Book) (kept : IsBidBook book) where
       let rest = sum-between (suc k) c parts.1 in
       (omega (arith, ints, low, rest.0), omega (arith, ints, high, rest.1))
 
-  pub value-between : (c : List ℕ) → IsTrue (is_known_after (menu_of book) 0 c) → (pos 0 ≤ℤ value_of (market_of book) c) × (value_of (market_of book) c ≤ℤ pos (12 * 2 ^ 42))
+  pub value-between : (c : List ℕ) → IsTrue (is_known_after (menu_of book) 0 c) → (pos 0 ≤ℤ value_of (market_of book) c) × (value_of (market_of book) c ≤ℤ pos (16 * 2 ^ 42))
   value-between c known =
       let long = known-length (menu_of book) 0 c known in
       let between = sum-between 0 c known in

@@ -7,9 +7,9 @@ use Rattle.auction_model.specs.Market.{number_of, value_of}
 use Rattle.auction_model.specs.Menu.{is_known_after}
 use Rattle.auction_model.specs.Prices.{Point, sum_over, everyone}
 use Rattle.auction_model.proofs.ChoiceLaws.{known-length}
-use Rattle.auction_text.specs.WinText.{net_line}
+use Rattle.book_form.specs.WinText.{net_line}
 use Rattle.choices.specs.Singles.{winners_after}
-use Rattle.price_text.specs.Prices.{reserve_of, revenue_of, IsPriceText}
+use Rattle.print_form.specs.Prices.{reserve_of, revenue_of, IsPriceText}
 use Rattle.row_laws.proofs.Sums.{over-is, choice-is}
 use Rattle.wide_num.specs.Sums.{nth, total}
 use Rattle.wide_num.proofs.Ints.{lin, mul-add}

@@ -4,12 +4,12 @@ use Rattle.std.specs.Fmt.{decimal}
 use Rattle.std.proofs.lemmas.List.{append-nil, drop_more}
 use Rattle.auction_model.specs.Lowered.{of_bidder}
 use Rattle.auction_model.specs.Prices.{Point}
-use Rattle.auction_text.specs.BookLines.{numbers_text}
-use Rattle.auction_text.proofs.TextLaws.{numbers-append}
+use Rattle.book_form.specs.BookLines.{numbers_text}
+use Rattle.book_form.proofs.TextLaws.{numbers-append}
 use Rattle.core_price.specs.declared.priced.Turn.{Turn}
 use Rattle.core_price.specs.Turns.{point_of, turn_of, turns_of}
-use Rattle.price_text.specs.Fractions.{IsFractionText}
-use Rattle.price_text.specs.Rounds.{members_of, ArePoints, IsTurnEnd, IsTurnLine, AreTurnLines}
+use Rattle.print_form.specs.Fractions.{IsFractionText}
+use Rattle.print_form.specs.Rounds.{members_of, ArePoints, IsTurnEnd, IsTurnLine, AreTurnLines}
 use Rattle.row_laws.specs.Winners.{winners_in, for_bidders, has_bit, row_of}
 use Rattle.outcome.specs.Rounds.{Grows, AreFractions, lowest_member}
 

@@ -14,7 +14,7 @@ use Rattle.cert_laws.specs.Tests.{vickrey_of}
 use Rattle.cert_text.specs.declared.certificate.Certificate.{Certificate}
 use Rattle.cert_text.specs.declared.certificate.WithoutPart.{WithoutPart}
 use Rattle.cert_text.specs.CertValues.{cert_value}
-use Rattle.price_text.specs.Prices.{reserve_of}
+use Rattle.print_form.specs.Prices.{reserve_of}
 use Rattle.wide_num.specs.Range.{InRange}
 use Rattle.outcome.specs.declared.prices.WinnerPrice.{WinnerPrice}
 use Rattle.outcome.specs.Certified.{IsPrintable, IsPartOf}
@@ -48,10 +48,10 @@ module _ (book : Book) (c : Certificate) (is : IsPrintable book c) (w : WithoutP
 
   -- x is the value of the part's choice
   module _ (kept : IsBidBook book) (x : ℤ) (value : x ≡ value_of (market_of book) w.choice) where
-    other : (pos 0 ≤ℤ x) × (x ≤ℤ pos (12 * 2 ^ 42))
+    other : (pos 0 ≤ℤ x) × (x ≤ℤ pos (16 * 2 ^ 42))
     other = let v = value-between book kept w.choice part-known in (omega (arith, ints, value, v.0), omega (arith, ints, value, v.1))
 
-    whole : (pos 0 ≤ℤ c.value) × (c.value ≤ℤ pos (12 * 2 ^ 42))
+    whole : (pos 0 ≤ℤ c.value) × (c.value ≤ℤ pos (16 * 2 ^ 42))
     whole = let v = value-between book kept c.choice is.known in (omega (arith, ints, is.value, v.0), omega (arith, ints, is.value, v.1))
 
     pub difference-fits : FitsSigned w128 (to_z w128 (of_z w128 x) -ℤ to_z w128 (of_z w128 c.value))

@@ -3,7 +3,7 @@ use Rattle.std.specs.Prelude.{◌≡◌, ℕ, ◌+◌, ◌<◌, ◌≤◌, lengt
 use Rattle.auction_model.specs.Book.{Book, bidder_of, bids_of, bid_of}
 use Rattle.auction_model.specs.Market.{number_of}
 use Rattle.auction_model.specs.Prices.{Point}
-use Rattle.price_text.specs.Prices.{reserve_of, gross_of, priced_line}
+use Rattle.print_form.specs.Prices.{reserve_of, gross_of, priced_line}
 use Rattle.outcome.specs.declared.prices.WinnerPrice.{WinnerPrice}
 use Rattle.outcome.specs.Fractions.{IsFractionOf, fraction_text}
 

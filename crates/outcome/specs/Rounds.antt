@@ -1,7 +1,7 @@
 -- The turns that can be printed, and texts that grow.
 use Rattle.std.specs.Prelude.{◌≡◌, ℕ, List, [], ◌∷◌, ◌++◌, IfSome, ℤ, pos, ◌≤ℤ◌, ◌==◌, ◌%◌, if◌then◌else◌}
 use Rattle.core_price.specs.declared.priced.Turn.{Turn}
-use Rattle.price_text.specs.Fractions.{IsFractionText}
+use Rattle.print_form.specs.Fractions.{IsFractionText}
 use Rattle.outcome.specs.Payments.{ArePayments}
 
 -- its point is payments of the winners, and its excess isn't below 0

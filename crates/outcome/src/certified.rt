@@ -4,7 +4,7 @@ ghost use Rattle.cert_laws.specs.Sound.{cert_point, cert_prices};
 ghost use Rattle.cert_laws.specs.Tests.{bidders_of, states, C1, C2, C4, C5};
 ghost use Rattle.cert_text.specs.CertValues.{cert_value, IsFor};
 ghost use Rattle.outcome.specs.Certified.{IsPrintable};
-ghost use Rattle.price_text.specs.Prices.{IsPriceText};
+ghost use Rattle.print_form.specs.Prices.{IsPriceText};
 
 use crate::add_net;
 use crate::lines::{add_prices, add_revenue, revenue};

@@ -1,8 +1,8 @@
 // Numbers in a text.
 ghost use Rattle.std.specs.Prelude.{◌≡◌, ◌∷◌, ◌++◌, OnOk};
 ghost use Rattle.std.specs.Fmt.{decimal, signed_decimal};
-ghost use Rattle.auction_text.specs.BookLines.{numbers_text};
-ghost use Rattle.auction_text.specs.WinText.{net_line};
+ghost use Rattle.book_form.specs.BookLines.{numbers_text};
+ghost use Rattle.book_form.specs.WinText.{net_line};
 
 use itoa::Buffer;
 use std::alloc::AllocError;

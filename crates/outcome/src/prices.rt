@@ -5,7 +5,7 @@ ghost use Rattle.cert_laws.specs.Sound.{cert_point, cert_prices};
 ghost use Rattle.cert_laws.specs.Tests.{vickrey_of};
 ghost use Rattle.cert_text.specs.CertValues.{cert_value};
 ghost use Rattle.choices.specs.Singles.{winners_after};
-ghost use Rattle.price_text.specs.Prices.{reserve_of};
+ghost use Rattle.print_form.specs.Prices.{reserve_of};
 ghost use Rattle.wide_num.specs.Range.{InRange};
 ghost use Rattle.outcome.specs.Certified.{IsPrintable, IsPartOf};
 ghost use Rattle.outcome.specs.Prices.{IsWinnerPrice, AreWinnerPrices};

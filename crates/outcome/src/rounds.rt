@@ -2,10 +2,10 @@
 ghost use Rattle.std.specs.Prelude.{◌≡◌, ℕ, ◌<◌, ◌++◌, ◌≤ℤ◌, pos, length, IfOk, OnOk};
 ghost use Rattle.std.specs.List.{AllByRecursion};
 ghost use Rattle.std.specs.declared.option.Option.TheVariants.{Some};
-ghost use Rattle.auction_text.specs.BookLines.{numbers_text};
+ghost use Rattle.book_form.specs.BookLines.{numbers_text};
 ghost use Rattle.blocking.specs.Look.{block_of};
 ghost use Rattle.core_price.specs.Turns.{turn_of, turns_of};
-ghost use Rattle.price_text.specs.Rounds.{AreTurnLines, IsTurnEnd, IsTurnLine, members_of};
+ghost use Rattle.print_form.specs.Rounds.{AreTurnLines, IsTurnEnd, IsTurnLine, members_of};
 ghost use Rattle.row_laws.specs.Winners.{row_of};
 ghost use Rattle.wide_num.specs.Range.{InRange};
 ghost use Rattle.wide_num.specs.Sums.{nth};

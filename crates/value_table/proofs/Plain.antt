@@ -24,7 +24,7 @@ bids-fewer book skip j = cond_both (j == skip) 0 (length (bids_of book j)) (λ n
 
 pub plain-range : (book : Book) (skip : ℕ) (surplus : List ℤ) → IsBidBook book → ((k : ℕ) → get_or surplus k (pos 0) ≡ pos 0) → IsInRange book skip (pos 1) surplus
 plain-range book skip surplus kept zeros =
-    let few : length book.bidders ≤ 12 = kept.bidders in
+    let few : length book.bidders ≤ 16 = kept.bidders in
     let h : (j i : ℕ) → i ≤ (menu_without book skip).bids j → unsigned_abs (net_of book j i) ≤ 2 ^ 42 =
     λ j i low. let known : i ≤ length (bids_of book j) = omega (arith, bids-fewer book skip j) in net-small book j i kept known in
     omega (arith, few, spread-plain (menu_without book skip).bids (length book.bidders) (2 ^ 42) (net_of book) surplus h (λ j. zeros (j - 1)))

@@ -74,7 +74,7 @@ fn next_line(
 
 /// The line of no bidder.
 fn last_line(alloc: Global, states: usize) -> Result<Vec<i128>, AllocError>
-    requires { states ≤ 4096 }
+    requires { states ≤ 16384 }
     ensures places { IfOk result (λ v. length v.items ≡ states) }
     ensures zeros { IfOk result (λ v. (s : ℕ) → s < states → slice_index_or v.items s (pos 0) ≡ pos 0) }
 {

@@ -8,7 +8,7 @@ use std::alloc::{AllocError, Global};
 
 /// The numbers in 64 bits each.
 fn narrowed(alloc: Global, line: &[i128]) -> Result<Vec<i64>, AllocError>
-    requires few { length line.now ≤ 4096 }
+    requires few { length line.now ≤ 16384 }
     requires sizes { (s : ℕ) → unsigned_abs (slice_index_or line.now s (pos 0)) ≤ 2 ^ 62 }
     ensures { IfOk result (λ v. v.items ≡ line.now) }
 {
@@ -29,7 +29,7 @@ fn narrow_into(numbers: &mut [i64], line: &[i128])
 
 /// The numbers in 128 bits each.
 fn widened(alloc: Global, line: &[i64]) -> Result<Vec<i128>, AllocError>
-    requires few { length line.now ≤ 4096 }
+    requires few { length line.now ≤ 16384 }
     ensures { IfOk result (λ v. v.items ≡ line.now) }
 {
     let mut numbers = vec![in alloc; 0i128; line.len()]?;

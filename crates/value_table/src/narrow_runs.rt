@@ -32,7 +32,7 @@ fn raise_one(
     requires widths { widths.now ≡ widths_of supply.now }
     requires one { length counts.now ≡ 1 }
     requires categories { length counts.now ≤ length supply.now }
-    requires states { states_of supply.now ≤ 4096 }
+    requires states { states_of supply.now ≤ 16384 }
     requires places { length below.now ≡ states_of supply.now }
     requires line { length line.old ≡ states_of supply.now }
     requires worth { unsigned_abs worth ≤ 2 ^ 61 }
@@ -58,7 +58,7 @@ fn raise_two(
     requires widths { widths.now ≡ widths_of supply.now }
     requires two { length counts.now ≡ 2 }
     requires categories { length counts.now ≤ length supply.now }
-    requires states { states_of supply.now ≤ 4096 }
+    requires states { states_of supply.now ≤ 16384 }
     requires places { length below.now ≡ states_of supply.now }
     requires line { length line.old ≡ states_of supply.now }
     requires worth { unsigned_abs worth ≤ 2 ^ 61 }
@@ -93,7 +93,7 @@ fn raise_block(
     requires widths { widths.now ≡ widths_of supply.now }
     requires some { 0 < length counts.now }
     requires categories { length counts.now ≤ length supply.now }
-    requires states { states_of supply.now ≤ 4096 }
+    requires states { states_of supply.now ≤ 16384 }
     requires places { length below.now ≡ states_of supply.now }
     requires line { length line.old ≡ states_of supply.now }
     requires worth { unsigned_abs worth ≤ 2 ^ 61 }

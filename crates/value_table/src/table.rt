@@ -142,7 +142,7 @@ impl ValueTable {
 }
 
 fn zeros(alloc: Global, count: usize) -> Result<Vec<i128>, AllocError>
-    requires { count ≤ 12 }
+    requires { count ≤ 16 }
     ensures count { IfOk result (λ v. length v.items ≡ count) }
     ensures zeros { IfOk result (λ v. (k : ℕ) → slice_index_or v.items k (pos 0) ≡ pos 0) }
 {

@@ -54,7 +54,7 @@ fn without_winner(
 /// The winners of a book, each alone. A winner's Vickrey price is the greatest value of a choice that doesn't use it, less what
 /// the other winners win with: its net amount less what the value would lose without it. (Vickrey 1961, Clarke 1971, Groves
 /// 1973; Ausubel and Milgrom, The lovely but lonely Vickrey auction, 2006.) The table of all bids is built once, and the tables
-/// without each winner share its lines. There are at most 12.
+/// without each winner share its lines. There are at most 16.
 pub fn vickrey(alloc: Global, book: &BidBook, winners: &Choice) -> Result<Vickrey, AllocError>
     requires { IsWinning (market_of book.now) winners.now }
     ensures singles { IfOk result (λ v. AreSingles (market_of book.now) winners.now v.singles) }

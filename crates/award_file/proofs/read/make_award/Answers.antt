@@ -1,7 +1,7 @@
 use Rattle.std.proofs.Common.{◌≡◌, ℕ, None, List, length, map, sym, ap, subst, ◌∙◌, arith}
 use Rattle.std.proofs.lemmas.Result.{err_from_is_err_and}
-use Rattle.auction_text.specs.BookForm.{IsOffer}
-use Rattle.auction_text.specs.BookLines.{supply_excess}
+use Rattle.book_form.specs.BookForm.{IsOffer}
+use Rattle.book_form.specs.BookLines.{supply_excess}
 use Rattle.lots.specs.Limits.{IsSupply}
 use Rattle.award_file.specs.declared.read.categories.Category.{Category as Read}
 use Rattle.award_file.specs.Award.{IsAward, IsSteps, steps_with}

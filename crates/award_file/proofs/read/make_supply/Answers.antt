@@ -1,6 +1,6 @@
 use Rattle.std.proofs.Common.{⊎_elim, ◌≡◌, Some, sym, subst, refl, ◌∙◌, ap}
 use Rattle.std.proofs.lemmas.Result.{err_from_is_err_and}
-use Rattle.auction_text.specs.BookLines.{supply_excess}
+use Rattle.book_form.specs.BookLines.{supply_excess}
 use Rattle.lots.specs.declared.LotStop.{LotStop}
 use Rattle.lots.specs.declared.LotStop.TheVariants as lots
 use Rattle.lots.specs.Limits.{IsSupply, supply_stop}

@@ -1,6 +1,6 @@
 use Rattle.std.proofs.Common.{take}
 use Rattle.std.specs.List.{AllByRecursion}
-use Rattle.auction_text.specs.BookForm.{IsNameByte}
+use Rattle.book_form.specs.BookForm.{IsNameByte}
 use Rattle.bid_book.proofs.fields.are_name_bytes.Given as goal
 
 abbrev pub invariant-loop-c : goal.invariant-loop-c

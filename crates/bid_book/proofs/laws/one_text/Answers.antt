@@ -1,8 +1,8 @@
 use Rattle.std.proofs.Common.{sym, ◌∙◌}
 use Rattle.line_text.specs.LineText.{stated}
 use Rattle.line_text.proofs.OneAnswer.{one_answer}
-use Rattle.auction_text.specs.BookForm.{IsBook}
-use Rattle.auction_text.specs.BookLines.{lines}
+use Rattle.book_form.specs.BookForm.{IsBook}
+use Rattle.book_form.specs.BookLines.{lines}
 use Rattle.bid_book.specs.Stages.{Step, excess}
 use Rattle.bid_book.proofs.Reading.{IsSound, begin, finish, reads}
 use Rattle.bid_book.proofs.laws.one_text.Goals as goal

@@ -2,8 +2,8 @@ use Rattle.std.proofs.Common.{◌≡◌, ◌-◌, Err, ap, sym, ◌∙◌, subst
 use Rattle.std.proofs.lemmas.List.{take_all}
 use Rattle.line_text.specs.LineText.{FaultAt}
 use Rattle.line_text.proofs.Runs.{line_taken, line_exceeds, line_refused, line_missing, all_read}
-use Rattle.auction_text.specs.BookForm.{IsBook}
-use Rattle.auction_text.specs.BookLines.{lines}
+use Rattle.book_form.specs.BookForm.{IsBook}
+use Rattle.book_form.specs.BookLines.{lines}
 use Rattle.bid_book.specs.Stages.{Step, excess}
 use Rattle.bid_book.proofs.Reading.{IsSound, begin, finish, reads}
 use Rattle.bid_book.proofs.StopLaws.{form_stop, limit_stop}

@@ -1,5 +1,5 @@
 use Rattle.std.proofs.Common.{◌≡◌, ℕ, ◌+◌, drop}
-use Rattle.price_text.specs.Rounds.{members_of}
+use Rattle.print_form.specs.Rounds.{members_of}
 use Rattle.row_laws.specs.Winners.{has_bit, row_of}
 use Rattle.book_price.proofs.bidder_rows.members.Given as goal
 

@@ -1,7 +1,7 @@
 use Rattle.std.proofs.Common.{◌≡◌, ◌∙◌, ap, ◌++◌, ◌∷◌, [], List, ℕ, codes}
 use Rattle.std.specs.Fmt.{decimal}
-use Rattle.auction_text.specs.BookLines.{numbers_text}
-use Rattle.auction_text.proofs.TextLaws.{winner-added}
+use Rattle.book_form.specs.BookLines.{numbers_text}
+use Rattle.book_form.proofs.TextLaws.{winner-added}
 use Rattle.cca_run.proofs.win.add_winner.Goals as goal
 
 pub returns : goal.returns

@@ -1,6 +1,6 @@
 use Rattle.std.proofs.Common.{◌≡◌, ◌<◌, ◌≤◌, ◌+◌, ◌-◌, ◌++◌, ℕ, List, suc, length, get_or, sym, ◌∙◌, ap, arith}
 use Rattle.auction_model.specs.Book.{BookBid, menu_of, bids_of, bid_of, lots_of}
-use Rattle.auction_text.specs.WinText.{winner_line}
+use Rattle.book_form.specs.WinText.{winner_line}
 use Rattle.auction_model.specs.Market.{number_of}
 use Rattle.auction_model.proofs.ChoiceLaws.{known-length, known-at}
 use Rattle.cca_run.proofs.Winners.{loses, wins, all-written}

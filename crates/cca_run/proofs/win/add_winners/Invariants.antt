@@ -1,5 +1,5 @@
 use Rattle.std.proofs.Common.{◌≡◌, ◌++◌, drop}
-use Rattle.auction_text.specs.WinText.{winner_lines}
+use Rattle.book_form.specs.WinText.{winner_lines}
 use Rattle.cca_run.proofs.win.add_winners.Given as goal
 
 abbrev pub invariant-loop-k : goal.invariant-loop-k

@@ -1,6 +1,6 @@
 use Rattle.std.proofs.Common.{codes}
 use Rattle.std.specs.Fmt.{decimal}
-use Rattle.auction_text.specs.BookLines.{numbers_text}
+use Rattle.book_form.specs.BookLines.{numbers_text}
 use Rattle.log_file.proofs.ReplyLaws.{regroup}
 use Rattle.log_file.proofs.reply.add_round.Goals as goal
 

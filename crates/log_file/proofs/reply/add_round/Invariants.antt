@@ -1,6 +1,6 @@
 use Rattle.std.proofs.Common.{◌≡◌, ◌++◌, codes, drop}
 use Rattle.std.specs.Fmt.{decimal}
-use Rattle.auction_text.specs.BookLines.{numbers_text}
+use Rattle.book_form.specs.BookLines.{numbers_text}
 use Rattle.log_file.proofs.reply.add_round.Given as goal
 
 abbrev pub invariant-loop-price : goal.invariant-loop-price

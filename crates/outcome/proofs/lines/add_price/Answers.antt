@@ -3,7 +3,7 @@ use Rattle.std.specs.Int.{w128}
 use Rattle.std.proofs.lemmas.Int.{to_z-of_z}
 use Rattle.std.specs.Fmt.{decimal, signed_decimal}
 use Rattle.auction_model.specs.Book.{bidder_of, bid_of}
-use Rattle.auction_text.specs.BookLines.{numbers_text}
+use Rattle.book_form.specs.BookLines.{numbers_text}
 use Rattle.outcome.specs.Fractions.{fraction_text}
 use Rattle.outcome.proofs.LineLaws.{regroup}
 use Rattle.outcome.proofs.lines.add_price.Goals as goal

@@ -1,5 +1,5 @@
 use Rattle.std.proofs.Common.{◌≡◌, ◌++◌, drop}
-use Rattle.auction_text.specs.BookLines.{numbers_text}
+use Rattle.book_form.specs.BookLines.{numbers_text}
 use Rattle.outcome.proofs.numbers.add_numbers.Given as goal
 
 abbrev pub invariant-loop-number : goal.invariant-loop-number

@@ -1,8 +1,8 @@
 use Rattle.std.proofs.Common.{rules, ◌≡◌, ◌∙◌, ap, subst, refl, ◌++◌, List, ℕ, ℤ, codes, length, FitsSigned, to_z, of_z}
 use Rattle.std.specs.Int.{w128}
 use Rattle.std.proofs.lemmas.Int.{to_z-of_z}
-use Rattle.auction_text.specs.BookLines.{numbers_text}
-use Rattle.price_text.specs.Rounds.{members_of}
+use Rattle.book_form.specs.BookLines.{numbers_text}
+use Rattle.print_form.specs.Rounds.{members_of}
 use Rattle.row_laws.specs.Winners.{row_of}
 use Rattle.outcome.specs.Fractions.{IsFractionOf, fraction_text}
 use Rattle.outcome.proofs.RoundLaws.{block-line}

@@ -4,7 +4,7 @@ use Rattle.std.specs.Int.{w128}
 use Rattle.std.proofs.lemmas.Int.{to_z-of_z}
 use Rattle.blocking.specs.declared.look.Block.{Block}
 use Rattle.blocking.specs.Look.{block_of}
-use Rattle.price_text.specs.Rounds.{IsTurnEnd}
+use Rattle.print_form.specs.Rounds.{IsTurnEnd}
 use Rattle.outcome.specs.Rounds.{Grows}
 use Rattle.outcome.proofs.rounds.add_end.Goals as goal
 

@@ -1,6 +1,6 @@
 use Rattle.std.proofs.Common.{◌≡◌, ℕ, ◌+◌, ◌++◌, drop}
-use Rattle.auction_text.specs.BookLines.{numbers_text}
-use Rattle.price_text.specs.Rounds.{members_of}
+use Rattle.book_form.specs.BookLines.{numbers_text}
+use Rattle.print_form.specs.Rounds.{members_of}
 use Rattle.row_laws.specs.Winners.{has_bit, row_of}
 use Rattle.outcome.proofs.rounds.add_members.Given as goal
 

@@ -1,6 +1,6 @@
 use Rattle.std.proofs.Common.{ℕ, List, ◌++◌, drop}
 use Rattle.core_price.specs.Turns.{turns_of}
-use Rattle.price_text.specs.Rounds.{AreTurnLines}
+use Rattle.print_form.specs.Rounds.{AreTurnLines}
 use Rattle.outcome.proofs.rounds.rounds_text.Given as goal
 
 abbrev pub invariant-loop-i : goal.invariant-loop-i

@@ -8,13 +8,13 @@ use Rattle.value_table.proofs.narrow.count_narrow.Goals as goal
 
 pub narrowed-requires : goal.narrowed-requires
 narrowed-requires c =
-    let few : length c.args.below.now ≤ 4096 = omega (arith, c.requires.places, c.requires.below.places, ap states_of c.supply.ensures.supply, c.states-states.ensures.states, c.states-states.ensures.most) in
+    let few : length c.args.below.now ≤ 16384 = omega (arith, c.requires.places, c.requires.below.places, ap states_of c.supply.ensures.supply, c.states-states.ensures.states, c.states-states.ensures.most) in
     record { few = few; sizes = λ s. omega (arith, line-narrow c.args.lowering.now c.requires.narrow c.args.j c.args.below.now c.requires.below s) }
 
 pub narrowed-requires-2 : goal.narrowed-requires-2
 narrowed-requires-2 c =
     let l = c.args.lowering.now in
-    let few : length c.args.line.now ≤ 4096 = omega (arith, c.requires.places, c.requires.below.places, ap states_of c.supply.ensures.supply, c.states-states.ensures.states, c.states-states.ensures.most) in
+    let few : length c.args.line.now ≤ 16384 = omega (arith, c.requires.places, c.requires.below.places, ap states_of c.supply.ensures.supply, c.states-states.ensures.states, c.states-states.ensures.most) in
     record {
       few = few;
       sizes = λ s.

@@ -12,8 +12,8 @@ use Rattle.value_table.proofs.runs.raise_one.Goals as goal
 
 pub overflow_mul-from : goal.overflow_mul-from
 overflow_mul-from c =
-    let width : get_or c.args.widths.now 0 0 ≤ 4096 = omega (arith, ap (λ (l : List ℕ). get_or l 0 0) c.requires.widths, width-first c.args.supply.now (omega arith), width-at_most c.args.supply.now (omega arith)) in
-    omega (arith, mul-le (get_or c.args.counts.now 0 0) (get_or c.args.widths.now 0 0) 65536 4096 (omega (arith, c.type_inv.counts 0)) width)
+    let width : get_or c.args.widths.now 0 0 ≤ 16384 = omega (arith, ap (λ (l : List ℕ). get_or l 0 0) c.requires.widths, width-first c.args.supply.now (omega arith), width-at_most c.args.supply.now (omega arith)) in
+    omega (arith, mul-le (get_or c.args.counts.now 0 0) (get_or c.args.widths.now 0 0) 65536 16384 (omega (arith, c.type_inv.counts 0)) width)
 
 pub returns-then-from-all : goal.returns-then-from-all
 returns-then-from-all c =

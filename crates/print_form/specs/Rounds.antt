@@ -4,8 +4,8 @@ use Rattle.std.specs.Fmt.{decimal}
 use Rattle.auction_model.specs.Lowered.{of_bidder}
 use Rattle.auction_model.specs.Prices.{Point}
 use Rattle.auction_model.specs.PricingRun.{Turn, Block}
-use Rattle.auction_text.specs.BookLines.{numbers_text}
-use Rattle.price_text.specs.Fractions.{IsFractionText}
+use Rattle.book_form.specs.BookLines.{numbers_text}
+use Rattle.print_form.specs.Fractions.{IsFractionText}
 
 -- the members among the bidders 1 to n, rising
 abbrev pub members_of : (ℕ → Bool) → ℕ → List ℕ

@@ -4,9 +4,9 @@ use Rattle.std.specs.Fmt.{decimal}
 use Rattle.line_text.specs.LineText.{first_excess}
 use Rattle.auction_model.specs.Place.{states_of}
 use Rattle.auction_model.specs.Book.{BookBid, Bidder, Book}
-use Rattle.auction_text.specs.BookForm.{IsBook}
-use Rattle.auction_text.specs.declared.LimitKind.{LimitKind}
-use Rattle.auction_text.specs.declared.LimitKind.TheVariants.{Categories, Lots, States, Bidders, Bids}
+use Rattle.book_form.specs.BookForm.{IsBook}
+use Rattle.limits.specs.declared.LimitKind.{LimitKind}
+use Rattle.limits.specs.declared.LimitKind.TheVariants.{Categories, Lots, States, Bidders, Bids}
 
 -- a quantity above its limit, with its count
 abbrev pub Excess : Type 0
@@ -24,10 +24,10 @@ abbrev pub supply_excess : List ℕ → Option Excess
 supply_excess supply =
     if nat_lt 6 (length supply) then Some (Categories, length supply) else
     if nat_lt 40 (sum supply) then Some (Lots, sum supply) else
-    if nat_lt 4096 (states_of supply) then Some (States, states_of supply) else None
+    if nat_lt 16384 (states_of supply) then Some (States, states_of supply) else None
 
 abbrev pub bidder_excess : ℕ → Option Excess
-bidder_excess count = if nat_le count 12 then None else Some (Bidders, 13)
+bidder_excess count = if nat_le count 16 then None else Some (Bidders, 17)
 
 abbrev pub bid_excess : ℕ → Option Excess
 bid_excess count = if nat_le count 600 then None else Some (Bids, 601)

@@ -7,9 +7,9 @@ use Rattle.auction_model.specs.Book.{Book, BookBid, bidder_of, bid_of, market_of
 use Rattle.auction_model.specs.Market.{value_of, number_of}
 use Rattle.auction_model.specs.Lowered.{of_bidder}
 use Rattle.auction_model.specs.Prices.{Point, sum_over, everyone}
-use Rattle.auction_text.specs.BookLines.{numbers_text}
-use Rattle.auction_text.specs.WinText.{net_line}
-use Rattle.price_text.specs.Fractions.{IsFractionText}
+use Rattle.book_form.specs.BookLines.{numbers_text}
+use Rattle.book_form.specs.WinText.{net_line}
+use Rattle.print_form.specs.Fractions.{IsFractionText}
 
 -- the reserve of the package that bid i of bidder j asks for
 abbrev pub reserve_of : Book → ℕ → ℕ → ℤ

@@ -10,9 +10,9 @@ ghost use Rattle.auction_model.specs.Lawful.{IsMarket};
 ghost use Rattle.auction_model.specs.Market.{Market};
 ghost use Rattle.auction_model.specs.Prices.{Point, SamePoint};
 ghost use Rattle.auction_model.specs.PricingRun.{Turn, IsPricingRun};
-ghost use Rattle.price_text.specs.Fractions.{IsFractionText};
-ghost use Rattle.price_text.specs.Prices.{IsPriceText};
-ghost use Rattle.price_text.specs.Rounds.{AreTurnLines, IsLastPoint};
+ghost use Rattle.print_form.specs.Fractions.{IsFractionText};
+ghost use Rattle.print_form.specs.Prices.{IsPriceText};
+ghost use Rattle.print_form.specs.Rounds.{AreTurnLines, IsLastPoint};
 
 use auction_model::vickrey_prices;
 

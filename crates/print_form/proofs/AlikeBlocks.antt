@@ -12,8 +12,8 @@ use Rattle.auction_model.proofs.OrderLaws.{earlier-cases}
 use Rattle.point_laws.proofs.Order.{mul_nonneg, mul_positive}
 use Rattle.row_laws.proofs.Rows.{excess-bound, over-same}
 use Rattle.wide_num.proofs.Ints.{lin, mul-sub, mul_cancel, swap_mul}
-use Rattle.price_text.proofs.AlikePoints.{IsAlike}
-use Rattle.price_text.proofs.Sums.{sums}
+use Rattle.print_form.proofs.AlikePoints.{IsAlike}
+use Rattle.print_form.proofs.Sums.{sums}
 
 -- the same choice and row, and the same excess over the denominators d and e
 pub record IsSameBlock (m : Market) (d e : ℤ) (block other : Block) : Type 0 where

@@ -5,8 +5,8 @@ use Rattle.auction_model.specs.Lawful.{IsMarket}
 use Rattle.auction_model.specs.Market.{Market}
 use Rattle.auction_model.specs.Prices.{Point, SamePoint}
 use Rattle.auction_model.specs.PricingRun.{Row, Block, Turn, IsBlockOf, GoOn}
-use Rattle.price_text.proofs.AlikeBlocks.{IsSameEnd, same-block, same-turned, free-both}
-use Rattle.price_text.proofs.AlikePoints.{AreAlike, all-more, same-point}
+use Rattle.print_form.proofs.AlikeBlocks.{IsSameEnd, same-block, same-turned, free-both}
+use Rattle.print_form.proofs.AlikePoints.{AreAlike, all-more, same-point}
 
 -- the same point, and the same block or none
 pub record IsSameTurn (m : Market) (turn other : Turn) : Type 0 where

@@ -7,7 +7,7 @@ use Rattle.std.proofs.Math.Nat.{div-add-mod, dvd-mul_right}
 use Rattle.std.proofs.Math.IntN.{*ℤ_comm}
 use Rattle.std.specs.Int.{◌∣◌}
 use Rattle.wide_num.proofs.Ints.{lin, mul-add, mul_assoc, swap_mul, mul_cancel, mul-zero_cases, Combined, combined, *ℤ-one}
-use Rattle.price_text.specs.Fractions.{IsFraction, IsFractionText, parts_text}
+use Rattle.print_form.specs.Fractions.{IsFraction, IsFractionText, parts_text}
 
 exchange : (a b c d : ℤ) → (a *ℤ b) *ℤ (c *ℤ d) ≡ (a *ℤ c) *ℤ (b *ℤ d)
 exchange a b c d = mul_assoc a b (c *ℤ d) ∙ ap (λ (x : ℤ). a *ℤ x) (swap_mul b c d) ∙ sym (mul_assoc a c (b *ℤ d))

@@ -3,8 +3,8 @@ use Rattle.std.specs.Prelude.{◌≡◌, ℕ, List, [], ◌∷◌, ◌++◌, cod
 use Rattle.std.proofs.Common.{sym, ◌∙◌, ap, append_assoc}
 use Rattle.std.proofs.lemmas.List.{append-nil}
 use Rattle.std.specs.Fmt.{decimal}
-use Rattle.auction_text.specs.BookLines.{numbers_text}
-use Rattle.auction_text.specs.WinText.{winner_line}
+use Rattle.book_form.specs.BookLines.{numbers_text}
+use Rattle.book_form.specs.WinText.{winner_line}
 
 pub numbers-append : (ms ns : List ℕ) → numbers_text (ms ++ ns) ≡ numbers_text ms ++ numbers_text ns
 numbers-append [] ns = refl

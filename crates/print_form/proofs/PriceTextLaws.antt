@@ -5,11 +5,11 @@ use Rattle.auction_model.specs.Book.{Book, bidder_of, bid_of, market_of}
 use Rattle.auction_model.specs.Lowered.{of_bidder}
 use Rattle.auction_model.specs.Market.{value_of}
 use Rattle.auction_model.specs.Prices.{Point, SamePoint, everyone}
-use Rattle.auction_text.specs.WinText.{net_line}
+use Rattle.book_form.specs.WinText.{net_line}
 use Rattle.wide_num.proofs.Ints.{lin, mul-add, swap_mul}
-use Rattle.price_text.specs.Prices.{reserve_of, gross_of, priced_line, ArePricedLines, IsPriceText}
-use Rattle.price_text.proofs.FractionLaws.{one-text}
-use Rattle.price_text.proofs.Sums.{sums}
+use Rattle.print_form.specs.Prices.{reserve_of, gross_of, priced_line, ArePricedLines, IsPriceText}
+use Rattle.print_form.proofs.FractionLaws.{one-text}
+use Rattle.print_form.proofs.Sums.{sums}
 
 -- equal fractions with one more whole number are equal
 more : (x y a b r : ℤ) → b *ℤ x ≡ a *ℤ y → (x +ℤ (a *ℤ r)) *ℤ b ≡ (y +ℤ (b *ℤ r)) *ℤ a

@@ -1,5 +1,5 @@
-use Rattle.price_text.proofs.RunTextLaws.{same-text, same-end_point}
-use Rattle.price_text.proofs.one_run_text.Goals as goal
+use Rattle.print_form.proofs.RunTextLaws.{same-text, same-end_point}
+use Rattle.print_form.proofs.one_run_text.Goals as goal
 
 pub returns-clause-lines : goal.returns-clause-lines
 returns-clause-lines c = λ m w z runs others t u law a b these those. let v = c.vickrey_prices.ensures.exist m z law in same-text m law w z v.0 v.1 runs others a b t u these those

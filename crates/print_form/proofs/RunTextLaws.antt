@@ -7,12 +7,12 @@ use Rattle.auction_model.specs.Lowered.{of_bidder}
 use Rattle.auction_model.specs.Market.{Market}
 use Rattle.auction_model.specs.Prices.{Point, SamePoint, AreVickreyPrices}
 use Rattle.auction_model.specs.PricingRun.{Block, Turn, IsPricingRun, single_rows}
-use Rattle.auction_text.specs.BookLines.{numbers_text}
-use Rattle.price_text.specs.Rounds.{members_of, ArePoints, IsTurnEnd, IsTurnLine, AreTurnLines, IsLastPoint}
-use Rattle.price_text.proofs.AlikeBlocks.{IsSameEnd}
-use Rattle.price_text.proofs.AlikePoints.{all-own}
-use Rattle.price_text.proofs.FractionLaws.{one-text}
-use Rattle.price_text.proofs.SameTurns.{IsSameTurn, AreSameTurns, same-turns}
+use Rattle.book_form.specs.BookLines.{numbers_text}
+use Rattle.print_form.specs.Rounds.{members_of, ArePoints, IsTurnEnd, IsTurnLine, AreTurnLines, IsLastPoint}
+use Rattle.print_form.proofs.AlikeBlocks.{IsSameEnd}
+use Rattle.print_form.proofs.AlikePoints.{all-own}
+use Rattle.print_form.proofs.FractionLaws.{one-text}
+use Rattle.print_form.proofs.SameTurns.{IsSameTurn, AreSameTurns, same-turns}
 
 same-members : (s t : ℕ → Bool) (n : ℕ) → ((j : ℕ) → 0 < j → j ≤ n → s j ≡ t j) → members_of s n ≡ members_of t n
 same-members s t zero same = refl

@@ -4,9 +4,9 @@ use Rattle.std.specs.Fmt.{digits}
 use Rattle.auction_model.specs.Book.{Book, BookBid}
 use Rattle.auction_model.specs.Prices.{Point}
 use Rattle.auction_model.specs.PricingRun.{Turn}
-use Rattle.price_text.specs.Fractions.{IsFractionText, parts_text}
-use Rattle.price_text.specs.Prices.{IsPriceText}
-use Rattle.price_text.specs.Rounds.{ArePoints, AreTurnLines}
+use Rattle.print_form.specs.Fractions.{IsFractionText, parts_text}
+use Rattle.print_form.specs.Prices.{IsPriceText}
+use Rattle.print_form.specs.Rounds.{ArePoints, AreTurnLines}
 
 one-left : (g b : ℕ) → 1 ≡ g * b → g ≡ 1
 one-left g b e = grind arith

@@ -1,0 +1,2 @@
+//! The form of a book as definitions, and what is printed of its winners. No code stands here.
+#![tactic(auto)]

@@ -1,0 +1,80 @@
+//! Every limit of an auction and of its files, each once, by name; and the names by which a quantity above its limit is told.
+//!
+//! Clauses, definitions and bodies cite these constants, so a limit is changed here alone.
+#![tactic(auto)]
+
+/// A quantity that has a limit. It is printed in lower case.
+#[derive(Clone, Copy, Debug, PartialEq, Eq)]
+pub enum LimitKind {
+    /// The bytes of a file.
+    Bytes,
+    /// The categories of a supply.
+    Categories,
+    /// The lots over all categories.
+    Lots,
+    /// The states of a supply, the product of its counts, each one more.
+    States,
+    /// The bidders of an auction.
+    Bidders,
+    /// The bids of one bidder in a book.
+    Bids,
+    /// The records of a log.
+    Records,
+    /// The rounds of a clock stage.
+    Rounds,
+    /// A price of a clock stage.
+    Price,
+    /// The winners that are priced.
+    Winners,
+}
+
+/// The most bytes of an award file.
+pub const AWARD_BYTES: u64 = 65_536;
+
+/// The most bytes of a log file.
+pub const LOG_BYTES: u64 = 8_388_608;
+
+/// The most bytes of a book file.
+pub const BOOK_BYTES: u64 = 1_048_576;
+
+/// The most bytes of a certificate file.
+pub const CERT_BYTES: u64 = 67_108_864;
+
+/// The most categories of a supply.
+pub const MOST_CATEGORIES: usize = 6;
+
+/// The most lots that one category of a text may have, where the limit of all lots is tested later.
+pub const MOST_COUNT: u64 = 999;
+
+/// The most lots over all categories.
+pub const MOST_LOTS: u64 = 40;
+
+/// The most states of a supply.
+pub const MOST_STATES: u64 = 16_384;
+
+/// The most bidders of an auction.
+pub const MOST_BIDDERS: usize = 16;
+
+/// The most bids of one bidder in a book.
+pub const MOST_BIDS: u16 = 600;
+
+/// The most records of a log.
+pub const MOST_RECORDS: u64 = 100_000;
+
+/// The most rounds of a clock stage.
+pub const MOST_ROUNDS: u64 = 300;
+
+/// The most entries of a draft list.
+pub const MOST_DRAFTS: u64 = 300;
+
+/// The greatest price of a lot, which is the greatest reserve too: 2^36.
+pub const MOST_PRICE: u64 = 68_719_476_736;
+
+/// The greatest amount of a bid, reserve included: 2^42.
+pub const MOST_AMOUNT: u64 = 4_398_046_511_104;
+
+/// The most winners that are priced.
+pub const MOST_WINNERS: usize = 6;
+
+/// The most winners that are priced where their weights aren't all 1.
+pub const MOST_WEIGHTED_WINNERS: usize = 4;
