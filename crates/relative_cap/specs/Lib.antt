@@ -1,5 +1,5 @@
 pub mod OwnRounds
-pub mod Limits
+pub mod Answer
 pub mod Place
 pub mod Levels
 pub mod Asked

@@ -6,12 +6,12 @@ ghost use Rattle.auction_rules.specs.PackageTests.{InOrder};
 ghost use Rattle.clock_stage.specs.Kept.{IsHeld, categories_in};
 ghost use Rattle.relative_cap.specs.Asked.{ArePoints, IsBidderOf, IsEligible, IsEntry};
 ghost use Rattle.relative_cap.specs.Levels.{AreLevels};
-ghost use Rattle.relative_cap.specs.Limits.{cap_value, excess_value};
+ghost use Rattle.relative_cap.specs.Answer.{cap_value, excess_value};
 ghost use Rattle.relative_cap.specs.OwnRounds.{entry_lots, bid_value, cap_at, eligibility_in, own_in, rounds_of};
 
 use crate::amounts::highest;
 use crate::levels::{fill_levels, last_peak};
-use crate::limits::{Cap, OverCap};
+use crate::answer::{Cap, OverCap};
 use crate::packages::is_same;
 use crate::rounds::constraining_round;
 use clock_stage::History;

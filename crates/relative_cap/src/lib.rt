@@ -2,13 +2,13 @@
 #![tactic(auto)]
 
 mod amounts;
+mod answer;
 mod caps;
 mod levels;
-mod limits;
 mod packages;
 mod rounds;
 
 pub use amounts::highest;
+pub use answer::{Cap, OverCap};
 pub use caps::{cap, list_fault};
-pub use limits::{Cap, OverCap};
 pub use rounds::constraining_round;

@@ -1,8 +1,8 @@
 -- What caps and entries above them say.
 use Rattle.std.specs.Prelude.{ℕ, Option, Some, None}
-use Rattle.relative_cap.specs.declared.limits.Cap.{Cap}
-use Rattle.relative_cap.specs.declared.limits.Cap.TheVariants.{NoCap, At}
-use Rattle.relative_cap.specs.declared.limits.OverCap.{OverCap}
+use Rattle.relative_cap.specs.declared.answer.Cap.{Cap}
+use Rattle.relative_cap.specs.declared.answer.Cap.TheVariants.{NoCap, At}
+use Rattle.relative_cap.specs.declared.answer.OverCap.{OverCap}
 
 -- the greatest amount that is allowed, and None without a cap
 abbrev pub cap_value : Cap → Option ℕ
