@@ -291,7 +291,7 @@ fn categories(alloc: Global, supplies: &[u64]) -> Result<String, AllocError> {
 #[test]
 fn tells_the_first_limit_that_is_exceeded(rt: HostRuntime) -> Result<(), Fail> {
     let mut bidders = String::new(rt.alloc());
-    for i in 1..14u64 {
+    for i in 1..=17u64 {
         let bidder = format!(in rt.alloc(); "[[bidder]]\nname = \"b{i}\"\neligibility = 1\n")?;
         bidders.push_str(bidder.as_str())?;
     }
@@ -305,12 +305,12 @@ fn tells_the_first_limit_that_is_exceeded(rt: HostRuntime) -> Result<(), Fail> {
             Some(AwardStop::Limit(LimitKind::Lots, 41)),
         ),
         (
-            [8, 8, 8, 8].as_slice(),
-            Some(AwardStop::Limit(LimitKind::States, 6561)),
+            [3, 3, 3, 3, 7, 8].as_slice(),
+            Some(AwardStop::Limit(LimitKind::States, 18432)),
         ),
         (
-            [7, 7, 7, 7].as_slice(),
-            Some(AwardStop::Limit(LimitKind::Bidders, 13)),
+            [3, 3, 3, 3, 7, 7].as_slice(),
+            Some(AwardStop::Limit(LimitKind::Bidders, 17)),
         ),
     ];
     for (supplies, wanted) in exceeding {

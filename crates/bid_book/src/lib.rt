@@ -12,10 +12,10 @@ mod read;
 mod rivals;
 mod stop;
 
-pub use limits::LimitKind;
 pub use book::BidBook;
 pub use fields::is_name;
 pub use laws::{one_book, one_text};
+pub use limits::LimitKind;
 pub use name::Name;
 pub use read::read_book;
 
