@@ -67,6 +67,12 @@ pub const MOST_ROUNDS: u64 = 300;
 /// The most entries of a draft list.
 pub const MOST_DRAFTS: u64 = 300;
 
+/// The most eligibility points of a lot.
+pub const MOST_POINTS: u64 = 10_000;
+
+/// The most bytes of a name.
+pub const MOST_NAME_BYTES: usize = 20;
+
 /// The greatest price of a lot, which is the greatest reserve too: 2^36.
 pub const MOST_PRICE: u64 = 68_719_476_736;
 
