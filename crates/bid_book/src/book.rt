@@ -2,6 +2,7 @@
 ghost use Rattle.std.specs.Prelude.{◌≡◌, ◌≤◌, ◌<◌, [], ◌∷◌, ◌++◌, OnOk, length};
 ghost use Rattle.auction_model.specs.Book.{bidder_of, bids_of, bid_of, lots_of, net_of};
 ghost use Rattle.bid_book.specs.Kept.{IsBidBook};
+ghost use Rattle.limits.specs.declared.TheConstants.{MOST_BIDDERS, MOST_BIDS};
 
 use crate::Name;
 use crate::better::better_among;
@@ -113,7 +114,7 @@ impl BidBook {
     /// How many bidders there are.
     pub fn bidders(&self) -> usize
         ensures bidders { result ≡ length self.now.bidders }
-        ensures most { result ≤ 16 }
+        ensures most { result ≤ MOST_BIDDERS }
         ensures kept { IsBidBook self.now }
     {
         self.bidders.len()
@@ -132,7 +133,7 @@ impl BidBook {
     pub fn bids(&self, j: u16) -> u16
         requires { (0 < j) × (j ≤ length self.now.bidders) }
         ensures bids { result ≡ length (bids_of self.now j) }
-        ensures most { result ≤ 600 }
+        ensures most { result ≤ MOST_BIDS }
     {
         let bidder = &self.bidders[j as usize - 1];
         bidder.bids.len() as u16
