@@ -2,6 +2,7 @@ pub mod PlanReads
 pub mod Numerals
 pub mod CertReads
 pub mod Reading
+pub mod Version
 pub mod Written
 pub mod Ranges
 pub mod OneCertificate

@@ -17,9 +17,9 @@ bytes_of (l ∷ ls) = spell l ++ 10 ∷ bytes_of ls
 abbrev pub Adds : List ℕ → List ℕ → List Line → Type 0
 Adds before behind ls = behind ≡ before ++ bytes_of ls
 
--- the version, the denominator, the value and the winning choice
+-- the denominator, the value and the winning choice
 abbrev pub lines_of_head : Certificate → List Line
-lines_of_head c = line (codes "cert") (pos 1 ∷ []) ∷ line (codes "den") (c.den ∷ []) ∷ line (codes "value") (c.value ∷ []) ∷ choice_line c.choice ∷ []
+lines_of_head c = line (codes "den") (c.den ∷ []) ∷ line (codes "value") (c.value ∷ []) ∷ choice_line c.choice ∷ []
 
 -- the word of a table, and its lines
 abbrev pub lines_of_table : List ℕ → List (List ℤ) → List Line

@@ -18,6 +18,7 @@ mod stop;
 mod tables;
 #[cfg(test)]
 mod tests;
+mod version;
 mod write;
 
 pub use certificate::{CertRow, Certificate, Shape, WithoutPart};

@@ -2,14 +2,17 @@
 ghost use Rattle.std.specs.Prelude.{◌≡◌, ◌≤◌, ◌<◌, ◌∷◌, ◌++◌, [], length, take, IfOk, OnOk};
 ghost use Rattle.std.specs.List.{AllByRecursion};
 ghost use Rattle.cert_form.specs.CertText.{as_numbers, choice_line, line, AllInRange, InRange};
+ghost use Rattle.cert_form.specs.Lines.{version_lines};
 ghost use Rattle.cert_form.specs.Numeral.{numbers_text};
 ghost use Rattle.cert_form.specs.Says.{cert_text};
 ghost use Rattle.cert_text.specs.CertValues.{cert_value};
 ghost use Rattle.cert_text.specs.Written.{lines_of_head, lines_of_part, lines_of_parts, lines_of_row, lines_of_rows, lines_of_table, Adds, ArePartsInRange, IsRowInRange, IsTableInRange};
 
+use crate::version::has_first_version;
 use crate::{CertRow, Certificate, WithoutPart};
 use choices::{Choice, Grid};
 use itoa::Buffer;
+use limits::{MOST_BIDDERS, MOST_STATES};
 use std::alloc::{AllocError, Global};
 use wide_num::Text;
 
@@ -18,6 +21,7 @@ pub fn write_cert(alloc: Global, cert: &Certificate) -> Result<Text, AllocError>
     ensures { IfOk result (λ text. text ≡ cert_text (cert_value cert.now)) }
 {
     let mut text = Text::new(alloc);
+    add_version(&mut text, cert.choice.numbers().len(), cert.table.width())?;
     add_head(&mut text, cert)?;
     add_table(&mut text, b"table", &cert.table)?;
     add_parts(&mut text, cert.withouts.items())?;
@@ -28,12 +32,28 @@ pub fn write_cert(alloc: Global, cert: &Certificate) -> Result<Text, AllocError>
     Ok(text)
 }
 
-// The version, the denominator, the value and the winning choice.
+// The version, and in the second one the most bidders and states.
+fn add_version(text: &mut Text, bidders: usize, states: usize) -> Result<(), AllocError>
+    ensures { OnOk result (Adds text.old text.new (version_lines bidders states)) }
+{
+    if has_first_version(bidders, states) {
+        add_signed_line(text, b"cert", &[1])?;
+        return Ok(());
+    }
+    add_signed_line(text, b"cert", &[2])?;
+    add_signed_line(
+        text,
+        b"limits",
+        &[MOST_BIDDERS as i128, MOST_STATES as i128],
+    )?;
+    Ok(())
+}
+
+// The denominator, the value and the winning choice.
 fn add_head(text: &mut Text, cert: &Certificate) -> Result<(), AllocError>
     requires { InRange cert.now.den × InRange cert.now.value }
     ensures { OnOk result (Adds text.old text.new (lines_of_head cert.now)) }
 {
-    add_signed_line(text, b"cert", &[1])?;
     add_signed_line(text, b"den", &[cert.den])?;
     add_signed_line(text, b"value", &[cert.value])?;
     add_choice(text, &cert.choice)?;

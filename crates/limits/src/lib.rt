@@ -84,3 +84,9 @@ pub const MOST_WINNERS: usize = 6;
 
 /// The most winners that are priced where their weights aren't all 1.
 pub const MOST_WEIGHTED_WINNERS: usize = 4;
+
+/// The most bidders of a certificate whose text is of the first version.
+pub const FIRST_VERSION_BIDDERS: usize = 12;
+
+/// The most states of a certificate whose text is of the first version.
+pub const FIRST_VERSION_STATES: u64 = 4_096;
