@@ -15,7 +15,7 @@ ghost use Rattle.std.specs.List.{AllByRecursion};
 ghost use Rattle.auction_model.specs.Book.{bidder_of};
 ghost use Rattle.auction_model.specs.Package.{ComesBefore, is_within, cost_of};
 ghost use Rattle.auction_rules.specs.PackageTests.{first_over, is_same, is_before, InOrder};
-ghost use Rattle.auction_rules.specs.Terms.{Terms};
+ghost use Rattle.auction_rules.specs.Terms.{Terms, final_cap};
 ghost use Rattle.auction_rules.specs.Step.{ticks_of, IsRaise};
 ghost use Rattle.auction_rules.specs.Rounds.{OwnRound, prices_after};
 ghost use Rattle.auction_rules.specs.Caps.{list_fault, constraining, constraining_number, round_at};
@@ -138,7 +138,7 @@ pub fn sound_standings()
     ensures eligible { (terms : Terms) (log : List Event) (j : ℕ)
         → cost_of terms.points (standing terms (admitted terms log) j).held ≤ (standing terms (admitted terms log) j).eligibility }
     ensures valid { (terms : Terms) (log : List Event) (j : ℕ)
-        → list_fault terms.points (standing terms (admitted terms log) j).rounds (standing terms (admitted terms log) j).submitted ≡ None }
+        → list_fault (final_cap terms) terms.points (standing terms (admitted terms log) j).rounds (standing terms (admitted terms log) j).submitted ≡ None }
 {}
 
 /// However the lines of bidders are interleaved, a bidder is treated by what it sees: its own lines and the closes, each close
@@ -188,5 +188,5 @@ pub fn lawful_bids()
 /// at most its cap over the book's own bids.
 pub fn book_within_caps()
     ensures { (terms : Terms) (log : List Event) (j : ℕ)
-        → list_fault terms.points (standing terms (admitted terms log) j).rounds (bids_in_book terms log j) ≡ None }
+        → list_fault (final_cap terms) terms.points (standing terms (admitted terms log) j).rounds (bids_in_book terms log j) ≡ None }
 {}
