@@ -1,11 +1,11 @@
 // Books, and the calls that read them.
-ghost use Rattle.std.specs.Prelude.{◌≡◌, ◌≤◌, ◌<◌, [], ◌∷◌, ◌++◌, OnOk, length};
+ghost use Rattle.std.specs.Prelude.{◌≡◌, ◌≤◌, ◌<◌, [], ◌∷◌, ◌++◌, IfOk, OnOk, length};
 ghost use Rattle.auction_model.specs.Book.{bidder_of, bids_of, bid_of, lots_of, net_of};
 ghost use Rattle.bid_book.specs.Kept.{IsBidBook};
 ghost use Rattle.limits.specs.declared.TheConstants.{MOST_BIDDERS, MOST_BIDS};
 
-use crate::Name;
 use crate::better::better_among;
+use crate::{Bidders, Name, Reserves};
 use lots::{Bid, Supply};
 use std::alloc::{AllocError, Global};
 use std::marker::Model;
@@ -58,6 +58,22 @@ impl BidBook {
     ghost use Rattle.lots.specs.Limits.{IsSupply};
     ghost use Rattle.bid_book.specs.Stages.{bidder_with, opened, with_bid, with_bidders};
     ghost use Rattle.bid_book.specs.Better.{IsBetter};
+    ghost use Rattle.bid_book.specs.Lists.{book_of};
+
+    /// The book of this supply, these reserves and these bidders. The condition is that they keep the rules of a book's text and
+    /// all limits: a reserve for each category, names that differ, and the bids of each bidder in the order of their packages,
+    /// each within the supply and at least at the reserve. The only error is want of memory.
+    pub fn from_lists(
+        alloc: Global,
+        supply: Supply,
+        reserves: Reserves,
+        bidders: Bidders,
+    ) -> Result<BidBook, AllocError>
+        requires { IsBookWithinLimits (book_of supply reserves bidders) }
+        ensures { IfOk result (λ book. book ≡ book_of supply reserves bidders) }
+    {
+        Err(AllocError)
+    }
 
     /// The book of this supply with these reserves, before its first bidder.
     pub(crate) fn open(alloc: Global, supply: Supply, reserves: Vec<u64>) -> BidBook
