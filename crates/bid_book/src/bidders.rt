@@ -56,4 +56,11 @@ impl Bidders {
     {
         self.bidders.as_slice()
     }
+
+    /// The bidders in order.
+    pub(crate) fn into_vec(self) -> Vec<BidderBids>
+        ensures { map bidder_of result.items ≡ self }
+    {
+        self.bidders
+    }
 }

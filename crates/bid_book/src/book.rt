@@ -5,6 +5,7 @@ ghost use Rattle.bid_book.specs.Kept.{IsBidBook};
 ghost use Rattle.limits.specs.declared.TheConstants.{MOST_BIDDERS, MOST_BIDS};
 
 use crate::better::better_among;
+use crate::gather::book_bidders;
 use crate::{Bidders, Name, Reserves};
 use lots::{Bid, Supply};
 use std::alloc::{AllocError, Global};
@@ -26,6 +27,15 @@ pub struct Entry {
 pub struct BookBidder {
     name: Name,
     bids: Vec<Entry>,
+}
+
+impl BookBidder {
+    /// The bidder of this name with these bids.
+    pub fn new(name: Name, bids: Vec<Entry>) -> BookBidder
+        ensures { (result.name ≡ name) × (result.bids ≡ bids) }
+    {
+        BookBidder { name, bids }
+    }
 }
 
 /// A book: what is sold, the reserves, and the bids of each bidder in the order of their packages. It keeps the rules of
@@ -72,7 +82,13 @@ impl BidBook {
         requires { IsBookWithinLimits (book_of supply reserves bidders) }
         ensures { IfOk result (λ book. book ≡ book_of supply reserves bidders) }
     {
-        Err(AllocError)
+        let reserves = reserves.into_vec();
+        let bidders = book_bidders(alloc, &supply, &reserves, bidders)?;
+        Ok(BidBook {
+            supply,
+            reserves,
+            bidders,
+        })
     }
 
     /// The book of this supply with these reserves, before its first bidder.

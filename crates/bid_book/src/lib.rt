@@ -6,6 +6,7 @@ mod bidders;
 mod book;
 mod entries;
 mod fields;
+mod gather;
 mod head;
 mod laws;
 mod lists;

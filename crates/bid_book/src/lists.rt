@@ -47,6 +47,13 @@ impl BidList {
     {
         self.bids.as_slice()
     }
+
+    /// The bids in order.
+    pub(crate) fn into_vec(self) -> Vec<Bid>
+        ensures { map bid_of result.items ≡ self }
+    {
+        self.bids
+    }
 }
 
 /// A list of reserves, each of one lot.
@@ -87,5 +94,12 @@ impl Reserves {
         ensures { result.now ≡ self.now }
     {
         self.reserves.as_slice()
+    }
+
+    /// The reserves in order.
+    pub(crate) fn into_vec(self) -> Vec<u64>
+        ensures { result.items ≡ self }
+    {
+        self.reserves
     }
 }
