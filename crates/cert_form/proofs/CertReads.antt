@@ -6,11 +6,12 @@ use Rattle.std.proofs.lemmas.Bool.{and_parts, not-true, eqb-false}
 use Rattle.line_text.specs.LineText.{IsLine, Said, Says}
 use Rattle.line_text.proofs.Runs.{Reads}
 use Rattle.line_text.proofs.OneAnswer.{one_answer}
-use Rattle.cert_form.specs.Numeral.{numeral, signed_numeral, numbers_text}
+use Rattle.text_lines.specs.Numeral.{numeral, signed_numeral, numbers_text}
 use Rattle.cert_form.specs.Plan.{Follows, Stage, StepTo, excess, begin, finish}
 use Rattle.cert_form.specs.Lines.{Line, Kind, kind, Numbers, these, signed, chosen, headed, counted, members, FitNumbers, Fits, AreNumbers, spell, over, after, after_numbers, table_plan, part_plan, unless_zero, parts_plan, rows_plan, first_size, just_line, is_first_version, version_of, version_plan, body_plan, cert_plan, IsCertText, lines}
 use Rattle.cert_form.proofs.PlanReads.{follows_both, reads}
-use Rattle.cert_form.proofs.Numerals.{AreDigits, numeral_is, one_numbers}
+use Rattle.wide_num.proofs.Decimal.{AreDigits}
+use Rattle.text_lines.proofs.Numerals.{numeral_is, one_numbers}
 
 -- no line feed, as a test
 abbrev has_no_feed : List ℕ → Bool

@@ -1,5 +1,4 @@
 pub mod PlanReads
-pub mod Numerals
 pub mod CertReads
 pub mod Reading
 pub mod Version
@@ -7,5 +6,4 @@ pub mod Written
 pub mod Ranges
 pub mod OneCertificate
 pub mod Laws
-pub mod Decimals
 pub mod WorkedCases

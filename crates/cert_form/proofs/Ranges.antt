@@ -6,8 +6,11 @@ use Rattle.std.specs.Option.{option_or}
 use Rattle.line_text.specs.LineText.{text_of, first_excess, IsTextOf}
 use Rattle.cert_form.specs.Certificate.{CertValue, WithoutValue, RowValue}
 use Rattle.cert_form.specs.Plan.{placed, next_place}
-use Rattle.cert_form.specs.Lines.{Line, spell, over, any_out, is_out, is_first_version, version_of, version_lines, IsCertText, lines}
-use Rattle.cert_form.specs.CertText.{line, as_numbers, choice_line, table_lines, part_lines, row_lines, body_lines, cert_lines, InRange, AllInRange, AtMost, IsChoice, AreTableLines, AreWithouts, AreMembers, AreRows, IsCertificate}
+use Rattle.cert_form.specs.Lines.{Line, spell, over, is_first_version, version_of, version_lines, IsCertText, lines}
+use Rattle.text_lines.specs.Range.{any_out, is_out}
+use Rattle.cert_form.specs.CertText.{line, as_numbers, choice_line, table_lines, part_lines, row_lines, body_lines, cert_lines, AtMost, IsChoice, AreTableLines, AreWithouts, AreMembers, AreRows, IsCertificate}
+use Rattle.wide_num.specs.Range.{InRange}
+use Rattle.text_lines.specs.Range.{AllInRange}
 use Rattle.cert_form.proofs.Written.{written}
 
 abbrev Within : List Line → Type 0

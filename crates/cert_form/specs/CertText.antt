@@ -1,5 +1,7 @@
 -- The lines of a certificate, and which certificates have a text. Each line is a word and numbers.
-use Rattle.std.specs.Prelude.{◌≡◌, ℕ, zero, suc, ◌^◌, ◌≤◌, ◌<◌, List, [], ◌∷◌, ◌++◌, length, codes, slice_index_or, ℤ, pos, unsigned_abs}
+use Rattle.std.specs.Prelude.{◌≡◌, ℕ, zero, suc, ◌≤◌, ◌<◌, List, [], ◌∷◌, ◌++◌, length, codes, slice_index_or, ℤ, pos}
+pub use Rattle.wide_num.specs.Range.{InRange}
+pub use Rattle.text_lines.specs.Range.{AllInRange}
 use Rattle.cert_form.specs.Certificate.{CertValue, WithoutValue, RowValue}
 use Rattle.cert_form.specs.Lines.{Line, version_lines}
 
@@ -41,14 +43,6 @@ body_lines c =
 -- The version, then all that the certificate holds. It is for as many bidders as its choice has, and for as many states as its table.
 abbrev pub cert_lines : CertValue → List Line
 cert_lines c = version_lines (length c.choice) (length (slice_index_or c.table 0 [])) ++ body_lines c
-
--- strictly between -2^120 and 2^120
-abbrev pub InRange : ℤ → Type 0
-InRange z = unsigned_abs z < 2 ^ 120
-
-abbrev pub AllInRange : List ℤ → Type 0
-AllInRange [] = Unit {0}
-AllInRange (z ∷ zs) = InRange z × AllInRange zs
 
 -- none is greater than this
 abbrev pub AtMost : ℕ → List ℕ → Type 0

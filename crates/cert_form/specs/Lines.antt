@@ -1,7 +1,8 @@
 -- The lines of a certificate: each is a word and numbers.
-use Rattle.std.specs.Prelude.{◌≡◌, ℕ, zero, suc, ◌^◌, ◌≤◌, ◌<◌, Bool, true, false, ◌||◌, ◌&&◌, nat_le, map, Option, List, [], ◌∷◌, ◌++◌, length, codes, replicate, ℤ, pos, negsuc, ◌≤ℤ◌, ◌<ℤ◌, unsigned_abs}
+use Rattle.std.specs.Prelude.{◌≡◌, ℕ, zero, suc, ◌≤◌, ◌<◌, Bool, true, false, ◌&&◌, nat_le, map, Option, List, [], ◌∷◌, ◌++◌, length, codes, replicate, ℤ, pos, negsuc, ◌≤ℤ◌, ◌<ℤ◌, unsigned_abs}
 use Rattle.limits.specs.declared.TheConstants.{MOST_BIDDERS, MOST_STATES, FIRST_VERSION_BIDDERS, FIRST_VERSION_STATES}
-use Rattle.cert_form.specs.Numeral.{numbers_text}
+use Rattle.text_lines.specs.Numeral.{numbers_text}
+use Rattle.text_lines.specs.Range.{any_out}
 use Rattle.cert_form.specs.Plan.{Follows, placed}
 
 pub record Line : Type 0 where
@@ -11,14 +12,6 @@ pub record Line : Type 0 where
 -- the bytes of a line, its line feed left out
 abbrev pub spell : Line → List ℕ
 spell l = l.word ++ numbers_text l.numbers
-
--- not strictly between -2^120 and 2^120
-abbrev pub is_out : ℤ → Bool
-is_out n = nat_le (2 ^ 120) (unsigned_abs n)
-
-abbrev pub any_out : List ℤ → Bool
-any_out [] = false
-any_out (n ∷ ns) = is_out n || any_out ns
 
 -- a number of the line is out of range
 abbrev pub over : Line → Bool

@@ -9,7 +9,6 @@ mod certificate;
 mod fields;
 mod lines;
 mod lists;
-mod numbers;
 mod parts;
 mod read;
 mod rows;

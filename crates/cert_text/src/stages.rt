@@ -1,6 +1,8 @@
 // The stages of a certificate's text.
 ghost use Rattle.std.specs.Prelude.{◌≡◌, ◌≤◌, length, IfOk, IfErr, [], ◌∷◌, map};
-ghost use Rattle.cert_form.specs.CertText.{InRange, AllInRange, IsChoice, IsTable, AreWithouts, AreRows};
+ghost use Rattle.cert_form.specs.CertText.{IsChoice, IsTable, AreWithouts, AreRows};
+ghost use Rattle.wide_num.specs.Range.{InRange};
+ghost use Rattle.text_lines.specs.Range.{AllInRange};
 ghost use Rattle.cert_text.specs.Parts.{without_value, row_value};
 ghost use Rattle.cert_text.specs.StagePlans.{opening_plan, opening_lines, winning_kind, winning_lines, payment_plan, payment_lines, closing_plan, closing_lines};
 ghost use Rattle.cert_text.specs.Readers.{Leads, Halts};
