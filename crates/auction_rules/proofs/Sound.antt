@@ -115,7 +115,7 @@ sealed-no_clock Clock h k = cc
 sealed-no_clock Sealed h k = cc
 sealed-no_clock Closed h k = cc
 
-stopped-no_clock : (stage : Stage) → is_clock (stage_stopped stage) ≡ true → ⊥
+pub stopped-no_clock : (stage : Stage) → is_clock (stage_stopped stage) ≡ true → ⊥
 stopped-no_clock Clock h = cc
 stopped-no_clock Sealed h = cc
 stopped-no_clock Closed h = cc
