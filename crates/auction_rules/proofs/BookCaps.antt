@@ -7,7 +7,7 @@ use Rattle.auction_model.specs.Package.{cost_of}
 use Rattle.auction_rules.specs.PackageTests.{is_empty, is_same, is_before}
 use Rattle.auction_rules.specs.Step.{last_or}
 use Rattle.auction_rules.specs.Rounds.{OwnRound}
-use Rattle.auction_rules.specs.Caps.{no_round, last_round, enough, constraining, clock_bid, greatest, highest, cap_by, cap_among, cap_with, excess_cap, excess_or, first_excess, list_fault_with}
+use Rattle.auction_rules.specs.Caps.{no_round, last_round, enough, constraining, clock_bid, greatest, highest, cap_by, cap_among, cap_of, excess_cap, excess_or, first_excess, list_fault}
 use Rattle.auction_rules.specs.Lines.{placed, in_order, priced}
 use Rattle.auction_rules.specs.BookOfLog.{bid_lots, best_bids}
 use Rattle.auction_rules.proofs.PackageLaws.{is_same-true, is_same-refl}
@@ -113,9 +113,9 @@ cap_among-best_bids true points rounds list lots =
     ∙ ap (min (cap_by rounds list (constraining (cost_of points lots) rounds) lots)) (cap_by-best_bids rounds list lots (last_round rounds))
 cap_among-best_bids false points rounds list lots = cap_by-best_bids rounds list lots (constraining (cost_of points lots) rounds)
 
-pub cap_with-best_bids : (final_cap : Bool) (points : List ℕ) (rounds : List OwnRound) (list : List BookBid) (lots : List ℕ)
-    → cap_with final_cap points rounds (best_bids (map clock_bid rounds ++ list)) lots ≡ cap_with final_cap points rounds list lots
-cap_with-best_bids final_cap points rounds list lots =
+pub cap_of-best_bids : (final_cap : Bool) (points : List ℕ) (rounds : List OwnRound) (list : List BookBid) (lots : List ℕ)
+    → cap_of final_cap points rounds (best_bids (map clock_bid rounds ++ list)) lots ≡ cap_of final_cap points rounds list lots
+cap_of-best_bids final_cap points rounds list lots =
     ap (λ (a : ℕ). if is_same lots (last_round rounds).held then None else Some a) (cap_among-best_bids final_cap points rounds list lots)
 
 -- Rounds whose prices never fall, and in which the bidder is eligible for what it holds.
@@ -258,7 +258,7 @@ among-least false points rounds list lots least low low' = low
 
 -- a clock bid is within the cap
 pub clock-within_cap : (final_cap : Bool) (points : List ℕ) (rounds : List OwnRound) (list : List BookBid) (lots : List ℕ) (cap : ℕ) → AreRising rounds → AreEligible points rounds
-    → cap_with final_cap points rounds list lots ≡ Some cap → greatest lots (map clock_bid rounds) ≤ cap
+    → cap_of final_cap points rounds list lots ≡ Some cap → greatest lots (map clock_bid rounds) ≤ cap
 clock-within_cap final_cap points rounds list lots cap rising eligible h =
     let n : OwnRound = constraining (cost_of points lots) rounds in
     let f : OwnRound = last_round rounds in
@@ -311,12 +311,12 @@ within-first_excess cap_at amount entry (p ∷ ps) within =
 
 -- The bids of a book are a valid list: each is at most its cap over the book's own bids, but for what is held in the final round.
 pub list_fault-best_bids : (final_cap : Bool) (points : List ℕ) (rounds : List OwnRound) (list : List BookBid) → AreRising rounds → AreEligible points rounds
-    → list_fault_with final_cap points rounds list ≡ None → list_fault_with final_cap points rounds (best_bids (map clock_bid rounds ++ list)) ≡ None
+    → list_fault final_cap points rounds list ≡ None → list_fault final_cap points rounds (best_bids (map clock_bid rounds ++ list)) ≡ None
 list_fault-best_bids final_cap points rounds list rising eligible valid =
     let all : List BookBid = map clock_bid rounds ++ list in
-    within-first_excess (cap_with final_cap points rounds (best_bids all)) (λ p. greatest p all) 1 _
+    within-first_excess (cap_of final_cap points rounds (best_bids all)) (λ p. greatest p all) 1 _
     (λ p cap h.
-    let same : cap_with final_cap points rounds list p ≡ Some cap = sym (cap_with-best_bids final_cap points rounds list p) ∙ h in
+    let same : cap_of final_cap points rounds list p ≡ Some cap = sym (cap_of-best_bids final_cap points rounds list p) ∙ h in
     let clock : greatest p (map clock_bid rounds) ≤ cap = clock-within_cap final_cap points rounds list p cap rising eligible same in
-    let given : greatest p list ≤ cap = list-within_cap (cap_with final_cap points rounds list) 1 list p cap valid same in
+    let given : greatest p list ≤ cap = list-within_cap (cap_of final_cap points rounds list) 1 list p cap valid same in
     omega (arith, clock, given, greatest-append p (map clock_bid rounds) list))

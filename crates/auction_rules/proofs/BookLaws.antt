@@ -13,7 +13,8 @@ use Rattle.auction_rules.specs.BookOfLog.{bid_lots, best_bids, book_bids, bids_i
 use Rattle.auction_rules.proofs.Drafts.{InOrder-in_order}
 use Rattle.auction_rules.proofs.States.{length-listing, at-bidder, listing-same, standing_in-state_after}
 
-lots-priced : (amount : List ℕ → ℕ) (ps : List (List ℕ)) → map bid_lots (priced (λ p. Some (amount p)) ps) ≡ ps
+-- the packages that are priced are those of the bids
+pub lots-priced : (amount : List ℕ → ℕ) (ps : List (List ℕ)) → map bid_lots (priced (λ p. Some (amount p)) ps) ≡ ps
 lots-priced amount [] = refl
 lots-priced amount (p ∷ ps) = ap (λ (rest : List (List ℕ)). p ∷ rest) (lots-priced amount ps)
 

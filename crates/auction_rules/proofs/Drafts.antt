@@ -10,7 +10,7 @@ use Rattle.auction_rules.proofs.PackageLaws.{is_same-true, is_same-refl, is_befo
 use Rattle.auction_rules.specs.Lines.{draft_word, drafted, draft_of, placed, in_order, entry_before, priced, draft_list, submitted_list, is_submit, with_entry, without_entry, drafts_after}
 use Rattle.auction_rules.specs.Replies.{is_of}
 
-AllAfter-trans : (p q : List ℕ) (ps : List (List ℕ)) → is_before p q ≡ true → AllAfter q ps → AllAfter p ps
+pub AllAfter-trans : (p q : List ℕ) (ps : List (List ℕ)) → is_before p q ≡ true → AllAfter q ps → AllAfter p ps
 AllAfter-trans p q [] h after = tt
 AllAfter-trans p q (r ∷ ps) h after = (is_before-trans p q r h after.0, AllAfter-trans p q ps h after.1)
 

@@ -18,7 +18,7 @@ use Rattle.auction_rules.specs.Lines.{is_close, line_bidder, bid_by, is_submit, 
 use Rattle.auction_rules.specs.Replies.{Standing, is_of, is_clock, is_sealed, is_closed, is_ok_reply, first_reply, when, supply_reply, rule_reply, has_entry, price_top, has_excess, own_reply, close_reply, reply_after, admitted, standing}
 use Rattle.auction_rules.specs.View.{posted}
 use Rattle.auction_rules.specs.BookOfLog.{bid_lots, best_bids, bids_in_book}
-use Rattle.auction_rules.specs.Lawful.{AreBelowTop, AreLimited, HasCategories, IsLawfulBid}
+use Rattle.auction_rules.specs.Lawful.{AreBelowTop, AreLimited, HasCategories, IsLawfulBid, IsDraft}
 use Rattle.auction_rules.proofs.PackageLaws.{is_same-refl, first_over-within}
 use Rattle.auction_rules.proofs.Agree.{Some-injective}
 use Rattle.auction_rules.proofs.Held.{held_in-elsewhere, held_in-no_bid, held_in-bid}
@@ -32,9 +32,9 @@ each-append P [] x each last = (last, tt)
 each-append P (y ∷ xs) x each last = (each.0, each-append P xs x each.1 last)
 
 -- a package that may be held
-record IsLawfulPackage (terms : Terms) (lots : List ℕ) : Type 0 where
-  categories : length lots ≡ length terms.supply
-  within : is_within lots terms.supply ≡ true
+pub record IsLawfulPackage (terms : Terms) (lots : List ℕ) : Type 0 where
+  pub categories : length lots ≡ length terms.supply
+  pub within : is_within lots terms.supply ≡ true
 
 length-zeros : (s : List ℕ) → length {A = ℕ} (map (λ (n : ℕ). 0) s) ≡ length s
 length-zeros [] = refl
@@ -48,9 +48,9 @@ IsLawfulPackage-no_lots : (terms : Terms) → IsLawfulPackage terms (no_lots ter
 IsLawfulPackage-no_lots terms = record { categories = length-zeros terms.supply; within = zeros-within terms.supply }
 
 -- what an admitted line keeps
-abbrev IsLawfulLine : Terms → Event → Type 0
+abbrev pub IsLawfulLine : Terms → Event → Type 0
 IsLawfulLine terms (Bid k lots) = IsLawfulPackage terms lots
-IsLawfulLine terms (Draft k lots amount) = IsLawfulBid terms (record { lots = lots; amount = amount })
+IsLawfulLine terms (Draft k lots amount) = IsDraft terms k (record { lots = lots; amount = amount })
 IsLawfulLine terms (Drop k lots) = Unit {0}
 IsLawfulLine terms (Submit k) = Unit {0}
 IsLawfulLine terms Close = Unit {0}
@@ -63,15 +63,18 @@ bid-within false true over rule short e ok = cc
 bid-within false false (Some c) rule short e ok = cc
 bid-within false false None rule short e ok = refl
 
-record DraftOk (over : Option ℕ) (low above : Bool) : Type 0 where
-  none_over : over ≡ None
-  reserve_reached : low ≡ false
-  top_kept : above ≡ false
+pub record DraftOk (over : Option ℕ) (short empty low full above : Bool) : Type 0 where
+  pub none_over : over ≡ None
+  pub eligible : short ≡ false
+  pub some : empty ≡ false
+  pub reserve_reached : low ≡ false
+  pub room : full ≡ false
+  pub top_kept : above ≡ false
 
-draft-ok : (out strange : Bool) (over : Option ℕ) (rule : Option (ℕ × ℕ)) (short : Bool) (e : ℕ) (empty low : Bool) (r : ℕ) (below : Bool) (c : ℕ) (full above : Bool) (t : ℕ)
+pub draft-ok : (out strange : Bool) (over : Option ℕ) (rule : Option (ℕ × ℕ)) (short : Bool) (e : ℕ) (empty low : Bool) (r : ℕ) (below : Bool) (c : ℕ) (full above : Bool) (t : ℕ)
     → is_ok_reply (first_reply (when out reply.Stage ∷ when strange reply.Unknown ∷ supply_reply over ∷ rule_reply rule ∷ when short (reply.Points e) ∷ when empty reply.Empty
     ∷ when low (reply.BelowReserve r) ∷ when below (reply.BelowClock c) ∷ when full (reply.Full 300) ∷ when above (reply.AmountTop t) ∷ [])) ≡ true
-    → DraftOk over low above
+    → DraftOk over short empty low full above
 draft-ok true strange over rule short e empty low r below c full above t ok = cc
 draft-ok false true over rule short e empty low r below c full above t ok = cc
 draft-ok false false (Some x) rule short e empty low r below c full above t ok = cc
@@ -82,38 +85,60 @@ draft-ok false false None None false e false true r below c full above t ok = cc
 draft-ok false false None None false e false false r true c full above t ok = cc
 draft-ok false false None None false e false false r false c true above t ok = cc
 draft-ok false false None None false e false false r false c false true t ok = cc
-draft-ok false false None None false e false false r false c false false t ok = record { none_over = refl; reserve_reached = refl; top_kept = refl }
+draft-ok false false None None false e false false r false c false false t ok = record { none_over = refl; eligible = refl; some = refl; reserve_reached = refl; room = refl; top_kept = refl }
 
-own-lawful : (terms : Terms) (j : ℕ) (s : Standing) (e : Event) → is_ok_reply (own_reply terms j s e) ≡ true → HasCategories terms e → IsLawfulLine terms e
-own-lawful terms j s (Bid k lots) ok same =
+-- a package within the supply has at most its lots
+sum-within : (lots supply : List ℕ) → is_within lots supply ≡ true → sum lots ≤ sum supply
+sum-within [] supply within = omega arith
+sum-within (a ∷ lots) [] within =
+    let both : ((a == 0) ≡ true) × (is_within lots [] ≡ true) = and_parts (a == 0) (is_within lots []) within in
+    omega (arith, eqb-true a 0 both.0, sum_by-cons (λ (n : ℕ). n) a lots, sum-within lots [] both.1)
+sum-within (a ∷ lots) (b ∷ supply) within =
+    let both : (nat_le a b ≡ true) × (is_within lots supply ≡ true) = and_parts (nat_le a b) (is_within lots supply) within in
+    omega (arith, leb-true a b both.0, sum_by-cons (λ (n : ℕ). n) a lots, sum_by-cons (λ (n : ℕ). n) b supply, sum-within lots supply both.1)
+
+-- an admitted draft of bidder j
+pub draft-parts : (terms : Terms) (j k : ℕ) (s : Standing) (lots : List ℕ) (amount : ℕ) → is_ok_reply (own_reply terms j s (Draft k lots amount)) ≡ true
+    → DraftOk (first_over 1 lots terms.supply) (nat_lt (entrant terms j).eligibility (cost_of terms.points lots)) (is_empty lots) (nat_lt amount (cost_of terms.reserves lots))
+    (not (has_entry lots s.drafts) && nat_le 300 (length s.drafts)) (nat_lt (2 ^ 42) amount)
+draft-parts terms j k s lots amount ok =
+    draft-ok (not (is_sealed s.stage)) (not (nat_lt 0 j && nat_le j (length terms.bidders))) (first_over 1 lots terms.supply) (broken_rule terms j lots)
+    (nat_lt (entrant terms j).eligibility (cost_of terms.points lots)) (entrant terms j).eligibility (is_empty lots) (nat_lt amount (cost_of terms.reserves lots)) (cost_of terms.reserves lots)
+    (nat_lt amount (greatest lots (map clock_bid s.rounds))) (greatest lots (map clock_bid s.rounds)) (not (has_entry lots s.drafts) && nat_le 300 (length s.drafts)) (nat_lt (2 ^ 42) amount) (2 ^ 42) ok
+
+own-lawful : (terms : Terms) (s : Standing) (e : Event) → is_ok_reply (own_reply terms (line_bidder e) s e) ≡ true → HasCategories terms e → IsLawfulLine terms e
+own-lawful terms s (Bid j lots) ok same =
     let none : first_over 1 lots terms.supply ≡ None = bid-within (not (is_clock s.stage)) (not (nat_lt 0 j && nat_le j (length terms.bidders))) (first_over 1 lots terms.supply)
     (broken_rule terms j lots) (nat_lt s.eligibility (cost_of terms.points lots)) s.eligibility ok in
     record { categories = same; within = first_over-within 1 lots terms.supply none }
-own-lawful terms j s (Draft k lots amount) ok same =
-    let parts : DraftOk (first_over 1 lots terms.supply) (nat_lt amount (cost_of terms.reserves lots)) (nat_lt (2 ^ 42) amount)
-    = draft-ok (not (is_sealed s.stage)) (not (nat_lt 0 j && nat_le j (length terms.bidders))) (first_over 1 lots terms.supply) (broken_rule terms j lots)
-    (nat_lt (entrant terms j).eligibility (cost_of terms.points lots)) (entrant terms j).eligibility (is_empty lots) (nat_lt amount (cost_of terms.reserves lots)) (cost_of terms.reserves lots)
-    (nat_lt amount (greatest lots (map clock_bid s.rounds))) (greatest lots (map clock_bid s.rounds)) (not (has_entry lots s.drafts) && nat_le 300 (length s.drafts)) (nat_lt (2 ^ 42) amount) (2 ^ 42) ok in
+own-lawful terms s (Draft j lots amount) ok same =
+    let parts = draft-parts terms j j s lots amount ok in
+    let within : is_within lots terms.supply ≡ true = first_over-within 1 lots terms.supply parts.none_over in
     record {
-      categories = same;
-      within = first_over-within 1 lots terms.supply parts.none_over;
-      reserve = ltb-false amount (cost_of terms.reserves lots) parts.reserve_reached;
-      top = ltb-false (2 ^ 42) amount parts.top_kept;
+      lawful = record {
+        categories = same;
+        within = within;
+        reserve = ltb-false amount (cost_of terms.reserves lots) parts.reserve_reached;
+        top = ltb-false (2 ^ 42) amount parts.top_kept;
+      };
+      some = parts.some;
+      few = sum-within lots terms.supply within;
+      points = ltb-false (entrant terms j).eligibility (cost_of terms.points lots) parts.eligible;
     }
-own-lawful terms j s (Drop k lots) ok same = tt
-own-lawful terms j s (Submit k) ok same = tt
-own-lawful terms j s Close ok same = tt
+own-lawful terms s (Drop j lots) ok same = tt
+own-lawful terms s (Submit j) ok same = tt
+own-lawful terms s Close ok same = tt
 
 line-lawful : (terms : Terms) (lines : List Event) (e : Event) → is_ok_reply (reply_after terms lines e) ≡ true → HasCategories terms e → IsLawfulLine terms e
 line-lawful terms lines e ok same =
     elim (cases_Bool (is_close e)) [
       | inl close ↦ subst (IsLawfulLine terms) (sym (is_close-true e close)) tt
       | inr other ↦
-          own-lawful terms (line_bidder e) (standing terms lines (line_bidder e)) e
+          own-lawful terms (standing terms lines (line_bidder e)) e
           (ap is_ok_reply (sym (cond-false (is_close e) (close_reply terms (held_in terms lines) (closes lines)) (own_reply terms (line_bidder e) (standing terms lines (line_bidder e)) e) other)) ∙ ok) same
     ]
 
-admitted-lawful : (terms : Terms) (log : List Event) → AllByRecursion (HasCategories terms) log → AllByRecursion (IsLawfulLine terms) (admitted terms log)
+pub admitted-lawful : (terms : Terms) (log : List Event) → AllByRecursion (HasCategories terms) log → AllByRecursion (IsLawfulLine terms) (admitted terms log)
 admitted-lawful terms [] same = tt
 admitted-lawful terms (e ∷ log) same =
     let lines : List Event = admitted terms log in
@@ -150,49 +175,55 @@ held-lawful terms [] r j lawful = IsLawfulPackage-no_lots terms
 held-lawful terms (e ∷ lines) r j lawful = held-after terms e lines r j (bid_by j e) refl lawful.0 (held-lawful terms lines r j lawful.1)
 
 -- drafts and submitted lists
-with_entry-lawful : (terms : Terms) (x : List ℕ) (a : ℕ) (list : List BookBid) → IsLawfulBid terms (record { lots = x; amount = a }) → AllByRecursion (IsLawfulBid terms) list
-    → AllByRecursion (IsLawfulBid terms) (with_entry x a list)
-with_entry-lawful terms x a [] new old = (new, tt)
-with_entry-lawful terms x a (b ∷ list) new old =
+with_entry-each : (P : BookBid → Type 0) (x : List ℕ) (a : ℕ) (list : List BookBid) → P (record { lots = x; amount = a }) → AllByRecursion P list → AllByRecursion P (with_entry x a list)
+with_entry-each P x a [] new old = (new, tt)
+with_entry-each P x a (b ∷ list) new old =
     elim (cases_Bool (is_same x b.lots)) [
       | inl same ↦ rw same (new, old.1)
       | inr apart ↦ elim (cases_Bool (is_before x b.lots)) [
         | inl first ↦ rw (apart, first) (new, old)
-        | inr later ↦ rw (apart, later) (old.0, with_entry-lawful terms x a list new old.1)
+        | inr later ↦ rw (apart, later) (old.0, with_entry-each P x a list new old.1)
       ]
     ]
 
-without_entry-lawful : (terms : Terms) (x : List ℕ) (list : List BookBid) → AllByRecursion (IsLawfulBid terms) list → AllByRecursion (IsLawfulBid terms) (without_entry x list)
-without_entry-lawful terms x [] old = tt
-without_entry-lawful terms x (b ∷ list) old =
+without_entry-each : (P : BookBid → Type 0) (x : List ℕ) (list : List BookBid) → AllByRecursion P list → AllByRecursion P (without_entry x list)
+without_entry-each P x [] old = tt
+without_entry-each P x (b ∷ list) old =
     elim (cases_Bool (is_same x b.lots)) [
-      | inl same ↦ rw same (without_entry-lawful terms x list old.1)
-      | inr apart ↦ rw apart (old.0, without_entry-lawful terms x list old.1)
+      | inl same ↦ rw same (without_entry-each P x list old.1)
+      | inr apart ↦ rw apart (old.0, without_entry-each P x list old.1)
     ]
 
-drafts_after-lawful : (terms : Terms) (e : Event) (list : List BookBid) → IsLawfulLine terms e → AllByRecursion (IsLawfulBid terms) list → AllByRecursion (IsLawfulBid terms) (drafts_after e list)
-drafts_after-lawful terms (Bid k x) list new old = old
-drafts_after-lawful terms (Draft k x a) list new old = with_entry-lawful terms x a list new old
-drafts_after-lawful terms (Drop k x) list new old = without_entry-lawful terms x list old
-drafts_after-lawful terms (Submit k) list new old = old
-drafts_after-lawful terms Close list new old = old
+drafts_after-lawful : (terms : Terms) (j : ℕ) (e : Event) (list : List BookBid) → line_bidder e ≡ j → IsLawfulLine terms e → AllByRecursion (IsDraft terms j) list
+    → AllByRecursion (IsDraft terms j) (drafts_after e list)
+drafts_after-lawful terms j (Bid k x) list mine new old = old
+drafts_after-lawful terms j (Draft k x a) list mine new old =
+    with_entry-each (IsDraft terms j) x a list (subst (λ (k : ℕ). IsDraft terms k (record { lots = x; amount = a })) mine new) old
+drafts_after-lawful terms j (Drop k x) list mine new old = without_entry-each (IsDraft terms j) x list old
+drafts_after-lawful terms j (Submit k) list mine new old = old
+drafts_after-lawful terms j Close list mine new old = old
 
-drafts-lawful : (terms : Terms) (j : ℕ) (lines : List Event) → AllByRecursion (IsLawfulLine terms) lines → AllByRecursion (IsLawfulBid terms) (draft_list j lines)
+pub drafts-lawful : (terms : Terms) (j : ℕ) (lines : List Event) → AllByRecursion (IsLawfulLine terms) lines → AllByRecursion (IsDraft terms j) (draft_list j lines)
 drafts-lawful terms j [] lawful = tt
 drafts-lawful terms j (e ∷ lines) lawful =
-    let before : AllByRecursion (IsLawfulBid terms) (draft_list j lines) = drafts-lawful terms j lines lawful.1 in
+    let before : AllByRecursion (IsDraft terms j) (draft_list j lines) = drafts-lawful terms j lines lawful.1 in
     elim (cases_Bool (is_of j e)) [
-      | inl mine ↦ subst (AllByRecursion (IsLawfulBid terms)) (sym (draft_list-own j e lines mine)) (drafts_after-lawful terms e (draft_list j lines) lawful.0 before)
-      | inr theirs ↦ subst (AllByRecursion (IsLawfulBid terms)) (sym (draft_list-other j e lines theirs)) before
+      | inl mine ↦ subst (AllByRecursion (IsDraft terms j)) (sym (draft_list-own j e lines mine)) (drafts_after-lawful terms j e (draft_list j lines) (is_of-parts j e mine).1 lawful.0 before)
+      | inr theirs ↦ subst (AllByRecursion (IsDraft terms j)) (sym (draft_list-other j e lines theirs)) before
     ]
 
-submitted-lawful : (terms : Terms) (j : ℕ) (lines : List Event) → AllByRecursion (IsLawfulLine terms) lines → AllByRecursion (IsLawfulBid terms) (submitted_list j lines)
+pub submitted-lawful : (terms : Terms) (j : ℕ) (lines : List Event) → AllByRecursion (IsLawfulLine terms) lines → AllByRecursion (IsDraft terms j) (submitted_list j lines)
 submitted-lawful terms j [] lawful = tt
 submitted-lawful terms j (e ∷ lines) lawful =
     elim (cases_Bool (is_submit j e)) [
       | inl mine ↦ rw mine (drafts-lawful terms j lines lawful.1)
       | inr other ↦ rw other (submitted-lawful terms j lines lawful.1)
     ]
+
+-- what holds of each of a list, weakened
+pub each-weaker : {A : Type 0} (P Q : A → Type 0) (xs : List A) → ((x : A) → P x → Q x) → AllByRecursion P xs → AllByRecursion Q xs
+each-weaker P Q [] weaker each = tt
+each-weaker P Q (x ∷ xs) weaker each = (weaker x each.0, each-weaker P Q xs weaker each.1)
 
 -- no price that is posted is above the top
 price_top-none : (category : ℕ) (prices : List ℕ) → is_ok_reply (first_reply (price_top category prices ∷ [])) ≡ true → AreBelowTop prices
@@ -211,7 +242,7 @@ close-ok false false true prices ok more = price_top-none 1 prices ok
 close-ok false false false prices ok more = cc
 
 -- prices are posted where there is excess demand
-posts-excess : (n : ℕ) (final : Option ℕ) (within : Bool) (p prices : List ℕ)
+pub posts-excess : (n : ℕ) (final : Option ℕ) (within : Bool) (p prices : List ℕ)
     → (if is_clock (stage_by (suc n) (first_of final (if within then Some (suc n) else None))) then Some prices else None) ≡ Some p
     → ((is_clock (stage_by n final) && not within) ≡ true) × (prices ≡ p)
 posts-excess n None false p prices h = (refl, Some-injective h)
@@ -323,7 +354,7 @@ greatest-lawful terms all (b ∷ bids) whole lawful up =
       greatest-lawful terms all bids whole lawful.1 (λ lots. omega (arith, up lots)),
     )
 
-each-some : (Q : List ℕ → Type 0) (ps : List (List ℕ)) → AllByRecursion Q ps → AllByRecursion Q (filter (λ lots. not (is_empty lots)) ps)
+pub each-some : (Q : List ℕ → Type 0) (ps : List (List ℕ)) → AllByRecursion Q ps → AllByRecursion Q (filter (λ lots. not (is_empty lots)) ps)
 each-some Q [] each = tt
 each-some Q (p ∷ ps) each =
     elim (cases_Bool (is_empty p)) [
@@ -342,20 +373,20 @@ each-placed Q x (p ∷ ps) new each =
       ]
     ]
 
-each-in_order : (Q : List ℕ → Type 0) (ps : List (List ℕ)) → AllByRecursion Q ps → AllByRecursion Q (in_order ps)
+pub each-in_order : (Q : List ℕ → Type 0) (ps : List (List ℕ)) → AllByRecursion Q ps → AllByRecursion Q (in_order ps)
 each-in_order Q [] each = tt
 each-in_order Q (p ∷ ps) each = each-placed Q p (in_order ps) each.0 (each-in_order Q ps each.1)
 
-each-priced : (terms : Terms) (amount : List ℕ → ℕ) (ps : List (List ℕ)) → AllByRecursion (λ (lots : List ℕ). IsLawfulBid terms (record { lots = lots; amount = amount lots })) ps
-    → AllByRecursion (IsLawfulBid terms) (priced (λ lots. Some (amount lots)) ps)
-each-priced terms amount [] each = tt
-each-priced terms amount (p ∷ ps) each = (each.0, each-priced terms amount ps each.1)
+pub each-priced : (P : BookBid → Type 0) (amount : List ℕ → ℕ) (ps : List (List ℕ)) → AllByRecursion (λ (lots : List ℕ). P (record { lots = lots; amount = amount lots })) ps
+    → AllByRecursion P (priced (λ lots. Some (amount lots)) ps)
+each-priced P amount [] each = tt
+each-priced P amount (p ∷ ps) each = (each.0, each-priced P amount ps each.1)
 
 best_bids-lawful : (terms : Terms) (bids : List BookBid) → AllByRecursion (IsLawfulBid terms) bids → AllByRecursion (IsLawfulBid terms) (best_bids bids)
 best_bids-lawful terms bids lawful =
     let Q : List ℕ → Type 0 = λ lots. IsLawfulBid terms (record { lots = lots; amount = greatest lots bids }) in
     let some : List (List ℕ) = filter (λ lots. not (is_empty lots)) (map bid_lots bids) in
-    each-priced terms (λ lots. greatest lots bids) (in_order some)
+    each-priced (IsLawfulBid terms) (λ lots. greatest lots bids) (in_order some)
     (each-in_order Q some (each-some Q (map bid_lots bids) (greatest-lawful terms bids bids lawful lawful (λ lots. omega arith))))
 
 -- the bids of a book
@@ -368,4 +399,4 @@ IsLawfulBid-bids_in_book terms log j limited same =
     (clock_bids-lawful terms s.rounds s.submitted limited
     (own_rounds-lawful terms (held_in terms lines) j (closed_after terms (held_in terms lines) (closes lines)) (λ r. held-lawful terms lines r j lawful))
     (below_top-standing terms j log limited).rounds
-    (submitted-lawful terms j lines lawful))
+    (each-weaker (IsDraft terms j) (IsLawfulBid terms) (submitted_list j lines) (λ b draft. draft.lawful) (submitted-lawful terms j lines lawful)))

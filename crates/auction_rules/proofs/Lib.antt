@@ -11,6 +11,8 @@ pub mod BookCaps
 pub mod Sound
 pub mod BookLaws
 pub mod LawfulBids
+pub mod BookPairs
+pub mod KeptStandings
 pub mod Stands
 pub mod Constraining
 pub mod WorkedCases

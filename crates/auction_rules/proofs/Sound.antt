@@ -8,7 +8,7 @@ use Rattle.auction_rules.specs.PackageTests.{first_over}
 use Rattle.auction_rules.specs.declared.Event.{Event}
 use Rattle.auction_rules.specs.declared.Stage.{Stage}
 use Rattle.auction_rules.specs.declared.Stage.TheVariants.{Clock, Sealed, Closed}
-use Rattle.auction_rules.specs.Terms.{Terms, broken_rule}
+use Rattle.auction_rules.specs.Terms.{Terms, final_cap, broken_rule}
 use Rattle.auction_rules.specs.Step.{stepped}
 use Rattle.auction_rules.specs.Rounds.{OwnRound, raised_prices, demand, prices_after, own_round, own_rounds}
 use Rattle.auction_rules.specs.declared.Event.TheVariants.{Bid, Draft, Drop, Submit, Close}
@@ -86,7 +86,7 @@ cost_of-zeros (p ∷ prices) (s ∷ supply) = omega (arith, cost_of-zeros prices
 pub record IsSound (terms : Terms) (s : Standing) : Type 0 where
   pub eligible : AreEligible terms.points s.rounds
   pub now : cost_of terms.points s.held ≤ s.eligibility
-  pub valid : list_fault terms.points s.rounds s.submitted ≡ None
+  pub valid : list_fault (final_cap terms) terms.points s.rounds s.submitted ≡ None
   pub unsubmitted : is_clock s.stage ≡ true → s.submitted ≡ []
 
 -- where the reply is Ok, no condition holds
@@ -115,7 +115,7 @@ sealed-no_clock Clock h k = cc
 sealed-no_clock Sealed h k = cc
 sealed-no_clock Closed h k = cc
 
-stopped-no_clock : (stage : Stage) → is_clock (stage_stopped stage) ≡ true → ⊥
+pub stopped-no_clock : (stage : Stage) → is_clock (stage_stopped stage) ≡ true → ⊥
 stopped-no_clock Clock h = cc
 stopped-no_clock Sealed h = cc
 stopped-no_clock Closed h = cc
@@ -137,8 +137,8 @@ IsSound-own terms j s (Draft k lots amount) ok c sound =
 IsSound-own terms j s (Drop k lots) ok c sound =
     record { eligible = sound.eligible; now = rw (same_either (is_clock s.stage) s.held) sound.now; valid = sound.valid; unsubmitted = sound.unsubmitted }
 IsSound-own terms j s (Submit k) ok c sound =
-    let a : (not (is_sealed s.stage) ≡ false) × (list_fault terms.points s.rounds s.drafts ≡ None)
-    = submit-ok (not (is_sealed s.stage)) (not (nat_lt 0 j && nat_le j (length terms.bidders))) (list_fault terms.points s.rounds s.drafts) ok in
+    let a : (not (is_sealed s.stage) ≡ false) × (list_fault (final_cap terms) terms.points s.rounds s.drafts ≡ None)
+    = submit-ok (not (is_sealed s.stage)) (not (nat_lt 0 j && nat_le j (length terms.bidders))) (list_fault (final_cap terms) terms.points s.rounds s.drafts) ok in
     record {
       eligible = sound.eligible;
       now = rw (same_either (is_clock s.stage) s.held) sound.now;
@@ -206,9 +206,9 @@ IsSound-standing terms j (e ∷ log) =
 
 -- after any log a bidder's bids in the book are within their caps over themselves
 pub list_fault-bids_in_book : (terms : Terms) (log : List Event) (j : ℕ)
-    → list_fault terms.points (standing terms (admitted terms log) j).rounds (bids_in_book terms log j) ≡ None
+    → list_fault (final_cap terms) terms.points (standing terms (admitted terms log) j).rounds (bids_in_book terms log j) ≡ None
 list_fault-bids_in_book terms log j =
     let s : Standing = standing terms (admitted terms log) j in
     let sound : IsSound terms s = IsSound-standing terms j log in
-    list_fault-best_bids false terms.points s.rounds s.submitted
+    list_fault-best_bids (final_cap terms) terms.points s.rounds s.submitted
     (AreRising-own_rounds terms (held_in terms (admitted terms log)) j (closed_after terms (held_in terms (admitted terms log)) (closes (admitted terms log)))) sound.eligible sound.valid

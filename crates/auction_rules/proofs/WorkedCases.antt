@@ -6,15 +6,16 @@ use Rattle.auction_rules.specs.declared.Reply.TheVariants as reply
 use Rattle.auction_rules.specs.Terms.{Terms}
 use Rattle.auction_rules.specs.Step.{ticks_of, stepped}
 use Rattle.auction_model.specs.Book.{BookBid}
-use Rattle.auction_rules.specs.Replies.{reply_to, price_top, drafts_full, close_reply}
+use Rattle.auction_rules.specs.Replies.{reply_to, admitted, price_top, drafts_full, close_reply}
 use Rattle.auction_rules.specs.BookOfLog.{bids_in_book, book_of_log, is_complete}
 use Rattle.auction_rules.specs.Rounds.{OwnRound, raised_prices}
-use Rattle.auction_rules.specs.Caps.{list_fault_with}
+use Rattle.auction_rules.specs.Caps.{list_fault}
 use Rattle.auction_rules.specs.State.{state_of}
 
 -- two bidders, three lots of one category, and a step of a fifth
 abbrev sample : Terms
 sample = record {
+  version = 1;
   supply = 3 ∷ [];
   points = 1 ∷ [];
   reserves = 10 ∷ [];
@@ -171,6 +172,7 @@ replaces_an_amount_beside_300_drafts = refl
 -- prices rise by the tick, and each bidder always asks for two of three lots
 abbrev slow : Terms
 slow = record {
+  version = 1;
   supply = 3 ∷ [];
   points = 1 ∷ [];
   reserves = 10 ∷ [];
@@ -198,8 +200,38 @@ moved = record { prices = 10 ∷ 10 ∷ []; eligibility = 3; held = 2 ∷ 0 ∷ 
 abbrev moved_list : List BookBid
 moved_list = record { lots = 0 ∷ 1 ∷ []; amount = 12 } ∷ record { lots = 0 ∷ 3 ∷ []; amount = 33 } ∷ record { lots = 2 ∷ 0 ∷ []; amount = 42 } ∷ []
 
-admits_a_list_without_a_final_cap : list_fault_with false (1 ∷ 1 ∷ []) moved moved_list ≡ None
+admits_a_list_without_a_final_cap : list_fault false (1 ∷ 1 ∷ []) moved moved_list ≡ None
 admits_a_list_without_a_final_cap = refl
 
-refuses_an_entry_above_the_final_cap : list_fault_with true (1 ∷ 1 ∷ []) moved moved_list ≡ Some (2, 32)
+refuses_an_entry_above_the_final_cap : list_fault true (1 ∷ 1 ∷ []) moved moved_list ≡ Some (2, 32)
 refuses_an_entry_above_the_final_cap = refl
+
+-- an auction of two categories in which east moves from one to the other, in either version
+abbrev moving : ℕ → Terms
+moving version = record {
+  version = version;
+  supply = 2 ∷ 3 ∷ [];
+  points = 1 ∷ 1 ∷ [];
+  reserves = 10 ∷ 10 ∷ [];
+  tick = 1;
+  thresholds = (1, 1000) ∷ [];
+  rules = [];
+  bidders = record { name = []; eligibility = 3; holding = 0 ∷ 0 ∷ [] } ∷ record { name = []; eligibility = 1; holding = 0 ∷ 0 ∷ [] } ∷ [];
+}
+
+abbrev moved_drafts : List Event
+moved_drafts =
+    Draft 1 (0 ∷ 3 ∷ []) 33 ∷ Draft 1 (2 ∷ 0 ∷ []) 42 ∷ Draft 1 (0 ∷ 1 ∷ []) 12
+    ∷ Close ∷ Bid 2 (1 ∷ 0 ∷ []) ∷ Bid 1 (0 ∷ 1 ∷ []) ∷ Close ∷ Bid 2 (1 ∷ 0 ∷ []) ∷ Bid 1 (2 ∷ 0 ∷ []) ∷ []
+
+submits_without_a_final_cap : reply_to (moving 1) moved_drafts (Submit 1) ≡ reply.Ok
+unfolding reply_to ticks_of
+submits_without_a_final_cap = refl
+
+refuses_to_submit_above_the_final_cap : reply_to (moving 2) moved_drafts (Submit 1) ≡ reply.RelativeCap 2 32
+unfolding reply_to ticks_of
+refuses_to_submit_above_the_final_cap = refl
+
+drafts_alike_in_both_versions : admitted (moving 2) moved_drafts ≡ moved_drafts
+unfolding ticks_of
+drafts_alike_in_both_versions = refl

@@ -1,6 +1,7 @@
 -- The book of a log: what is sold, the reserves, and for each bidder of the award its clock bids and its submitted list, the
 -- greatest amount for each package.
-use Rattle.std.specs.Prelude.{ℕ, Bool, not, List, Some, ◌++◌, filter, map, length}
+use Rattle.std.specs.Prelude.{◌≡◌, ℕ, ◌≤◌, Bool, not, List, Some, ◌++◌, filter, map, length, Contains}
+use Rattle.std.specs.List.{AllByRecursion}
 use Rattle.auction_rules.specs.declared.Event.{Event}
 use Rattle.auction_model.specs.Book.{BookBid, Bidder, Book}
 use Rattle.auction_rules.specs.PackageTests.{is_empty}
@@ -17,9 +18,18 @@ bid_lots b = b.lots
 abbrev pub best_bids : List BookBid → List BookBid
 best_bids bids = priced (λ lots. Some (greatest lots bids)) (in_order (filter (λ lots. not (is_empty lots)) (map bid_lots bids)))
 
--- the bids of a bidder in the book: of its clock bids and its submitted list
+-- the clock bids of a bidder and the entries of its submitted list
+abbrev pub pairs_of : Standing → List BookBid
+pairs_of s = map clock_bid s.rounds ++ s.submitted
+
+-- the bids of a bidder in the book
 abbrev pub book_bids : Standing → List BookBid
-book_bids s = best_bids (map clock_bid s.rounds ++ s.submitted)
+book_bids s = best_bids (pairs_of s)
+
+-- the bid stands among the pairs, and none of them has a greater amount for its package
+pub record IsGreatestFor (pairs : List BookBid) (b : BookBid) : Type 0 where
+  pub there : Contains pairs b
+  pub most : AllByRecursion (λ p. p.lots ≡ b.lots → p.amount ≤ b.amount) pairs
 
 -- the bids of bidder j in the book of a log
 abbrev pub bids_in_book : Terms → List Event → ℕ → List BookBid

@@ -63,13 +63,9 @@ cap_among true points rounds list lots =
 cap_among false points rounds list lots = cap_by rounds list (constraining (cost_of points lots) rounds) lots
 
 -- None for what is held in the final round, which has no cap
-abbrev pub cap_with : Bool → List ℕ → List OwnRound → List BookBid → List ℕ → Option ℕ
-cap_with final_cap points rounds list lots =
+abbrev pub cap_of : Bool → List ℕ → List OwnRound → List BookBid → List ℕ → Option ℕ
+cap_of final_cap points rounds list lots =
     if is_same lots (last_round rounds).held then None else Some (cap_among final_cap points rounds list lots)
-
--- the cap without a final cap
-abbrev pub cap_of : List ℕ → List OwnRound → List BookBid → List ℕ → Option ℕ
-cap_of points rounds list lots = cap_with false points rounds list lots
 
 -- the amount is above the cap, if there is one
 abbrev pub excess_cap : Option ℕ → ℕ → Option ℕ
@@ -88,9 +84,5 @@ first_excess cap entry [] = None
 first_excess cap entry (b ∷ bids) = excess_or entry (excess_cap (cap b.lots) b.amount) (first_excess cap (suc entry) bids)
 
 -- the first entry of the list that is above its cap over the list
-abbrev pub list_fault_with : Bool → List ℕ → List OwnRound → List BookBid → Option (ℕ × ℕ)
-list_fault_with final_cap points rounds list = first_excess (cap_with final_cap points rounds list) 1 list
-
--- the same without a final cap
-abbrev pub list_fault : List ℕ → List OwnRound → List BookBid → Option (ℕ × ℕ)
-list_fault points rounds list = list_fault_with false points rounds list
+abbrev pub list_fault : Bool → List ℕ → List OwnRound → List BookBid → Option (ℕ × ℕ)
+list_fault final_cap points rounds list = first_excess (cap_of final_cap points rounds list) 1 list

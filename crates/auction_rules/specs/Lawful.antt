@@ -1,11 +1,14 @@
 -- What an award and the lines of a log keep, and what follows for each bid of the book.
-use Rattle.std.specs.Prelude.{◌≡◌, ℕ, ◌≤◌, ◌^◌, IsTrue, List, length, sum}
+use Rattle.std.specs.Prelude.{◌≡◌, ℕ, ◌≤◌, ◌^◌, IsTrue, false, List, [], ◌∷◌, length, map, sum}
 use Rattle.std.specs.List.{AllByRecursion}
 use Rattle.auction_model.specs.Book.{BookBid}
 use Rattle.auction_model.specs.Package.{is_within, cost_of}
 use Rattle.auction_rules.specs.declared.Event.{Event}
 use Rattle.auction_rules.specs.declared.Event.TheVariants.{Bid, Draft, Drop, Submit, Close}
-use Rattle.auction_rules.specs.Terms.{Terms}
+use Rattle.auction_rules.specs.PackageTests.{is_empty, InOrder}
+use Rattle.auction_rules.specs.Terms.{Terms, entrant}
+use Rattle.auction_rules.specs.Rounds.{OwnRound}
+use Rattle.auction_rules.specs.BookOfLog.{bid_lots}
 
 -- no price is above the greatest price
 abbrev pub AreBelowTop : List ℕ → Type 0
@@ -30,3 +33,21 @@ pub record IsLawfulBid (terms : Terms) (b : BookBid) : Type 0 where
   pub within : IsTrue (is_within b.lots terms.supply)
   pub reserve : cost_of terms.reserves b.lots ≤ b.amount
   pub top : b.amount ≤ 2 ^ 42
+
+-- an eligibility that never rises, from this one on, round by round, to the last one
+abbrev pub NeverRises : ℕ → List OwnRound → ℕ → Type 0
+NeverRises most [] last = last ≤ most
+NeverRises most (r ∷ rounds) last = (r.eligibility ≤ most) × NeverRises r.eligibility rounds last
+
+-- an entry that bidder j may draft
+pub record IsDraft (terms : Terms) (j : ℕ) (b : BookBid) : Type 0 where
+  pub lawful : IsLawfulBid terms b
+  pub some : is_empty b.lots ≡ false
+  pub few : sum b.lots ≤ sum terms.supply
+  pub points : cost_of terms.points b.lots ≤ (entrant terms j).eligibility
+
+-- a list of such entries: at most 300, in the order of their packages, each package once
+pub record AreDrafts (terms : Terms) (j : ℕ) (list : List BookBid) : Type 0 where
+  pub few : length list ≤ 300
+  pub order : InOrder (map bid_lots list)
+  pub each : AllByRecursion (IsDraft terms j) list

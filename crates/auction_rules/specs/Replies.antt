@@ -10,7 +10,7 @@ use Rattle.auction_rules.specs.declared.Stage.TheVariants.{Clock, Sealed, Closed
 use Rattle.auction_model.specs.Book.{BookBid}
 use Rattle.auction_model.specs.Package.{is_within, cost_of}
 use Rattle.auction_rules.specs.PackageTests.{first_over, is_empty, is_same}
-use Rattle.auction_rules.specs.Terms.{Terms, entrant, broken_rule}
+use Rattle.auction_rules.specs.Terms.{Terms, final_cap, entrant, broken_rule}
 use Rattle.auction_rules.specs.Rounds.{OwnRound, prices_after, eligibility_after, stage_after, round_after, closed_after, own_rounds, demand}
 use Rattle.auction_rules.specs.Caps.{clock_bid, greatest, list_fault}
 use Rattle.auction_rules.specs.Lines.{is_close, line_bidder, closes, held_in, draft_list, submitted_list}
@@ -144,7 +144,7 @@ own_reply terms j s (Drop k lots) = first_reply (
 own_reply terms j s (Submit k) = first_reply (
     when (not (is_sealed s.stage)) reply.Stage
     ∷ unknown terms j
-    ∷ cap_reply (list_fault terms.points s.rounds s.drafts)
+    ∷ cap_reply (list_fault (final_cap terms) terms.points s.rounds s.drafts)
     ∷ [])
 own_reply terms j s Close = reply.Ok
 

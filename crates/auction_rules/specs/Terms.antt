@@ -1,5 +1,5 @@
 -- The terms of an award.
-use Rattle.std.specs.Prelude.{ℕ, suc, ◌-◌, List, [], ◌∷◌, map, slice_index_or, Option, Some, None, nat_le, if◌then◌else◌}
+use Rattle.std.specs.Prelude.{ℕ, suc, ◌-◌, Bool, ◌==◌, List, [], ◌∷◌, map, slice_index_or, Option, Some, None, nat_le, if◌then◌else◌}
 use Rattle.auction_model.specs.Package.{together, cost_of}
 
 -- the weighted lots of a bidder, with its holding, are at most the limit
@@ -13,6 +13,8 @@ pub record Entrant : Type 0 where
   pub holding : List ℕ
 
 pub record Terms : Type 0 where
+  -- 1, or 2 with a final cap
+  pub version : ℕ
   pub supply : List ℕ
   pub points : List ℕ
   pub reserves : List ℕ
@@ -21,6 +23,10 @@ pub record Terms : Type 0 where
   pub thresholds : List (ℕ × ℕ)
   pub rules : List SpectrumRule
   pub bidders : List Entrant
+
+-- the caps of sealed bids count the final cap too: in version 2
+abbrev pub final_cap : Terms → Bool
+final_cap terms = terms.version == 2
 
 -- bidder j; bidders are numbered from 1
 abbrev pub entrant : Terms → ℕ → Entrant

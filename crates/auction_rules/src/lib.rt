@@ -10,20 +10,20 @@
 //! has its newest line first.
 #![tactic(auto)]
 
-ghost use Rattle.std.specs.Prelude.{◌≡◌, ℕ, suc, ◌+◌, ◌*◌, ◌≤◌, List, ◌∷◌, None, IsTrue, true, length, map};
+ghost use Rattle.std.specs.Prelude.{◌≡◌, ℕ, suc, ◌+◌, ◌*◌, ◌≤◌, List, ◌∷◌, None, IsTrue, true, false, not, ◌&&◌, length, map};
 ghost use Rattle.std.specs.List.{AllByRecursion};
 ghost use Rattle.auction_model.specs.Book.{bidder_of};
 ghost use Rattle.auction_model.specs.Package.{ComesBefore, is_within, cost_of};
-ghost use Rattle.auction_rules.specs.PackageTests.{first_over, is_same, is_before, InOrder};
-ghost use Rattle.auction_rules.specs.Terms.{Terms};
+ghost use Rattle.auction_rules.specs.PackageTests.{first_over, is_empty, is_same, is_before, InOrder};
+ghost use Rattle.auction_rules.specs.Terms.{Terms, entrant, final_cap};
 ghost use Rattle.auction_rules.specs.Step.{ticks_of, IsRaise};
 ghost use Rattle.auction_rules.specs.Rounds.{OwnRound, prices_after};
 ghost use Rattle.auction_rules.specs.Caps.{list_fault, constraining, constraining_number, round_at};
-ghost use Rattle.auction_rules.specs.Replies.{is_of, reply_to, admitted, standing};
+ghost use Rattle.auction_rules.specs.Replies.{is_of, reply_to, has_entry, admitted, standing};
 ghost use Rattle.auction_rules.specs.State.{state_of, reply_in, state_with};
 ghost use Rattle.auction_rules.specs.View.{view, own_replies};
-ghost use Rattle.auction_rules.specs.Lawful.{AreLimited, HasCategories, IsLawfulBid};
-ghost use Rattle.auction_rules.specs.BookOfLog.{bid_lots, bids_in_book, book_bidder, book_of_log, book_in};
+ghost use Rattle.auction_rules.specs.Lawful.{AreDrafts, AreLimited, HasCategories, IsLawfulBid, NeverRises};
+ghost use Rattle.auction_rules.specs.BookOfLog.{IsGreatestFor, bid_lots, bids_in_book, book_bidder, book_of_log, book_in, pairs_of};
 
 use lots::Package;
 
@@ -138,7 +138,21 @@ pub fn sound_standings()
     ensures eligible { (terms : Terms) (log : List Event) (j : ℕ)
         → cost_of terms.points (standing terms (admitted terms log) j).held ≤ (standing terms (admitted terms log) j).eligibility }
     ensures valid { (terms : Terms) (log : List Event) (j : ℕ)
-        → list_fault terms.points (standing terms (admitted terms log) j).rounds (standing terms (admitted terms log) j).submitted ≡ None }
+        → list_fault (final_cap terms) terms.points (standing terms (admitted terms log) j).rounds (standing terms (admitted terms log) j).submitted ≡ None }
+{}
+
+/// What a bidder's rounds and lists keep after any log, on which relative caps rest: there are at most 300 closed rounds; the
+/// eligibility never rises, from that of the award to that of the posted round. Where the packages of the log have the award's
+/// number of categories, the draft list and the submitted list have at most 300 entries, in the order of their packages, each
+/// once, and each of them the bidder may draft.
+pub fn kept_standings()
+    ensures rounds { (terms : Terms) (log : List Event) (j : ℕ) → length (standing terms (admitted terms log) j).rounds ≤ 300 }
+    ensures eligibility { (terms : Terms) (log : List Event) (j : ℕ)
+        → NeverRises (entrant terms j).eligibility (standing terms (admitted terms log) j).rounds (standing terms (admitted terms log) j).eligibility }
+    ensures drafts { (terms : Terms) (log : List Event) (j : ℕ) → AllByRecursion (HasCategories terms) log
+        → AreDrafts terms j (standing terms (admitted terms log) j).drafts }
+    ensures submitted { (terms : Terms) (log : List Event) (j : ℕ) → AllByRecursion (HasCategories terms) log
+        → AreDrafts terms j (standing terms (admitted terms log) j).submitted }
 {}
 
 /// However the lines of bidders are interleaved, a bidder is treated by what it sees: its own lines and the closes, each close
@@ -172,6 +186,18 @@ pub fn bidders_of_book()
         → bidder_of (book_of_log terms log) j ≡ book_bidder terms (bids_in_book terms log) j }
 {}
 
+/// What stands in the book of a log. A package has a bid of the bidder exactly where it isn't empty and stands among the bidder's
+/// clock bids or in its submitted list. Each bid is one of these, and none of them has a greater amount for its package. No bid
+/// is for the empty package, and there are at most 600.
+pub fn bids_of_book()
+    ensures packages { (terms : Terms) (log : List Event) (j : ℕ) (lots : List ℕ)
+        → has_entry lots (bids_in_book terms log j) ≡ (not (is_empty lots) && has_entry lots (pairs_of (standing terms (admitted terms log) j))) }
+    ensures amounts { (terms : Terms) (log : List Event) (j : ℕ)
+        → AllByRecursion (IsGreatestFor (pairs_of (standing terms (admitted terms log) j))) (bids_in_book terms log j) }
+    ensures some { (terms : Terms) (log : List Event) (j : ℕ) → AllByRecursion (λ b. is_empty b.lots ≡ false) (bids_in_book terms log j) }
+    ensures few { (terms : Terms) (log : List Event) (j : ℕ) → length (bids_in_book terms log j) ≤ 600 }
+{}
+
 /// The bids of a bidder in the book are in the order of their packages, each package once.
 pub fn book_in_order()
     ensures { (terms : Terms) (log : List Event) (j : ℕ) → InOrder (map bid_lots (bids_in_book terms log j)) }
@@ -188,5 +214,5 @@ pub fn lawful_bids()
 /// at most its cap over the book's own bids.
 pub fn book_within_caps()
     ensures { (terms : Terms) (log : List Event) (j : ℕ)
-        → list_fault terms.points (standing terms (admitted terms log) j).rounds (bids_in_book terms log j) ≡ None }
+        → list_fault (final_cap terms) terms.points (standing terms (admitted terms log) j).rounds (bids_in_book terms log j) ≡ None }
 {}

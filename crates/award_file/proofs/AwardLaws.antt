@@ -122,24 +122,24 @@ cap-is categories before t h =
 -- ---- the whole
 
 top-passes : (a b c : Bool) (f g h i : Option Fault) → first_fault (unless a 1 0 ∷ unless b 2 0 ∷ f ∷ g ∷ h ∷ i ∷ unless c 18 0 ∷ []) ≡ None
-    → (b ≡ true) × (f ≡ None) × (g ≡ None) × (h ≡ None) × (i ≡ None)
+    → (a ≡ true) × (b ≡ true) × (f ≡ None) × (g ≡ None) × (h ≡ None) × (i ≡ None)
 top-passes false b c f g h i none = absurd (cc none)
 top-passes true false c f g h i none = absurd (cc none)
 top-passes true true c f g h i none =
     let second = none-second f (option_or g (option_or h (option_or i (first_fault (unless c 18 0 ∷ []))))) none in
     let third = none-second g (option_or h (option_or i (first_fault (unless c 18 0 ∷ [])))) second in
     let fourth = none-second h (option_or i (first_fault (unless c 18 0 ∷ []))) third in
-    (refl, none-first f _ none, none-first g _ second, none-first h _ third, none-first i _ fourth)
+    (refl, refl, none-first f _ none, none-first g _ second, none-first h _ third, none-first i _ fourth)
 
 -- the parts of a table without a fault
-parts-pass : (t : Members) → walk.award_fault t ≡ None → (is_some (walk.tick_at t) ≡ true) × (walk.categories_fault t ≡ None) × (walk.bidders_fault (walk.category_count t) t ≡ None)
+parts-pass : (t : Members) → walk.award_fault t ≡ None → (is_some (walk.version_at t) ≡ true) × (is_some (walk.tick_at t) ≡ true) × (walk.categories_fault t ≡ None) × (walk.bidders_fault (walk.category_count t) t ≡ None)
     × (walk.steps_fault t ≡ None) × (walk.caps_fault (walk.category_count t) t ≡ None)
 parts-pass t h =
     top-passes (is_some (walk.version_at t)) (is_some (walk.tick_at t)) (not (has_other walk.top_keys t)) (walk.categories_fault t) (walk.bidders_fault (walk.category_count t) t) (walk.steps_fault t) (walk.caps_fault (walk.category_count t) t) h
 
 offer-of : (t : Members) → walk.award_fault t ≡ None → IsOffer (walk.terms_of t).supply
 offer-of t h =
-    let categories = categories-are t (parts-pass t h).1 in
+    let categories = categories-are t (parts-pass t h).2 in
     let count = length-map (walk.categories_of t) (λ c. c.supply) in
     record {
       some = omega (arith, count, categories.0);
@@ -149,8 +149,8 @@ offer-of t h =
 steps-of : (t : Members) → walk.award_fault t ≡ None → IsSteps (steps_of (walk.terms_of t))
 steps-of t h =
     let parts = parts-pass t h in
-    let tick = number-in 1 (2 ^ 36) (codes "tick") t parts.0 in
-    let list = list-passes 12 (tables_fault walk.step_fault walk.excess_or_none []) (walk.steps_at t) parts.3 in
+    let tick = number-in 1 (2 ^ 36) (codes "tick") t parts.1 in
+    let list = list-passes 12 (tables_fault walk.step_fault walk.excess_or_none []) (walk.steps_at t) parts.4 in
     let tables = unwrap_or (walk.steps_at t) [] in
     let allowed = list-count (λ n. nat_le 1 n && nat_le n 20) (list_of (get_member (codes "step") t)) list.0 in
     let counts = and_parts (nat_le 1 (length tables)) (nat_le (length tables) 20) allowed in
@@ -167,7 +167,7 @@ steps-of t h =
 bidders-of : (t : Members) → walk.award_fault t ≡ None → All (IsEntrant (walk.category_count t)) (walk.terms_of t).bidders
 bidders-of t h =
     let n = walk.category_count t in
-    let list = list-passes 8 (tables_fault (walk.bidder_fault n) walk.name_or_none []) (walk.bidders_at t) (parts-pass t h).2 in
+    let list = list-passes 8 (tables_fault (walk.bidder_fault n) walk.name_or_none []) (walk.bidders_at t) (parts-pass t h).3 in
     let tables = unwrap_or (walk.bidders_at t) [] in
     All-from_recursion (IsEntrant n) (walk.entrants_of n t) (made (λ b. IsEntrant n (walk.entrant_of n b)) (IsEntrant n) (walk.entrant_of n) (λ b is. is) tables
     (each (walk.bidder_fault n) walk.name_or_none (λ b. IsEntrant n (walk.entrant_of n b)) (bidder-is n) [] tables list.1))
@@ -175,7 +175,7 @@ bidders-of t h =
 caps-of : (t : Members) → walk.award_fault t ≡ None → (length (walk.terms_of t).rules ≤ 20) × All (IsRule (walk.category_count t)) (walk.terms_of t).rules
 caps-of t h =
     let n = walk.category_count t in
-    let list = list-passes 15 (tables_fault (walk.cap_fault n) walk.limit_or_none []) (walk.caps_at t) (parts-pass t h).4 in
+    let list = list-passes 15 (tables_fault (walk.cap_fault n) walk.limit_or_none []) (walk.caps_at t) (parts-pass t h).5 in
     let tables = unwrap_or (walk.caps_at t) [] in
     let allowed : nat_le (length tables) 20 ≡ true = list-count (λ m. nat_le m 20) (list_of (get_member (codes "cap") t)) list.0 in
     let few : length tables ≤ 20 = grind (arith, nat_tests) in
@@ -187,10 +187,11 @@ caps-of t h =
 
 award-of : (t : Members) → walk.award_fault t ≡ None → IsSupply (walk.terms_of t).supply → length (walk.terms_of t).bidders ≤ 16 → AreNamedApart (walk.terms_of t).bidders → IsAward (walk.terms_of t)
 award-of t h supply few apart =
-    let categories = (categories-are t (parts-pass t h).1).1 in
+    let categories = (categories-are t (parts-pass t h).2).1 in
     let count : length (walk.terms_of t).supply ≡ walk.category_count t = same-count walk.category_of (λ c. c.supply) (unwrap_or (walk.categories_at t) []) in
     let caps = caps-of t h in
     record {
+      version = number-in 1 2 (codes "version") t (parts-pass t h).0;
       supply = supply;
       points = same-count walk.category_of (λ c. c.points) (unwrap_or (walk.categories_at t) []) ∙ sym count;
       most_points = All-from_recursion (λ p. p ≤ 10000) (walk.terms_of t).points (made IsCategory (λ p. p ≤ 10000) (λ c. c.points) (λ c is. is.1) (walk.categories_of t) categories);

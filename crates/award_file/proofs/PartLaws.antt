@@ -30,14 +30,14 @@ reserves-are (c ∷ cs) = ap (λ (ns : List ℕ). c.reserve ∷ ns) (reserves-ar
 -- the award of the parts has their terms
 pub parts-make : (p : Parts) (supply points reserves : List ℕ) (steps : Steps) → supply ≡ counts p.categories.items → points ≡ map (λ c. c.points) p.categories.items
     → reserves ≡ map (λ c. c.reserve) p.categories.items → steps ≡ steps_with p.tick p.thresholds.items
-    → terms_with supply points reserves steps p.bidders (rule_values p.caps.items) ≡ terms_value p
+    → terms_with p.version supply points reserves steps p.bidders (rule_values p.caps.items) ≡ terms_value p
 parts-make p supply points reserves steps a b c d =
     rw (a ∙ sym (counts-are p.categories.items), b ∙ sym (points-are p.categories.items), c ∙ sym (reserves-are p.categories.items), d) refl
 
 -- the same parts make the same terms
-pub terms-same : (m n : ℕ) (cs ds : List Category) (ts us : List (ℕ × ℕ)) (rs ss : List SpectrumRule) (bs es : List Entrant) → m ≡ n → cs ≡ ds → ts ≡ us → rs ≡ ss → bs ≡ es
-    → terms_from m cs ts rs bs ≡ terms_from n ds us ss es
-terms-same m n cs ds ts us rs ss bs es a b c d e = rw (a, b, c, d, e) refl
+pub terms-same : (v w m n : ℕ) (cs ds : List Category) (ts us : List (ℕ × ℕ)) (rs ss : List SpectrumRule) (bs es : List Entrant) → v ≡ w → m ≡ n → cs ≡ ds → ts ≡ us → rs ≡ ss → bs ≡ es
+    → terms_from v m cs ts rs bs ≡ terms_from w n ds us ss es
+terms-same v w m n cs ds ts us rs ss bs es a b c d e f = rw (a, b, c, d, e, f) refl
 
 -- the stop at the first of two limits
 pub first-limits : (f g : Option Excess) (stop : AwardStop) → IsLimit f stop → IsLimit (option_or f g) stop

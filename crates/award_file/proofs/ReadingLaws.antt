@@ -68,7 +68,3 @@ last-decides a b f g h i false first second third fourth fifth sixth = rw (first
 -- as many categories are read as the table states
 pub count-is : (read : List Read) (t : Members) → category_values read ≡ categories_of t → length read ≡ category_count t
 count-is read t same = sym (length-map read category_value) ∙ ap (λ (cs : List Category). length cs) same ∙ length-map (unwrap_or (categories_at t) []) category_of
-
--- what isn't missing is there
-pub is-there : (o p : Option ℕ) (missing : Bool) → is_some o ≡ not missing → missing ≡ false → o ≡ p → is_some p ≡ true
-is-there o p missing is there same = ap is_some (sym same) ∙ is ∙ ap not there

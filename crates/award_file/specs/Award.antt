@@ -59,6 +59,7 @@ AreNamedApart bidders = IsDistinct bytes_eq (names_of bidders)
 
 -- what an award keeps
 pub record IsAward (terms : Terms) : Type 0 where
+  pub version : (1 ≤ terms.version) × (terms.version ≤ 2)
   pub supply : IsSupply terms.supply
   pub points : length terms.points ≡ length terms.supply
   pub most_points : All (λ p. p ≤ 10000) terms.points
@@ -75,8 +76,9 @@ abbrev pub entrant_with : List ℕ → ℕ → List ℕ → Entrant
 entrant_with name eligibility holding = record { name = name; eligibility = eligibility; holding = holding }
 
 -- the award of these parts
-abbrev pub terms_with : List ℕ → List ℕ → List ℕ → Steps → List Entrant → List SpectrumRule → Terms
-terms_with supply points reserves steps bidders rules = record {
+abbrev pub terms_with : ℕ → List ℕ → List ℕ → List ℕ → Steps → List Entrant → List SpectrumRule → Terms
+terms_with version supply points reserves steps bidders rules = record {
+  version = version;
   supply = supply;
   points = points;
   reserves = reserves;

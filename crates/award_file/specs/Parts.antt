@@ -33,4 +33,4 @@ counts categories = map (λ c. c.supply) categories
 
 -- the terms of these parts
 abbrev pub terms_value : Parts → Terms
-terms_value p = terms_from p.tick (category_values p.categories.items) p.thresholds.items (rule_values p.caps.items) p.bidders
+terms_value p = terms_from p.version p.tick (category_values p.categories.items) p.thresholds.items (rule_values p.caps.items) p.bidders

@@ -5,4 +5,4 @@ use Rattle.award_file.specs.Award.{terms_with}
 use Rattle.award_file.specs.Fields.{rule_values}
 
 abbrev pub terms_value : Inside → Terms
-terms_value a = terms_with a.supply a.points.items a.reserves.items a.steps a.bidders (rule_values a.caps.items)
+terms_value a = terms_with a.version a.supply a.points.items a.reserves.items a.steps a.bidders (rule_values a.caps.items)

@@ -195,9 +195,9 @@ caps_fault categories t = list_fault 15 (tables_fault (cap_fault categories) lim
 abbrev pub top_keys : List (List ℕ)
 top_keys = codes "version" ∷ codes "tick" ∷ codes "category" ∷ codes "bidder" ∷ codes "step" ∷ codes "cap" ∷ []
 
--- the version, which is 1
+-- the version, 1 or 2
 abbrev pub version_at : Members → Option ℕ
-version_at t = number_at 1 1 (codes "version") t
+version_at t = number_at 1 2 (codes "version") t
 
 -- a tick of 1 to 2^36
 abbrev pub tick_at : Members → Option ℕ
@@ -261,8 +261,9 @@ abbrev pub entrants_of : ℕ → Members → List Entrant
 entrants_of categories t = map (entrant_of categories) (unwrap_or (bidders_at t) [])
 
 -- the terms of these parts
-abbrev pub terms_from : ℕ → List Category → List (ℕ × ℕ) → List SpectrumRule → List Entrant → Terms
-terms_from tick categories thresholds rules bidders = record {
+abbrev pub terms_from : ℕ → ℕ → List Category → List (ℕ × ℕ) → List SpectrumRule → List Entrant → Terms
+terms_from version tick categories thresholds rules bidders = record {
+  version = version;
   supply = map (λ c. c.supply) categories;
   points = map (λ c. c.points) categories;
   reserves = map (λ c. c.reserve) categories;
@@ -272,6 +273,6 @@ terms_from tick categories thresholds rules bidders = record {
   bidders = bidders;
 }
 
--- the terms of an award; its version and the names of its categories have no part in them
+-- the terms of an award; the names of its categories have no part in them
 abbrev pub terms_of : Members → Terms
-terms_of t = terms_from (unwrap_or (tick_at t) 0) (categories_of t) (thresholds_of t) (rules_of (category_count t) t) (entrants_of (category_count t) t)
+terms_of t = terms_from (unwrap_or (version_at t) 0) (unwrap_or (tick_at t) 0) (categories_of t) (thresholds_of t) (rules_of (category_count t) t) (entrants_of (category_count t) t)

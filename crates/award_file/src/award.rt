@@ -1,6 +1,6 @@
 // Awards, and the calls that read them.
 ghost use Rattle.std.specs.Prelude.{◌≡◌, ℕ, ◌≤◌, ◌<◌, length, option_map};
-ghost use Rattle.auction_rules.specs.Terms.{broken_rule, entrant};
+ghost use Rattle.auction_rules.specs.Terms.{broken_rule, entrant, final_cap};
 ghost use Rattle.award_file.specs.Award.{IsAward, number_of, steps_of, terms_with};
 ghost use Rattle.award_file.specs.Fields.{fault_value, rule_values};
 
@@ -13,6 +13,7 @@ use std::marker::Model;
 /// The settings of an award. Bidders are numbered from 1, in the order of the award.
 #[derive(Drop)]
 pub struct Award {
+    version: u8,
     supply: Supply,
     points: Vec<u32>,
     reserves: Vec<u64>,
@@ -36,6 +37,7 @@ impl Model for Award {
 impl Award {
     /// The award of these parts.
     pub(crate) fn from_parts(
+        version: u8,
         supply: Supply,
         points: Vec<u32>,
         reserves: Vec<u64>,
@@ -43,10 +45,11 @@ impl Award {
         bidders: Entrants,
         caps: Vec<SpectrumCap>,
     ) -> Award
-        requires { IsAward (terms_with supply points.items reserves.items steps bidders (rule_values caps.items)) }
-        ensures { result ≡ terms_with supply points.items reserves.items steps bidders (rule_values caps.items) }
+        requires { IsAward (terms_with version supply points.items reserves.items steps bidders (rule_values caps.items)) }
+        ensures { result ≡ terms_with version supply points.items reserves.items steps bidders (rule_values caps.items) }
     {
         Award {
+            version,
             supply,
             points,
             reserves,
@@ -54,6 +57,21 @@ impl Award {
             bidders,
             caps,
         }
+    }
+
+    /// The version of the award: 1, or 2 with a final cap.
+    pub fn version(&self) -> u8
+        ensures version { result ≡ self.now.version }
+        ensures either { (1 ≤ result) × (result ≤ 2) }
+    {
+        self.version
+    }
+
+    /// Whether the caps of sealed bids count the final cap too, as in an award of version 2.
+    pub fn final_cap(&self) -> bool
+        ensures { result ≡ final_cap self.now }
+    {
+        self.version == 2
     }
 
     /// What is sold.

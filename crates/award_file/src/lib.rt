@@ -8,9 +8,9 @@ mod entrants;
 mod read;
 mod steps;
 
-pub use limits::LimitKind;
 pub use award::Award;
 pub use caps::CapFault;
+pub use limits::LimitKind;
 pub use read::{AwardStop, read_award};
 pub use steps::StepTable;
 

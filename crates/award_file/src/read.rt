@@ -18,10 +18,10 @@ mod spectrum_caps;
 use crate::caps::SpectrumCap;
 use crate::entrants::Entrants;
 use crate::{Award, StepTable};
-use limits::LimitKind;
 use bidders::read_bidders;
 use categories::{Category, read_categories};
 use fields::{broken_top, has_other, number_at};
+use limits::LimitKind;
 use lots::{LotStop, Supply};
 use price_steps::read_steps;
 use spectrum_caps::read_caps;
@@ -31,8 +31,11 @@ use toml::value::Table;
 /// The keys of the top.
 const TOP_KEYS: [&str; 6] = ["version", "tick", "category", "bidder", "step", "cap"];
 
-/// The version of award files.
-const VERSION: u64 = 1;
+/// The first version of award files.
+const FIRST_VERSION: u64 = 1;
+
+/// The last version of award files.
+const LAST_VERSION: u64 = 2;
 
 /// The greatest tick, 2^36.
 const MOST_TICK: u64 = 1 << 36;
@@ -96,6 +99,7 @@ impl From<LotStop> for AwardStop {
 /// What a table without a broken rule states.
 #[derive(Drop)]
 struct Parts {
+    version: u8,
     tick: u64,
     categories: Vec<Category>,
     thresholds: Vec<(u64, u64)>,
@@ -136,9 +140,9 @@ fn read_parts(alloc: Global, table: &Table) -> Result<Parts, AwardStop>
     ensures ok { IfOk result (λ parts. (award_fault (table_view table.now) ≡ None) × (terms_of (table_view table.now) ≡ terms_value parts)) }
     ensures err { IfErr result (IsFault (award_fault (table_view table.now))) }
 {
-    if number_at(table, "version", VERSION, VERSION).is_none() {
+    let Some(version) = number_at(table, "version", FIRST_VERSION, LAST_VERSION) else {
         return Err(broken_top(1));
-    }
+    };
     let Some(tick) = number_at(table, "tick", 1, MOST_TICK) else {
         return Err(broken_top(2));
     };
@@ -150,6 +154,7 @@ fn read_parts(alloc: Global, table: &Table) -> Result<Parts, AwardStop>
         return Err(broken_top(18));
     }
     Ok(Parts {
+        version: version as u8,
         tick,
         categories,
         thresholds,
@@ -172,7 +177,15 @@ fn make_award(alloc: Global, parts: Parts) -> Result<Award, AwardStop>
     let points = points_of(alloc, &parts.categories)?;
     let reserves = reserves_of(alloc, &parts.categories)?;
     let steps = StepTable::new(alloc, parts.tick, &parts.thresholds)?;
-    Ok(Award::from_parts(supply, points, reserves, steps, parts.bidders, parts.caps))
+    Ok(Award::from_parts(
+        parts.version,
+        supply,
+        points,
+        reserves,
+        steps,
+        parts.bidders,
+        parts.caps,
+    ))
 }
 
 /// The supply of the categories, or the first limit that it exceeds.

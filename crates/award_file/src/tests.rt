@@ -28,6 +28,8 @@ fn tells_what_an_award_states(rt: HostRuntime) -> Result<(), Fail> {
     let Ok(award) = read_award(rt.alloc(), text.as_bytes()) else {
         panic!(rt; "this is an award");
     };
+    assert_eq!(rt; award.version(), 1);
+    assert!(rt; !award.final_cap());
     assert!(rt; award.supply().counts() == [3].as_slice());
     assert!(rt; award.points() == [1].as_slice());
     assert!(rt; award.reserves() == [10].as_slice());
@@ -42,20 +44,22 @@ fn tells_what_an_award_states(rt: HostRuntime) -> Result<(), Fail> {
     assert_eq!(rt; award.eligibility(1), 3);
     assert_eq!(rt; award.eligibility(2), 2);
     assert_eq!(rt; award.supply().categories(), 1);
-    let package = Package::new(rt.alloc(), &[3]);
-    if let Ok(package) = package {
-        assert_eq!(rt; award.cap_fault(1, &package), None);
-    }
+    let Ok(package) = Package::new(rt.alloc(), &[3]) else {
+        panic!(rt; "this is a package");
+    };
+    assert_eq!(rt; award.cap_fault(1, &package), None);
     Ok(())
 }
 
 #[test]
 fn reads_every_spelling(rt: HostRuntime) -> Result<(), Fail> {
     let text =
-        "\u{feff}'cap' = [{weight = [0, 1_000], limit = 2000}, {limit = 0x7_d1, weight = [1, 1000]}] # caps\r\n\"tick\" = 0x10\r\ncategory = [{name = 'a', supply = 1, points = 0b11, reserve = +0}, {name = '''b''', supply = 2, points = 10_000, reserve = 68719476736}]\r\nstep = [{excess = 1, permille = 1}, {excess = 1_000, permille = 1000}]\r\nversion = 1\r\n[[ bidder ]]\r\nholding = [\r\n  999, # the first category\r\n  2,\r\n]\r\neligibility = 1000000\r\nname = \"a_name_of_20_bytes__\"\r\n";
+        "\u{feff}'cap' = [{weight = [0, 1_000], limit = 2000}, {limit = 0x7_d1, weight = [1, 1000]}] # caps\r\n\"tick\" = 0x10\r\ncategory = [{name = 'a', supply = 1, points = 0b11, reserve = +0}, {name = '''b''', supply = 2, points = 10_000, reserve = 68719476736}]\r\nstep = [{excess = 1, permille = 1}, {excess = 1_000, permille = 1000}]\r\nversion = 2\r\n[[ bidder ]]\r\nholding = [\r\n  999, # the first category\r\n  2,\r\n]\r\neligibility = 1000000\r\nname = \"a_name_of_20_bytes__\"\r\n";
     let Ok(award) = read_award(rt.alloc(), text.as_bytes()) else {
         panic!(rt; "this is an award");
     };
+    assert_eq!(rt; award.version(), 2);
+    assert!(rt; award.final_cap());
     assert!(rt; award.supply().counts() == [1, 2].as_slice());
     assert!(rt; award.points() == [3, 10_000].as_slice());
     assert!(rt; award.reserves() == [0, 1 << 36].as_slice());
@@ -65,18 +69,18 @@ fn reads_every_spelling(rt: HostRuntime) -> Result<(), Fail> {
     assert_eq!(rt; award.name(1), "a_name_of_20_bytes__");
     assert_eq!(rt; award.eligibility(1), 1_000_000);
     assert_eq!(rt; award.supply().categories(), 2);
-    let package = Package::new(rt.alloc(), &[0, 0]);
-    if let Ok(package) = package {
-        // The first cap has 2 * 1000, which is its limit, and the second 999 more, which is above its limit.
-        let fault = award.cap_fault(1, &package);
-        assert_eq!(rt;
-            fault,
-            Some(CapFault {
-                number: 2,
-                limit: 2001
-            })
-        );
-    }
+    let Ok(package) = Package::new(rt.alloc(), &[0, 0]) else {
+        panic!(rt; "this is a package");
+    };
+    // The first cap has 2 * 1000, which is its limit, and the second 999 more, which is above its limit.
+    let fault = award.cap_fault(1, &package);
+    assert_eq!(rt;
+        fault,
+        Some(CapFault {
+            number: 2,
+            limit: 2001
+        })
+    );
     Ok(())
 }
 
@@ -84,11 +88,13 @@ fn reads_every_spelling(rt: HostRuntime) -> Result<(), Fail> {
 fn names_the_first_broken_rule_of_the_top(rt: HostRuntime) -> Result<(), Fail> {
     let broken = [
         ("", 1),
-        ("version = 2\ntick = 0\n", 1),
+        ("version = 0\n", 1),
+        ("version = 3\ntick = 0\n", 1),
         ("version = 1.0\n", 1),
         ("version = \"1\"\n", 1),
         ("version = 1\n", 2),
         ("version = 1\ntick = 0\n", 2),
+        ("version = 2\ntick = 0\n", 2),
         ("version = 1\ntick = -1\n", 2),
         ("version = 1\ntick = 68719476737\n", 2),
         ("version = 1\ntick = 9223372036854775807\n", 2),
@@ -291,7 +297,7 @@ fn categories(alloc: Global, supplies: &[u64]) -> Result<String, AllocError> {
 #[test]
 fn tells_the_first_limit_that_is_exceeded(rt: HostRuntime) -> Result<(), Fail> {
     let mut bidders = String::new(rt.alloc());
-    for i in 1..14u64 {
+    for i in 1..=17u64 {
         let bidder = format!(in rt.alloc(); "[[bidder]]\nname = \"b{i}\"\neligibility = 1\n")?;
         bidders.push_str(bidder.as_str())?;
     }
@@ -305,12 +311,12 @@ fn tells_the_first_limit_that_is_exceeded(rt: HostRuntime) -> Result<(), Fail> {
             Some(AwardStop::Limit(LimitKind::Lots, 41)),
         ),
         (
-            [8, 8, 8, 8].as_slice(),
-            Some(AwardStop::Limit(LimitKind::States, 6561)),
+            [3, 3, 3, 3, 7, 8].as_slice(),
+            Some(AwardStop::Limit(LimitKind::States, 18432)),
         ),
         (
-            [7, 7, 7, 7].as_slice(),
-            Some(AwardStop::Limit(LimitKind::Bidders, 13)),
+            [3, 3, 3, 3, 7, 7].as_slice(),
+            Some(AwardStop::Limit(LimitKind::Bidders, 17)),
         ),
     ];
     for (supplies, wanted) in exceeding {

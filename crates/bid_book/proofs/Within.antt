@@ -13,6 +13,7 @@ use Rattle.book_form.specs.BookForm.{AreReserves, AreBids, empty_package, AreBid
 use Rattle.book_form.specs.BookLines.{Excess, Line, supply_excess, bid_excess, bidder_excess, bid_lines, bidder_line, bidder_lines, head_lines, IsBookWithinLimits}
 use Rattle.lots.specs.Limits.{IsSupply}
 use Rattle.bid_book.specs.Kept.{IsBidBook}
+use Rattle.bid_book.specs.Sound.{IsSoundBid, IsSoundBidder}
 use Rattle.bid_book.specs.Stages.{Adds, last_excess, opened}
 use Rattle.bid_book.proofs.Growth.{listed, adds_one}
 use Rattle.bid_book.proofs.SupplyLaws.{none_first, none_second, offer_of, supply_within, supply_kept}
@@ -34,18 +35,7 @@ bids_few before (b ∷ bs) none few =
     let here = bid_few (before + 1) (none_first (bid_excess (before + 1)) (first_excess (bid_lines (before + 1) bs)) none) in
     omega (arith, bids_few (before + 1) bs (none_second (bid_excess (before + 1)) (first_excess (bid_lines (before + 1) bs)) none) here)
 
--- a bid, apart from those before it
-pub record IsSoundBid (supply reserves : List ℕ) (bid : BookBid) : Type 0 where
-  pub categories : length bid.lots ≡ length supply
-  pub within : IsTrue (is_within bid.lots supply)
-  pub reserve : cost_of reserves bid.lots ≤ bid.amount
-  pub top : bid.amount ≤ 2 ^ 42
-
--- a bidder, apart from those before it
-pub record IsSoundBidder (supply reserves : List ℕ) (bidder : Bidder) : Type 0 where
-  pub few : length bidder.bids ≤ 600
-  pub each : AllByRecursion (IsSoundBid supply reserves) bidder.bids
-
+-- each bid of a bidder keeps the rules
 bids_sound : (supply reserves before : List ℕ) (bs : List BookBid) → AreBids supply reserves before bs → AllByRecursion (IsSoundBid supply reserves) bs
 bids_sound supply reserves before [] all = tt
 bids_sound supply reserves before (b ∷ bs) all =
@@ -97,6 +87,13 @@ module _ (book : Book) (found : Found book.supply book.reserves 0 book.bidders) 
   net_sound j (suc i) le =
       let bid = bid_sound j i (omega arith) in
       net_kept (bid_of book j (suc i)).amount (cost_of book.reserves (lots_of book j (suc i))) bid.reserve bid.top
+
+-- each bidder of a book within the limits keeps the rules
+pub sound : (book : Book) → IsBookWithinLimits book → AllByRecursion (IsSoundBidder book.supply book.reserves) book.bidders
+sound book is =
+    let listed_none = (parts_none (listed book) ((codes "end", None) ∷ []) is.limits).0 in
+    let parts = parts_none (head_lines book) (bidder_lines 0 book.bidders) listed_none in
+    (bidders_sound book.supply book.reserves [] book.bidders 0 is.form.bidders parts.1 (omega arith)).each
 
 -- the facts that callers use follow from the form and the limits
 pub kept : (book : Book) → IsBookWithinLimits book → IsBidBook book

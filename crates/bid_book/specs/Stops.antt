@@ -1,6 +1,7 @@
 -- Why a line is not taken, and what the numbers of a line are.
-use Rattle.std.specs.Prelude.{◌≡◌, ◌≢◌, ℕ, ◌≤◌, ◌^◌, List, [], ◌∷◌, ◌++◌}
+use Rattle.std.specs.Prelude.{◌≡◌, ◌≢◌, ℕ, ◌≤◌, List, [], ◌∷◌, ◌++◌}
 use Rattle.std.specs.List.{AllByRecursion}
+use Rattle.limits.specs.declared.TheConstants.{MOST_AMOUNT}
 use Rattle.limits.specs.declared.LimitKind.TheVariants.{Categories, Lots, States}
 use Rattle.lots.specs.declared.LotStop.{LotStop}
 use Rattle.lots.specs.declared.LotStop.TheVariants as lots
@@ -9,9 +10,9 @@ use Rattle.bid_book.specs.declared.BookStop.TheVariants as book
 use Rattle.bid_book.specs.declared.stop.LineStop.{LineStop}
 use Rattle.bid_book.specs.declared.stop.LineStop.TheVariants.{Form, Limit, Memory}
 
--- the numbers of a book's lines: none is above 2 ^ 42
+-- the numbers of a book's lines: none is above the greatest amount
 abbrev pub AreNumbers : List ℕ → Type 0
-AreNumbers ns = AllByRecursion (λ n. n ≤ 2 ^ 42) ns
+AreNumbers ns = AllByRecursion (λ n. n ≤ MOST_AMOUNT) ns
 
 -- nothing, or a space first
 abbrev pub Stops : List ℕ → Type 0

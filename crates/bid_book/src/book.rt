@@ -1,10 +1,12 @@
 // Books, and the calls that read them.
-ghost use Rattle.std.specs.Prelude.{◌≡◌, ◌≤◌, ◌<◌, [], ◌∷◌, ◌++◌, OnOk, length};
+ghost use Rattle.std.specs.Prelude.{◌≡◌, ◌≤◌, ◌<◌, [], ◌∷◌, ◌++◌, IfOk, OnOk, length};
 ghost use Rattle.auction_model.specs.Book.{bidder_of, bids_of, bid_of, lots_of, net_of};
 ghost use Rattle.bid_book.specs.Kept.{IsBidBook};
+ghost use Rattle.limits.specs.declared.TheConstants.{MOST_BIDDERS, MOST_BIDS};
 
-use crate::Name;
 use crate::better::better_among;
+use crate::gather::book_bidders;
+use crate::{Bidders, Name, Reserves};
 use lots::{Bid, Supply};
 use std::alloc::{AllocError, Global};
 use std::marker::Model;
@@ -25,6 +27,15 @@ pub struct Entry {
 pub struct BookBidder {
     name: Name,
     bids: Vec<Entry>,
+}
+
+impl BookBidder {
+    /// The bidder of this name with these bids.
+    pub fn new(name: Name, bids: Vec<Entry>) -> BookBidder
+        ensures { (result.name ≡ name) × (result.bids ≡ bids) }
+    {
+        BookBidder { name, bids }
+    }
 }
 
 /// A book: what is sold, the reserves, and the bids of each bidder in the order of their packages. It keeps the rules of
@@ -57,6 +68,28 @@ impl BidBook {
     ghost use Rattle.lots.specs.Limits.{IsSupply};
     ghost use Rattle.bid_book.specs.Stages.{bidder_with, opened, with_bid, with_bidders};
     ghost use Rattle.bid_book.specs.Better.{IsBetter};
+    ghost use Rattle.bid_book.specs.Lists.{book_of};
+
+    /// The book of this supply, these reserves and these bidders. The condition is that they keep the rules of a book's text and
+    /// all limits: a reserve for each category, names that differ, and the bids of each bidder in the order of their packages,
+    /// each within the supply and at least at the reserve. The only error is want of memory.
+    pub fn from_lists(
+        alloc: Global,
+        supply: Supply,
+        reserves: Reserves,
+        bidders: Bidders,
+    ) -> Result<BidBook, AllocError>
+        requires { IsBookWithinLimits (book_of supply reserves bidders) }
+        ensures { IfOk result (λ book. book ≡ book_of supply reserves bidders) }
+    {
+        let reserves = reserves.into_vec();
+        let bidders = book_bidders(alloc, &supply, &reserves, bidders)?;
+        Ok(BidBook {
+            supply,
+            reserves,
+            bidders,
+        })
+    }
 
     /// The book of this supply with these reserves, before its first bidder.
     pub(crate) fn open(alloc: Global, supply: Supply, reserves: Vec<u64>) -> BidBook
@@ -113,7 +146,7 @@ impl BidBook {
     /// How many bidders there are.
     pub fn bidders(&self) -> usize
         ensures bidders { result ≡ length self.now.bidders }
-        ensures most { result ≤ 16 }
+        ensures most { result ≤ MOST_BIDDERS }
         ensures kept { IsBidBook self.now }
     {
         self.bidders.len()
@@ -132,7 +165,7 @@ impl BidBook {
     pub fn bids(&self, j: u16) -> u16
         requires { (0 < j) × (j ≤ length self.now.bidders) }
         ensures bids { result ≡ length (bids_of self.now j) }
-        ensures most { result ≤ 600 }
+        ensures most { result ≤ MOST_BIDS }
     {
         let bidder = &self.bidders[j as usize - 1];
         bidder.bids.len() as u16

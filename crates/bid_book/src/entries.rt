@@ -13,14 +13,9 @@ use crate::fields::{is_name, lot_counts, numbers_behind};
 use crate::rivals::Rivals;
 use crate::stop::LineStop;
 use crate::{BidBook, LimitKind, Name};
+use limits::{MOST_BIDDERS, MOST_BIDS};
 use lots::{Bid, Package, Supply};
 use std::alloc::Global;
-
-/// The most bidders of a book.
-const MOST_BIDDERS: usize = 16;
-
-/// The most bids of a bidder.
-const MOST_BIDS: u16 = 600;
 
 /// Takes the line of a bidder or of a bid.
 pub fn take_entry(
@@ -55,7 +50,7 @@ fn take_bidder(alloc: Global, book: &mut BidBook, name: &[u8]) -> Result<(), Lin
         return Err(LineStop::Form);
     }
     if book.bidders() >= MOST_BIDDERS {
-        return Err(LineStop::Limit(LimitKind::Bidders, 17));
+        return Err(LineStop::Limit(LimitKind::Bidders, MOST_BIDDERS as u64 + 1));
     }
     let name = Name::new(alloc, text)?;
     book.add_bidder(alloc, name)?;
@@ -101,7 +96,7 @@ fn take_bid(
     }
     let entry = read_bid(alloc, book, line)?;
     if book.bids(book.bidders() as u16) >= MOST_BIDS {
-        return Err(LineStop::Limit(LimitKind::Bids, 601));
+        return Err(LineStop::Limit(LimitKind::Bids, MOST_BIDS as u64 + 1));
     }
     let rival = rivals.take(book.supply(), &entry.bid.package, entry.net)?;
     book.add_bid(entry, rival)?;

@@ -1,24 +1,17 @@
 // The fields of a line.
-ghost use Rattle.std.specs.Prelude.{IfNone, IfOk, IfSome, IsTrue, List, drop, length, take, ℕ, ◌++◌, ◌^◌, ◌∷◌, ◌↔◌, ◌≡◌, ◌≢◌, ◌≤◌};
+ghost use Rattle.std.specs.Prelude.{IfNone, IfOk, IfSome, IsTrue, List, drop, length, take, ℕ, ◌++◌, ◌∷◌, ◌↔◌, ◌≡◌, ◌≢◌, ◌≤◌};
 ghost use Rattle.std.specs.List.{AllByRecursion};
 ghost use Rattle.std.specs.Fmt.{decimal};
 ghost use Rattle.book_form.specs.BookForm.{IsName, IsNameByte};
 ghost use Rattle.book_form.specs.BookLines.{numbers_text};
 ghost use Rattle.bid_book.specs.Stops.{AreNumbers, IsField, Stops};
+ghost use Rattle.limits.specs.declared.TheConstants.{MOST_AMOUNT, MOST_COUNT};
 
 use crate::LimitKind;
 use crate::stop::LineStop;
+use limits::{MOST_AMOUNT, MOST_COUNT, MOST_NAME_BYTES};
 use std::alloc::Global;
 use wide_num::read_natural;
-
-/// The greatest number of a book, which is the greatest amount.
-const MOST_AMOUNT: u128 = 1 << 42;
-
-/// The most lots that a category may have in a text.
-const MOST_COUNT: u64 = 999;
-
-/// The most bytes of a name behind its first.
-const MORE_NAME_BYTES: usize = 19;
 
 /// The numbers of a line behind its word, each behind one space.
 pub fn numbers_behind(alloc: Global, word: &[u8], line: &[u8]) -> Result<Vec<u64>, LineStop>
@@ -80,19 +73,19 @@ fn field_len(text: &[u8]) -> usize
 
 /// The number that a field spells, where it is one of a book.
 fn read_number(field: &[u8]) -> Option<u64>
-    ensures found { IfSome result (λ n. (n ≤ 2 ^ 42) × (field.now ≡ decimal n)) }
-    ensures none { IfNone result ((n : ℕ) → n ≤ 2 ^ 42 → field.now ≡ decimal n → ⊥) }
+    ensures found { IfSome result (λ n. (n ≤ MOST_AMOUNT) × (field.now ≡ decimal n)) }
+    ensures none { IfNone result ((n : ℕ) → n ≤ MOST_AMOUNT → field.now ≡ decimal n → ⊥) }
 {
     match read_natural(field) {
-        Some(n) if n <= MOST_AMOUNT => Some(n as u64),
+        Some(n) if n <= MOST_AMOUNT as u128 => Some(n as u64),
         _ => None,
     }
 }
 
 /// The numbers as counts of lots.
 pub fn lot_counts(alloc: Global, numbers: &[u64]) -> Result<Vec<u16>, LineStop>
-    ensures ok { IfOk result (λ v. (v.items ≡ numbers.now) × AllByRecursion (λ n. n ≤ 999) numbers.now) }
-    ensures form { result ≡ Err LineStop.Form → AllByRecursion (λ n. n ≤ 999) numbers.now → ⊥ }
+    ensures ok { IfOk result (λ v. (v.items ≡ numbers.now) × AllByRecursion (λ n. n ≤ MOST_COUNT) numbers.now) }
+    ensures form { result ≡ Err LineStop.Form → AllByRecursion (λ n. n ≤ MOST_COUNT) numbers.now → ⊥ }
     ensures no_limit { (kind : LimitKind) (count : ℕ) → result ≡ Err (LineStop.Limit kind count) → ⊥ }
 {
     let mut counts = Vec::with_capacity(alloc, numbers.len())?;
@@ -112,7 +105,7 @@ pub fn is_name(text: &[u8]) -> bool
     match text {
         [first, rest @ ..] => first.is_ascii_lowercase()
             && are_name_bytes(rest)
-            && rest.len() <= MORE_NAME_BYTES,
+            && rest.len() < MOST_NAME_BYTES,
         [] => false,
     }
 }

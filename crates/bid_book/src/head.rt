@@ -1,19 +1,18 @@
 // The lines that stand before the bidders.
-ghost use Rattle.std.specs.Prelude.{IfOk, IsTrue, List, None, Some, ℕ, ◌^◌, ◌↔◌, ◌≡◌, ◌≤◌};
+ghost use Rattle.std.specs.Prelude.{IfOk, IsTrue, List, None, Some, ℕ, ◌↔◌, ◌≡◌, ◌≤◌};
 ghost use Rattle.std.specs.List.{AllByRecursion};
 ghost use Rattle.book_form.specs.BookForm.{IsOffer};
 ghost use Rattle.book_form.specs.BookLines.{supply_line};
 ghost use Rattle.bid_book.specs.Stages.{Step, excess};
+ghost use Rattle.limits.specs.declared.TheConstants.{MOST_PRICE};
 
 use crate::fields::{lot_counts, numbers_behind};
 use crate::read::Stage;
 use crate::stop::LineStop;
 use crate::{BidBook, LimitKind};
+use limits::MOST_PRICE;
 use lots::Supply;
 use std::alloc::Global;
-
-/// The greatest reserve of a lot, 2^36.
-const MOST_RESERVE: u64 = 1 << 36;
 
 /// Takes the first line.
 pub fn take_first(line: &[u8]) -> Result<Stage, LineStop>
@@ -72,10 +71,10 @@ pub fn take_reserve(alloc: Global, supply: Supply, line: &[u8]) -> Result<BidBoo
 
 /// Whether no number is above the greatest reserve.
 fn are_reserves(numbers: &[u64]) -> bool
-    ensures { IsTrue result ↔ AllByRecursion (λ n. n ≤ 2 ^ 36) numbers.now }
+    ensures { IsTrue result ↔ AllByRecursion (λ n. n ≤ MOST_PRICE) numbers.now }
 {
     for number in numbers {
-        if *number > MOST_RESERVE {
+        if *number > MOST_PRICE {
             return false;
         }
     }

@@ -2,20 +2,25 @@
 #![tactic(auto)]
 
 mod better;
+mod bidders;
 mod book;
 mod entries;
 mod fields;
+mod gather;
 mod head;
 mod laws;
+mod lists;
 mod name;
 mod read;
 mod rivals;
 mod stop;
 
-pub use limits::LimitKind;
+pub use bidders::{BidderBids, Bidders};
 pub use book::BidBook;
 pub use fields::is_name;
 pub use laws::{one_book, one_text};
+pub use limits::LimitKind;
+pub use lists::{BidList, Reserves};
 pub use name::Name;
 pub use read::read_book;
 

@@ -1,9 +1,7 @@
 // Guesses which earlier bid of a bidder makes the next one needless. Nothing is proved of a guess: whoever asks tests it.
+use limits::{MOST_CATEGORIES, MOST_STATES};
 use lots::{Package, Supply};
 use std::alloc::{AllocError, Global};
-
-/// The most places of a supply.
-const MOST_PLACES: usize = 16384;
 
 /// The bids of one bidder so far. They come in the order of their places.
 #[derive(Drop)]
@@ -13,7 +11,7 @@ pub struct Rivals {
     /// For each place up to that of the last bid the number of the bid that is worth most of those that fit there, or 0.
     best: Vec<u16>,
     /// The counts of the place behind these.
-    next: [u16; 6],
+    next: [u16; MOST_CATEGORIES],
 }
 
 impl Rivals {
@@ -22,7 +20,7 @@ impl Rivals {
         Rivals {
             nets: Vec::new(alloc),
             best: Vec::new(alloc),
-            next: [0; 6],
+            next: [0; MOST_CATEGORIES],
         }
     }
 
@@ -30,7 +28,7 @@ impl Rivals {
     pub fn clear(&mut self) {
         self.nets.clear();
         self.best.clear();
-        self.next = [0; 6];
+        self.next = [0; MOST_CATEGORIES];
     }
 
     /// The earlier bid that is worth most of those that are no larger, or 0; then this bid is one of them.
@@ -41,13 +39,13 @@ impl Rivals {
         net: i128,
     ) -> Result<u16, AllocError> {
         let place = place_among(supply.counts(), package.counts());
-        for _place in self.best.len()..MOST_PLACES.min(place) {
+        for _place in self.best.len()..(MOST_STATES as usize).min(place) {
             self.add_place(supply)?;
         }
         let rival = best_below(&self.nets, &self.best, &self.next, supply.widths());
         self.nets.push(net)?;
         let number = if net_at(&self.nets, rival) < net {
-            self.nets.len().min(MOST_PLACES) as u16
+            self.nets.len().min(MOST_STATES as usize) as u16
         } else {
             rival
         };
@@ -77,9 +75,9 @@ fn place_among(supply: &[u16], counts: &[u16]) -> usize {
 }
 
 /// The best number of the places that have one lot less of one category than the next place.
-fn best_below(nets: &[i128], best: &[u16], next: &[u16; 6], widths: &[usize]) -> u16 {
+fn best_below(nets: &[i128], best: &[u16], next: &[u16; MOST_CATEGORIES], widths: &[usize]) -> u16 {
     let mut found = 0;
-    for i in 0..widths.len().min(6) {
+    for i in 0..widths.len().min(MOST_CATEGORIES) {
         let width = widths[i];
         if next[i] != 0 && 0 < width && width <= best.len() {
             let other = best[best.len() - width];
@@ -102,8 +100,8 @@ fn net_at(nets: &[i128], number: u16) -> i128 {
 }
 
 /// Goes on to the counts of the next place.
-fn step(counts: &mut [u16; 6], supply: &[u16]) {
-    for i in (0..supply.len().min(6)).rev() {
+fn step(counts: &mut [u16; MOST_CATEGORIES], supply: &[u16]) {
+    for i in (0..supply.len().min(MOST_CATEGORIES)).rev() {
         if counts[i] < supply[i] {
             counts[i] += 1;
             return;

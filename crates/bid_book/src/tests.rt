@@ -127,7 +127,7 @@ fn names_the_limit_that_is_exceeded_first(rt: HostRuntime) -> Result<(), Fail> {
     let supplies = [
         ("1 1 1 1 1 1 1", LimitKind::Categories, 7),
         ("41", LimitKind::Lots, 41),
-        ("7 7 7 8", LimitKind::States, 4608),
+        ("3 3 3 3 7 8", LimitKind::States, 18432),
     ];
     for (supply, kind, count) in supplies {
         let stop = stop_at(rt.alloc(), "book 1\nsupply ", supply)?;
@@ -140,18 +140,18 @@ fn names_the_limit_that_is_exceeded_first(rt: HostRuntime) -> Result<(), Fail> {
 }
 
 #[test]
-fn stops_at_the_thirteenth_bidder(rt: HostRuntime) -> Result<(), Fail> {
+fn stops_at_the_seventeenth_bidder(rt: HostRuntime) -> Result<(), Fail> {
     let mut text = String::from_str(rt.alloc(), "book 1\nsupply 1\nreserve 0\n")?;
-    for j in 1..=12u16 {
+    for j in 1..=16u16 {
         let line = format!(in rt.alloc(); "bidder b{j}\n")?;
         text.push_str(line.as_str())?;
     }
     assert_eq!(rt; stop_at(rt.alloc(), text.as_str(), "end\n")?, None);
-    let over = stop_at(rt.alloc(), text.as_str(), "bidder b13\nend\n")?;
-    assert_eq!(rt; over, Some(BookStop::Limit(LimitKind::Bidders, 13)));
-    // 26 bytes, nine lines of 10 bytes and three of 11 stand before the line whose name is used.
-    let used = stop_at(rt.alloc(), text.as_str(), "bidder b12\nend\n")?;
-    assert_eq!(rt; used, Some(BookStop::Form(149)));
+    let over = stop_at(rt.alloc(), text.as_str(), "bidder b17\nend\n")?;
+    assert_eq!(rt; over, Some(BookStop::Limit(LimitKind::Bidders, 17)));
+    // 26 bytes, nine lines of 10 bytes and seven of 11 stand before the line whose name is used.
+    let used = stop_at(rt.alloc(), text.as_str(), "bidder b16\nend\n")?;
+    assert_eq!(rt; used, Some(BookStop::Form(193)));
     Ok(())
 }
 

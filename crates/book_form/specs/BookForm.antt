@@ -1,6 +1,7 @@
 -- Which books have a text.
-use Rattle.std.specs.Prelude.{◌≡◌, ◌≢◌, ◌⊎◌, ℕ, ◌≤◌, ◌<◌, ◌^◌, IsTrue, List, [], ◌∷◌, ◌++◌, length, replicate}
+use Rattle.std.specs.Prelude.{◌≡◌, ◌≢◌, ◌⊎◌, ℕ, ◌≤◌, ◌<◌, IsTrue, List, [], ◌∷◌, ◌++◌, length, replicate}
 use Rattle.std.specs.List.{AllByRecursion}
+use Rattle.limits.specs.declared.TheConstants.{MOST_AMOUNT, MOST_COUNT, MOST_NAME_BYTES, MOST_PRICE}
 use Rattle.auction_model.specs.Package.{is_within, cost_of, ComesBefore}
 use Rattle.auction_model.specs.Book.{BookBid, Bidder, Book}
 
@@ -15,17 +16,17 @@ IsNameByte c = IsLetter c ⊎ ((48 ≤ c) × (c ≤ 57)) ⊎ (c ≡ 95)
 -- 1 to 20 bytes of letters, digits and '_', a letter first
 abbrev pub IsName : List ℕ → Type 0
 IsName [] = ⊥
-IsName (c ∷ cs) = IsLetter c × AllByRecursion IsNameByte cs × (length cs ≤ 19)
+IsName (c ∷ cs) = IsLetter c × AllByRecursion IsNameByte cs × (length cs < MOST_NAME_BYTES)
 
 -- what is sold: at least one category, each of 1 to 999 lots
 pub record IsOffer (supply : List ℕ) : Type 0 where
   pub some : 0 < length supply
-  pub each : AllByRecursion (λ n. (1 ≤ n) × (n ≤ 999)) supply
+  pub each : AllByRecursion (λ n. (1 ≤ n) × (n ≤ MOST_COUNT)) supply
 
 -- a reserve for each category
 pub record AreReserves (supply reserves : List ℕ) : Type 0 where
   pub count : length reserves ≡ length supply
-  pub each : AllByRecursion (λ n. n ≤ 2 ^ 36) reserves
+  pub each : AllByRecursion (λ n. n ≤ MOST_PRICE) reserves
 
 -- a bid that may follow one with the package before
 pub record IsBid (supply reserves before : List ℕ) (bid : BookBid) : Type 0 where
@@ -33,7 +34,7 @@ pub record IsBid (supply reserves before : List ℕ) (bid : BookBid) : Type 0 wh
   pub within : IsTrue (is_within bid.lots supply)
   pub after : ComesBefore before bid.lots
   pub reserve : cost_of reserves bid.lots ≤ bid.amount
-  pub top : bid.amount ≤ 2 ^ 42
+  pub top : bid.amount ≤ MOST_AMOUNT
 
 abbrev pub AreBids : List ℕ → List ℕ → List ℕ → List BookBid → Type 0
 AreBids supply reserves before [] = Unit {0}

@@ -5,6 +5,7 @@ use Rattle.line_text.specs.LineText.{first_excess}
 use Rattle.auction_model.specs.Place.{states_of}
 use Rattle.auction_model.specs.Book.{BookBid, Bidder, Book}
 use Rattle.book_form.specs.BookForm.{IsBook}
+use Rattle.limits.specs.declared.TheConstants.{MOST_BIDDERS, MOST_BIDS, MOST_CATEGORIES, MOST_LOTS, MOST_STATES}
 use Rattle.limits.specs.declared.LimitKind.{LimitKind}
 use Rattle.limits.specs.declared.LimitKind.TheVariants.{Categories, Lots, States, Bidders, Bids}
 
@@ -22,15 +23,15 @@ numbers_text (n ∷ ns) = 32 ∷ decimal n ++ numbers_text ns
 
 abbrev pub supply_excess : List ℕ → Option Excess
 supply_excess supply =
-    if nat_lt 6 (length supply) then Some (Categories, length supply) else
-    if nat_lt 40 (sum supply) then Some (Lots, sum supply) else
-    if nat_lt 16384 (states_of supply) then Some (States, states_of supply) else None
+    if nat_lt MOST_CATEGORIES (length supply) then Some (Categories, length supply) else
+    if nat_lt MOST_LOTS (sum supply) then Some (Lots, sum supply) else
+    if nat_lt MOST_STATES (states_of supply) then Some (States, states_of supply) else None
 
 abbrev pub bidder_excess : ℕ → Option Excess
-bidder_excess count = if nat_le count 16 then None else Some (Bidders, 17)
+bidder_excess count = if nat_le count MOST_BIDDERS then None else Some (Bidders, MOST_BIDDERS + 1)
 
 abbrev pub bid_excess : ℕ → Option Excess
-bid_excess count = if nat_le count 600 then None else Some (Bids, 601)
+bid_excess count = if nat_le count MOST_BIDS then None else Some (Bids, MOST_BIDS + 1)
 
 abbrev pub supply_line : List ℕ → Line
 supply_line supply = (codes "supply" ++ numbers_text supply, supply_excess supply)

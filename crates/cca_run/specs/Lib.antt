@@ -5,3 +5,5 @@ pub mod Outcome
 pub mod Ends
 pub mod Stops
 pub mod Words
+pub mod Gives
+pub mod Run

@@ -1,16 +1,17 @@
 -- The plan of a certificate can always be gone on with, and a line has one reading: so the reader of its lines reads just its texts.
-use Rattle.std.proofs.Common.{◌≡◌, ℕ, suc, zero, ◌<◌, Bool, true, List, [], ◌∷◌, ◌++◌, length, refl, sym, ap, subst, ◌∙◌, arith, IsTrue}
-use Rattle.std.specs.Prelude.{ℤ, pos, negsuc, replicate, ◌&&◌, not, ◌==◌, codes}
+use Rattle.std.proofs.Common.{◌≡◌, ℕ, suc, zero, ◌<◌, Bool, true, false, List, [], ◌∷◌, ◌++◌, length, refl, sym, ap, subst, ◌∙◌, arith, IsTrue}
+use Rattle.std.specs.Prelude.{ℤ, pos, negsuc, map, replicate, ◌&&◌, not, ◌==◌, codes}
 use Rattle.std.proofs.lemmas.Int.{ints}
 use Rattle.std.proofs.lemmas.Bool.{and_parts, not-true, eqb-false}
 use Rattle.line_text.specs.LineText.{IsLine, Said, Says}
 use Rattle.line_text.proofs.Runs.{Reads}
 use Rattle.line_text.proofs.OneAnswer.{one_answer}
-use Rattle.cert_form.specs.Numeral.{numeral, signed_numeral, numbers_text}
+use Rattle.text_lines.specs.Numeral.{numeral, signed_numeral, numbers_text}
 use Rattle.cert_form.specs.Plan.{Follows, Stage, StepTo, excess, begin, finish}
-use Rattle.cert_form.specs.Lines.{Line, Kind, kind, Numbers, these, signed, chosen, headed, counted, members, FitNumbers, Fits, AreNumbers, spell, over, after, after_numbers, table_plan, part_plan, unless_zero, parts_plan, rows_plan, first_size, cert_plan, IsCertText, lines}
+use Rattle.cert_form.specs.Lines.{Line, Kind, kind, Numbers, these, signed, chosen, headed, counted, members, FitNumbers, Fits, AreNumbers, spell, over, after, after_numbers, table_plan, part_plan, unless_zero, parts_plan, rows_plan, first_size, just_line, is_first_version, version_of, version_plan, body_plan, cert_plan, IsCertText, lines}
 use Rattle.cert_form.proofs.PlanReads.{follows_both, reads}
-use Rattle.cert_form.proofs.Numerals.{AreDigits, numeral_is, one_numbers}
+use Rattle.wide_num.proofs.Decimal.{AreDigits}
+use Rattle.text_lines.proofs.Numerals.{numeral_is, one_numbers}
 
 -- no line feed, as a test
 abbrev has_no_feed : List ℕ → Bool
@@ -168,21 +169,26 @@ completes (k ∷ ks) p =
     let rest = completes ks p.2 in
     (own.0 ++ rest.0, follows_both Fits after (k ∷ []) ks own.0 rest.0 own.1 rest.1)
 
-fine_cert : (b s : ℕ) → Fine (cert_plan b s)
-fine_cert b s =
+-- the lines of either version are plain
+plain_version : (first : Bool) → Plain (map just_line (version_of first))
+plain_version true = (no_feeds (codes "cert") refl, tt, tt)
+plain_version false = (no_feeds (codes "cert") refl, tt, (no_feeds (codes "limits") refl, tt, tt))
+
+fine_body : (b s : ℕ) → Fine (body_plan b s)
+fine_body b s =
     let last = fine_append (table_plan b s) (kind (codes "end") (these []) ∷ []) (plain_table (suc b) s) (no_feeds (codes "end") refl, tt, tt) in (
-      no_feeds (codes "cert") refl,
+      no_feeds (codes "den") refl,
       tt,
       (
-        no_feeds (codes "den") refl,
+        no_feeds (codes "value") refl,
         tt,
-        (
-          no_feeds (codes "value") refl,
-          tt,
-          (no_feeds (codes "choice") refl, tt, (no_feeds (codes "pay") refl, tt, (no_feeds (codes "rows") refl, tt, (no_feeds (codes "lowered") refl, tt, last)))),
-        ),
+        (no_feeds (codes "choice") refl, tt, (no_feeds (codes "pay") refl, tt, (no_feeds (codes "rows") refl, tt, (no_feeds (codes "lowered") refl, tt, last)))),
       ),
     )
+
+-- the plan of a certificate can be gone on with
+fine_cert : (b s : ℕ) → Fine (cert_plan b s)
+fine_cert b s = fine_append (version_plan b s) (body_plan b s) (plain_version (is_first_version b s)) (fine_body b s)
 
 pub cert_reads : (b s : ℕ) → Reads (λ (t : Stage Kind Line). Fine t.plan) (StepTo Fits after spell over) excess (begin (cert_plan b s)) (finish spell over) (IsCertText b s) lines
 cert_reads b s = reads Fits after spell over one_line Fine (λ k ks l ok fits. subst (λ (w : List ℕ). IsLine (w ++ numbers_text l.numbers)) (sym fits.word) (line_append k.word (numbers_text l.numbers) ok.0 (numbers_line l.numbers))) fine_after completes (cert_plan b s) (fine_cert b s)

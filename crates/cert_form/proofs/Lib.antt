@@ -1,10 +1,9 @@
 pub mod PlanReads
-pub mod Numerals
 pub mod CertReads
 pub mod Reading
+pub mod Version
 pub mod Written
 pub mod Ranges
 pub mod OneCertificate
 pub mod Laws
-pub mod Decimals
 pub mod WorkedCases

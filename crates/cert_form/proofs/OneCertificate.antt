@@ -3,7 +3,8 @@ use Rattle.std.proofs.Common.{◌≡◌, ℕ, suc, zero, ◌*◌, List, [], ◌�
 use Rattle.std.specs.Prelude.{ℤ, pos, codes}
 use Rattle.cert_form.specs.Certificate.{CertValue, WithoutValue, RowValue}
 use Rattle.cert_form.specs.Lines.{Line}
-use Rattle.cert_form.specs.CertText.{line, as_numbers, choice_line, table_lines, part_lines, row_lines, cert_lines, AreWithouts, IsCertificate}
+use Rattle.cert_form.specs.CertText.{line, as_numbers, choice_line, table_lines, part_lines, row_lines, body_lines, cert_lines, AreWithouts, IsCertificate}
+use Rattle.cert_form.proofs.Version.{version_is}
 
 -- two lists cut at the same length
 cut : (xs us ys vs : List Line) → length xs ≡ length us → xs ++ ys ≡ us ++ vs → (xs ≡ us) × (ys ≡ vs)
@@ -106,8 +107,9 @@ rows_long (x ∷ a) = omega (arith, rows_long a)
 abbrev last : CertValue → List Line
 last c = line (codes "pay") c.pay ∷ line (codes "rows") (pos (length c.rows) ∷ []) ∷ (row_lines c.rows ++ line (codes "lowered") [] ∷ (table_lines c.lowered ++ line (codes "end") [] ∷ []))
 
-pub one_certificate : (b s : ℕ) (c d : CertValue) → IsCertificate b s c → IsCertificate b s d → cert_lines c ≡ cert_lines d → c ≡ d
-one_certificate b s c d g h e =
+-- what stands behind the version says it all
+one_body : (b s : ℕ) (c d : CertValue) → IsCertificate b s c → IsCertificate b s d → body_lines c ≡ body_lines d → c ≡ d
+one_body b s c d g h e =
     let dens : line (codes "den") (c.den ∷ []) ≡ line (codes "den") (d.den ∷ []) = cc in
     let values : line (codes "value") (c.value ∷ []) ≡ line (codes "value") (d.value ∷ []) = cc in
     let choices : choice_line c.choice ≡ choice_line d.choice = cc in
@@ -148,3 +150,6 @@ one_certificate b s c d g h e =
         let tables : table_lines c.lowered ++ line (codes "end") [] ∷ [] ≡ table_lines d.lowered ++ line (codes "end") [] ∷ [] = cc (rows.1) in
         let lowered = cut (table_lines c.lowered) (table_lines d.lowered) _ _ (omega (arith, table_long c.lowered, table_long d.lowered, g.lowered.0, h.lowered.0)) tables in
         (numbers_of _ _ pays, rows_same c.rows d.rows rows.0, table_same c.lowered d.lowered lowered.0)
+
+pub one_certificate : (b s : ℕ) (c d : CertValue) → IsCertificate b s c → IsCertificate b s d → cert_lines c ≡ cert_lines d → c ≡ d
+one_certificate b s c d g h e = one_body b s c d g h (cut _ _ (body_lines c) (body_lines d) (ap length (version_is b s c g ∙ sym (version_is b s d h))) e).1

@@ -1,18 +1,26 @@
 -- No line of a certificate is out of range, and so its lines are a text that states it.
-use Rattle.std.proofs.Common.{◌≡◌, ℕ, suc, zero, ◌+◌, ◌≤◌, ◌<◌, ◌^◌, Bool, false, cond, Some, None, List, [], ◌∷◌, ◌++◌, length, refl, ap, ◌∙◌, arith}
-use Rattle.std.specs.Prelude.{ℤ, pos, codes, unsigned_abs}
+use Rattle.std.proofs.Common.{◌≡◌, ℕ, suc, zero, ◌+◌, ◌≤◌, ◌<◌, ◌^◌, Bool, true, false, cond, Some, None, List, [], ◌∷◌, ◌++◌, length, refl, ap, ◌∙◌, arith}
+use Rattle.std.specs.Prelude.{ℤ, pos, codes, slice_index_or, unsigned_abs}
 use Rattle.std.proofs.lemmas.Bool.{or_from, lt-leb}
 use Rattle.std.specs.Option.{option_or}
 use Rattle.line_text.specs.LineText.{text_of, first_excess, IsTextOf}
 use Rattle.cert_form.specs.Certificate.{CertValue, WithoutValue, RowValue}
 use Rattle.cert_form.specs.Plan.{placed, next_place}
-use Rattle.cert_form.specs.Lines.{Line, spell, over, any_out, is_out, IsCertText, lines}
-use Rattle.cert_form.specs.CertText.{line, as_numbers, choice_line, table_lines, part_lines, row_lines, cert_lines, InRange, AllInRange, AtMost, IsChoice, AreTableLines, AreWithouts, AreMembers, AreRows, IsCertificate}
+use Rattle.cert_form.specs.Lines.{Line, spell, over, is_first_version, version_of, version_lines, IsCertText, lines}
+use Rattle.text_lines.specs.Range.{any_out, is_out}
+use Rattle.cert_form.specs.CertText.{line, as_numbers, choice_line, table_lines, part_lines, row_lines, body_lines, cert_lines, AtMost, IsChoice, AreTableLines, AreWithouts, AreMembers, AreRows, IsCertificate}
+use Rattle.wide_num.specs.Range.{InRange}
+use Rattle.text_lines.specs.Range.{AllInRange}
 use Rattle.cert_form.proofs.Written.{written}
 
 abbrev Within : List Line → Type 0
 Within [] = Unit {0}
 Within (l ∷ ls) = (over l ≡ false) × Within ls
+
+-- the lines of either version
+version_within : (first : Bool) → Within (version_of first)
+version_within true = (refl, tt)
+version_within false = (refl, (refl, tt))
 
 within_append : (xs ys : List Line) → Within xs → Within ys → Within (xs ++ ys)
 within_append [] ys a b = b
@@ -65,28 +73,30 @@ module _ (b s : ℕ) (small : b < 2 ^ 100) where
     (all_in_range (r.first ∷ r.second ∷ []) (h.0.range.0, (h.0.range.1, tt)), (choice_within r.choice h.0.choice, rows_within rows h.1)),
   )
 
-  cert_within : (c : CertValue) → IsCertificate b s c → Within (cert_lines c)
-  cert_within c h = (
-    refl,
+  body_within : (c : CertValue) → IsCertificate b s c → Within (body_lines c)
+  body_within c h = (
+    one_in_range c.den h.den,
     (
-      one_in_range c.den h.den,
+      one_in_range c.value h.value,
       (
-        one_in_range c.value h.value,
-        (
-          choice_within c.choice h.choice,
-          within_append ((line (codes "table") [] ∷ table_lines c.table) ++ part_lines c.withouts) _
-              (within_append (line (codes "table") [] ∷ table_lines c.table) (part_lines c.withouts) (refl, table_within c.table h.table.1) (parts_within 1 c.choice c.withouts (omega (arith, h.choice.0)) h.withouts)) (
-                all_in_range c.pay h.pay.1,
-                (
-                  one_in_range (pos (length c.rows)) (omega (arith, h.few)),
-                  within_append (row_lines c.rows) _ (rows_within c.rows h.rows)
-                      (refl, within_append (table_lines c.lowered) (line (codes "end") [] ∷ []) (table_within c.lowered h.lowered.1) (refl, tt)),
-                ),
+        choice_within c.choice h.choice,
+        within_append ((line (codes "table") [] ∷ table_lines c.table) ++ part_lines c.withouts) _
+            (within_append (line (codes "table") [] ∷ table_lines c.table) (part_lines c.withouts) (refl, table_within c.table h.table.1) (parts_within 1 c.choice c.withouts (omega (arith, h.choice.0)) h.withouts)) (
+              all_in_range c.pay h.pay.1,
+              (
+                one_in_range (pos (length c.rows)) (omega (arith, h.few)),
+                within_append (row_lines c.rows) _ (rows_within c.rows h.rows)
+                    (refl, within_append (table_lines c.lowered) (line (codes "end") [] ∷ []) (table_within c.lowered h.lowered.1) (refl, tt)),
               ),
-        ),
+            ),
       ),
     ),
   )
+
+  cert_within : (c : CertValue) → IsCertificate b s c → Within (cert_lines c)
+  cert_within c h =
+      let version = version_lines (length c.choice) (length (slice_index_or c.table 0 [])) in
+      within_append version (body_lines c) (version_within (is_first_version (length c.choice) (length (slice_index_or c.table 0 [])))) (body_within c h)
 
   -- the text of a certificate states it
   pub text_states : (c : CertValue) → IsCertificate b s c → IsTextOf (IsCertText b s) lines (text_of (lines (cert_lines c))) (cert_lines c)

@@ -1,10 +1,10 @@
--- The texts of two small certificates, written out; parts, rows and members found by their numbers; and the place of a line out of range.
-use Rattle.std.proofs.Common.{◌≡◌, ℕ, true, false, Option, Some, None, List, ◌∷◌, [], ◌++◌, codes, map, refl}
-use Rattle.std.specs.Prelude.{pos, negsuc, ◌^◌}
+-- The texts of three small certificates, written out; parts, rows and members found by their numbers; and the place of a line out of range.
+use Rattle.std.proofs.Common.{◌≡◌, true, false, Some, None, List, ◌∷◌, [], ◌++◌, codes, map, refl}
+use Rattle.std.specs.Prelude.{pos, negsuc, replicate, ◌^◌}
 use Rattle.cert_form.specs.CertText.{line}
 use Rattle.cert_form.specs.Certificate.{CertValue, RowValue, WithoutValue, is_member, part_of, row_of}
-use Rattle.cert_form.specs.Lines.{lines}
-use Rattle.cert_form.specs.Numeral.{numeral, digits_of}
+use Rattle.cert_form.specs.Lines.{is_first_version, lines}
+use Rattle.text_lines.specs.Numeral.{numeral, digits_of}
 use Rattle.cert_form.specs.Says.{cert_text}
 
 -- no bidder, and one lot
@@ -32,6 +32,34 @@ second_text : cert_text second_wins ≡ codes "cert 1\nden 2\nvalue 10\nchoice 0
     ++ codes "pay 0 14\nrows 1\nrow 2\nmult 2 -105\nchoice 1 0\nlowered\nt 0 14\nt 0 14\nt 0 0\nend\n"
 unfolding numeral digits_of
 second_text = refl
+
+-- thirteen bidders of whom none wins, and one state: a text of the second version
+abbrev thirteen : CertValue
+thirteen = record {
+  den = pos 1;
+  value = pos 0;
+  choice = replicate 13 0;
+  table = replicate 14 (pos 0 ∷ []);
+  withouts = [];
+  pay = replicate 13 (pos 0);
+  rows = [];
+  lowered = replicate 14 (pos 0 ∷ []);
+}
+
+thirteen_text : cert_text thirteen ≡ codes "cert 2\nlimits 16 16384\nden 1\nvalue 0\nchoice 0 0 0 0 0 0 0 0 0 0 0 0 0\ntable\n" ++ codes "t 0\nt 0\nt 0\nt 0\nt 0\nt 0\nt 0\nt 0\nt 0\nt 0\nt 0\nt 0\nt 0\nt 0\n"
+    ++ codes "pay 0 0 0 0 0 0 0 0 0 0 0 0 0\nrows 0\nlowered\n" ++ codes "t 0\nt 0\nt 0\nt 0\nt 0\nt 0\nt 0\nt 0\nt 0\nt 0\nt 0\nt 0\nt 0\nt 0\nend\n"
+unfolding numeral digits_of
+thirteen_text = refl
+
+-- twelve bidders and 4,096 states are of the first version, and one more of either is not
+last_of_the_first : is_first_version 12 4096 ≡ true
+last_of_the_first = refl
+
+one_bidder_more : is_first_version 13 4096 ≡ false
+one_bidder_more = refl
+
+one_state_more : is_first_version 12 4097 ≡ false
+one_state_more = refl
 
 abbrev parts : List WithoutValue
 parts = record { winner = 2; choice = 1 ∷ []; table = [] } ∷ record { winner = 4; choice = 5 ∷ []; table = [] } ∷ []

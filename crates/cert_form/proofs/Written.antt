@@ -1,12 +1,13 @@
 -- The lines of a certificate follow the plan, and none is out of range.
-use Rattle.std.proofs.Common.{◌≡◌, ℕ, suc, zero, ◌<◌, List, [], ◌∷◌, ◌++◌, length, refl, ap, ◌∙◌, arith}
+use Rattle.std.proofs.Common.{◌≡◌, ℕ, suc, zero, ◌<◌, List, [], ◌∷◌, ◌++◌, length, refl, sym, ap, subst, ◌∙◌, arith}
 use Rattle.std.specs.Prelude.{ℤ, pos, replicate, codes}
 use Rattle.std.proofs.lemmas.Int.{ints}
 use Rattle.cert_form.specs.Certificate.{CertValue, WithoutValue, RowValue}
 use Rattle.cert_form.specs.Plan.{Follows}
-use Rattle.cert_form.specs.Lines.{kind, these, signed, counted, Fits, AreNumbers, Rise, after, table_plan, part_plan, parts_plan, rows_plan, IsCertText}
-use Rattle.cert_form.specs.CertText.{line, as_numbers, choice_line, table_lines, part_lines, row_lines, cert_lines, AtMost, IsChoice, AreTableLines, AreWithouts, AreMembers, AreRows, IsCertificate}
+use Rattle.cert_form.specs.Lines.{Line, kind, these, signed, counted, Fits, AreNumbers, Rise, after, table_plan, part_plan, parts_plan, rows_plan, version_lines, version_plan, body_plan, IsCertText}
+use Rattle.cert_form.specs.CertText.{line, as_numbers, choice_line, table_lines, part_lines, row_lines, body_lines, cert_lines, AtMost, IsChoice, AreTableLines, AreWithouts, AreMembers, AreRows, IsCertificate}
 use Rattle.cert_form.proofs.PlanReads.{follows_both}
+use Rattle.cert_form.proofs.Version.{just_these, version_is}
 
 long_numbers : (ns : List ℕ) → length (as_numbers ns) ≡ length ns
 long_numbers [] = refl
@@ -60,9 +61,9 @@ some_bidder b (r ∷ rows) h some = member r.members h.0.some h.0.members
     member [] some m = absurd (omega arith)
     member (j ∷ js) some m = omega (arith, m.0, m.1)
 
--- a certificate's lines are those of the plan
-pub written : (b s : ℕ) (c : CertValue) → IsCertificate b s c → IsCertText b s (cert_lines c)
-written b s c h =
+-- the lines behind the version are those of their plan
+body_follows : (b s : ℕ) (c : CertValue) → IsCertificate b s c → Follows Fits after (body_plan b s) (body_lines c)
+body_follows b s c h =
     let rest : Follows Fits after (kind (codes "pay") (signed b) ∷ kind (codes "rows") (counted b) ∷ kind (codes "lowered") (these []) ∷ (table_plan b s ++ kind (codes "end") (these []) ∷ []))
     (line (codes "pay") c.pay ∷ line (codes "rows") (pos (length c.rows) ∷ []) ∷ (row_lines c.rows ++ line (codes "lowered") [] ∷ (table_lines c.lowered ++ line (codes "end") [] ∷ []))) = (
       record { word = refl; numbers = h.pay.0 },
@@ -80,15 +81,17 @@ written b s c h =
       (
         record { word = refl; numbers = refl },
         (
-          record { word = refl; numbers = refl },
-          (
-            record { word = refl; numbers = choice_fits b c.choice h.choice },
-            follows_both Fits after ((kind (codes "table") (these []) ∷ table_plan b s) ++ parts_plan b s 1 (as_numbers c.choice)) (kind (codes "pay") (signed b) ∷ kind (codes "rows") (counted b) ∷ kind (codes "lowered") (these []) ∷ (table_plan b s ++ kind (codes "end") (these []) ∷ []))
-                ((line (codes "table") [] ∷ table_lines c.table) ++ part_lines c.withouts) (line (codes "pay") c.pay ∷ line (codes "rows") (pos (length c.rows) ∷ []) ∷ (row_lines c.rows ++ line (codes "lowered") [] ∷ (table_lines c.lowered ++ line (codes "end") [] ∷ [])))
-                (follows_both Fits after (kind (codes "table") (these []) ∷ table_plan b s) (parts_plan b s 1 (as_numbers c.choice)) (line (codes "table") [] ∷ table_lines c.table) (part_lines c.withouts)
-                (record { word = refl; numbers = refl }, table_follows (suc b) s c.table h.table.0 h.table.1) (parts_follow b s 1 c.choice c.withouts h.withouts))
-                rest,
-          ),
+          record { word = refl; numbers = choice_fits b c.choice h.choice },
+          follows_both Fits after ((kind (codes "table") (these []) ∷ table_plan b s) ++ parts_plan b s 1 (as_numbers c.choice)) (kind (codes "pay") (signed b) ∷ kind (codes "rows") (counted b) ∷ kind (codes "lowered") (these []) ∷ (table_plan b s ++ kind (codes "end") (these []) ∷ []))
+              ((line (codes "table") [] ∷ table_lines c.table) ++ part_lines c.withouts) (line (codes "pay") c.pay ∷ line (codes "rows") (pos (length c.rows) ∷ []) ∷ (row_lines c.rows ++ line (codes "lowered") [] ∷ (table_lines c.lowered ++ line (codes "end") [] ∷ [])))
+              (follows_both Fits after (kind (codes "table") (these []) ∷ table_plan b s) (parts_plan b s 1 (as_numbers c.choice)) (line (codes "table") [] ∷ table_lines c.table) (part_lines c.withouts)
+              (record { word = refl; numbers = refl }, table_follows (suc b) s c.table h.table.0 h.table.1) (parts_follow b s 1 c.choice c.withouts h.withouts))
+              rest,
         ),
       ),
     )
+
+-- a certificate's lines are those of the plan
+pub written : (b s : ℕ) (c : CertValue) → IsCertificate b s c → IsCertText b s (cert_lines c)
+written b s c h = subst (λ (ls : List Line). IsCertText b s (ls ++ body_lines c)) (sym (version_is b s c h))
+    (follows_both Fits after (version_plan b s) (body_plan b s) (version_lines b s) (body_lines c) (just_these (version_lines b s)) (body_follows b s c h))

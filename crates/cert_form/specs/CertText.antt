@@ -1,7 +1,9 @@
 -- The lines of a certificate, and which certificates have a text. Each line is a word and numbers.
-use Rattle.std.specs.Prelude.{◌≡◌, ℕ, zero, suc, ◌^◌, ◌≤◌, ◌<◌, List, [], ◌∷◌, ◌++◌, length, codes, ℤ, pos, unsigned_abs}
+use Rattle.std.specs.Prelude.{◌≡◌, ℕ, zero, suc, ◌≤◌, ◌<◌, List, [], ◌∷◌, ◌++◌, length, codes, slice_index_or, ℤ, pos}
+pub use Rattle.wide_num.specs.Range.{InRange}
+pub use Rattle.text_lines.specs.Range.{AllInRange}
 use Rattle.cert_form.specs.Certificate.{CertValue, WithoutValue, RowValue}
-use Rattle.cert_form.specs.Lines.{Line}
+use Rattle.cert_form.specs.Lines.{Line, version_lines}
 
 -- a line of this word and these numbers
 abbrev pub line : List ℕ → List ℤ → Line
@@ -30,21 +32,17 @@ abbrev pub row_lines : List RowValue → List Line
 row_lines [] = []
 row_lines (r ∷ rows) = line (codes "row") (as_numbers r.members) ∷ line (codes "mult") (r.first ∷ r.second ∷ []) ∷ choice_line r.choice ∷ row_lines rows
 
--- the version, then all that the certificate holds, in order
-abbrev pub cert_lines : CertValue → List Line
-cert_lines c =
-    line (codes "cert") (pos 1 ∷ []) ∷ line (codes "den") (c.den ∷ []) ∷ line (codes "value") (c.value ∷ []) ∷ choice_line c.choice
+-- what stands behind the version: all that the certificate holds, in order
+abbrev pub body_lines : CertValue → List Line
+body_lines c =
+    line (codes "den") (c.den ∷ []) ∷ line (codes "value") (c.value ∷ []) ∷ choice_line c.choice
     ∷ (((line (codes "table") [] ∷ table_lines c.table) ++ part_lines c.withouts)
     ++ line (codes "pay") c.pay ∷ line (codes "rows") (pos (length c.rows) ∷ [])
     ∷ (row_lines c.rows ++ line (codes "lowered") [] ∷ (table_lines c.lowered ++ line (codes "end") [] ∷ [])))
 
--- strictly between -2^120 and 2^120
-abbrev pub InRange : ℤ → Type 0
-InRange z = unsigned_abs z < 2 ^ 120
-
-abbrev pub AllInRange : List ℤ → Type 0
-AllInRange [] = Unit {0}
-AllInRange (z ∷ zs) = InRange z × AllInRange zs
+-- The version, then all that the certificate holds. It is for as many bidders as its choice has, and for as many states as its table.
+abbrev pub cert_lines : CertValue → List Line
+cert_lines c = version_lines (length c.choice) (length (slice_index_or c.table 0 [])) ++ body_lines c
 
 -- none is greater than this
 abbrev pub AtMost : ℕ → List ℕ → Type 0

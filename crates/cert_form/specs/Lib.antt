@@ -1,5 +1,4 @@
 pub mod Certificate
-pub mod Numeral
 pub mod Plan
 pub mod Lines
 pub mod Reading

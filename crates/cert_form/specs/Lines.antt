@@ -1,6 +1,8 @@
 -- The lines of a certificate: each is a word and numbers.
-use Rattle.std.specs.Prelude.{◌≡◌, ℕ, zero, suc, ◌^◌, ◌≤◌, ◌<◌, Bool, false, ◌||◌, nat_le, Option, List, [], ◌∷◌, ◌++◌, length, codes, replicate, ℤ, pos, negsuc, ◌≤ℤ◌, ◌<ℤ◌, unsigned_abs}
-use Rattle.cert_form.specs.Numeral.{numbers_text}
+use Rattle.std.specs.Prelude.{◌≡◌, ℕ, zero, suc, ◌≤◌, ◌<◌, Bool, true, false, ◌&&◌, nat_le, map, Option, List, [], ◌∷◌, ◌++◌, length, codes, replicate, ℤ, pos, negsuc, ◌≤ℤ◌, ◌<ℤ◌, unsigned_abs}
+use Rattle.limits.specs.declared.TheConstants.{MOST_BIDDERS, MOST_STATES, FIRST_VERSION_BIDDERS, FIRST_VERSION_STATES}
+use Rattle.text_lines.specs.Numeral.{numbers_text}
+use Rattle.text_lines.specs.Range.{any_out}
 use Rattle.cert_form.specs.Plan.{Follows, placed}
 
 pub record Line : Type 0 where
@@ -10,14 +12,6 @@ pub record Line : Type 0 where
 -- the bytes of a line, its line feed left out
 abbrev pub spell : Line → List ℕ
 spell l = l.word ++ numbers_text l.numbers
-
--- not strictly between -2^120 and 2^120
-abbrev pub is_out : ℤ → Bool
-is_out n = nat_le (2 ^ 120) (unsigned_abs n)
-
-abbrev pub any_out : List ℤ → Bool
-any_out [] = false
-any_out (n ∷ ns) = is_out n || any_out ns
 
 -- a number of the line is out of range
 abbrev pub over : Line → Bool
@@ -112,11 +106,34 @@ after_numbers (members bidders) ns = []
 abbrev pub after : Kind → Line → List Kind
 after k l = after_numbers k.numbers l.numbers
 
+-- so few bidders and states that the text is of the first version
+abbrev pub is_first_version : ℕ → ℕ → Bool
+is_first_version bidders states = nat_le bidders FIRST_VERSION_BIDDERS && nat_le states FIRST_VERSION_STATES
+
+-- the version, and in the second one how many bidders and states there may be
+abbrev pub version_of : Bool → List Line
+version_of true = record { word = codes "cert"; numbers = pos 1 ∷ [] } ∷ []
+version_of false = record { word = codes "cert"; numbers = pos 2 ∷ [] } ∷ record { word = codes "limits"; numbers = pos MOST_BIDDERS ∷ pos MOST_STATES ∷ [] } ∷ []
+
+abbrev pub version_lines : ℕ → ℕ → List Line
+version_lines bidders states = version_of (is_first_version bidders states)
+
+-- just this line
+abbrev pub just_line : Line → Kind
+just_line l = kind l.word (these l.numbers)
+
+abbrev pub version_plan : ℕ → ℕ → List Kind
+version_plan bidders states = map just_line (version_lines bidders states)
+
+-- what stands behind the version
+abbrev pub body_plan : ℕ → ℕ → List Kind
+body_plan bidders states =
+    kind (codes "den") (signed 1) ∷ kind (codes "value") (signed 1) ∷ kind (codes "choice") (headed bidders states)
+    ∷ kind (codes "pay") (signed bidders) ∷ kind (codes "rows") (counted bidders) ∷ kind (codes "lowered") (these []) ∷ (table_plan bidders states ++ kind (codes "end") (these []) ∷ [])
+
 -- the plan of a certificate
 abbrev pub cert_plan : ℕ → ℕ → List Kind
-cert_plan bidders states =
-    kind (codes "cert") (these (pos 1 ∷ [])) ∷ kind (codes "den") (signed 1) ∷ kind (codes "value") (signed 1) ∷ kind (codes "choice") (headed bidders states)
-    ∷ kind (codes "pay") (signed bidders) ∷ kind (codes "rows") (counted bidders) ∷ kind (codes "lowered") (these []) ∷ (table_plan bidders states ++ kind (codes "end") (these []) ∷ [])
+cert_plan bidders states = version_plan bidders states ++ body_plan bidders states
 
 -- the lines are those of a certificate for so many bidders and states
 abbrev pub IsCertText : ℕ → ℕ → List Line → Type 0

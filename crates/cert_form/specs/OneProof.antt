@@ -2,7 +2,8 @@
 use Rattle.std.specs.Prelude.{ℕ, zero, suc, List, [], ◌∷◌, ℤ}
 use denote.Struct.Props as logic
 use Rattle.cert_form.specs.Certificate.{CertValue, WithoutValue, RowValue}
-use Rattle.cert_form.specs.CertText.{AllInRange, AtMost, AreTableLines, AreWithouts, AreMembers, AreRows, IsCertificate}
+use Rattle.cert_form.specs.CertText.{AtMost, AreTableLines, AreWithouts, AreMembers, AreRows, IsCertificate}
+use Rattle.text_lines.specs.Range.{AllInRange}
 
 AllInRange-prop : (zs : List ℤ) → IsProp (AllInRange zs)
 AllInRange-prop [] = Prim.hlevel logic.props

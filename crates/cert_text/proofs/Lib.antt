@@ -1,7 +1,3 @@
-mod Fronts
-mod Signs
-mod FieldRuns
-mod Words
 mod PlanSteps
 mod SmallNumbers
 mod JustThese

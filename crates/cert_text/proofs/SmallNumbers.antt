@@ -7,7 +7,8 @@ use Rattle.std.proofs.Math.IntN.{nat_abs}
 use Rattle.std.specs.Prelude.{ℤ, pos, negsuc, codes, ◌≤ℤ◌, ◌<ℤ◌, ◌^◌, nat_le, ◌||◌, not}
 use Rattle.std.proofs.lemmas.Int.{ints}
 use Rattle.std.proofs.lemmas.List.{take_more}
-use Rattle.cert_form.specs.Lines.{Numbers, kind, counted, members, any_out, is_out, AreNumbers, Rise, FitNumbers, rows_plan}
+use Rattle.cert_form.specs.Lines.{Numbers, kind, counted, members, AreNumbers, Rise, FitNumbers, rows_plan}
+use Rattle.text_lines.specs.Range.{any_out, is_out}
 use Rattle.cert_form.specs.CertText.{line, as_numbers, AtMost, IsChoice, AreMembers}
 use Rattle.cert_text.specs.Readers.{IsLineAt, AreChosen, Leads, Halts, LeadsChosen, IsCount, AreSmall}
 use Rattle.cert_text.specs.declared.stop.CertStop.TheVariants.{Form}

@@ -1,16 +1,37 @@
 -- The stages of a certificate's text, from what is read of each.
-use Rattle.std.proofs.Common.{◌≡◌, ℕ, List, [], ◌∷◌, ◌++◌, length, sym, subst}
+use Rattle.std.proofs.Common.{◌≡◌, ℕ, false, map, List, [], ◌∷◌, ◌++◌, length, sym, subst}
 use Rattle.std.specs.Prelude.{ℤ, pos, codes}
+use Rattle.limits.specs.declared.TheConstants.{MOST_BIDDERS, MOST_STATES}
 use Rattle.cert_form.specs.Certificate.{WithoutValue, RowValue}
-use Rattle.cert_form.specs.Lines.{Line, Kind, kind, these, signed, headed, counted, table_plan, parts_plan, rows_plan}
+use Rattle.cert_form.specs.Lines.{Line, Kind, kind, just_line, version_of, these, signed, headed, counted, table_plan, parts_plan, rows_plan}
 use Rattle.cert_form.specs.CertText.{line, choice_line, as_numbers, table_lines, part_lines, row_lines}
 use Rattle.cert_text.specs.StagePlans.{opening_plan, opening_lines, winning_kind, winning_lines, payment_plan, payment_lines, closing_plan, closing_lines}
 use Rattle.cert_text.specs.Readers.{AreChosen, Leads, Halts, LeadsChosen, HaltsChosen}
 use Rattle.cert_text.specs.declared.stop.CertStop.{CertStop}
 use Rattle.cert_text.proofs.PlanSteps.{leads_on, leads_then, halts_before, halts_later, halts_then}
 
-abbrev cert_kind : Kind
-cert_kind = kind (codes "cert") (these (pos 1 ∷ []))
+abbrev second_kind : Kind
+second_kind = kind (codes "cert") (these (pos 2 ∷ []))
+
+abbrev second_line : Line
+second_line = line (codes "cert") (pos 2 ∷ [])
+
+abbrev limits_kind : Kind
+limits_kind = kind (codes "limits") (these (pos MOST_BIDDERS ∷ pos MOST_STATES ∷ []))
+
+abbrev limits_line : Line
+limits_line = line (codes "limits") (pos MOST_BIDDERS ∷ pos MOST_STATES ∷ [])
+
+module _ (bytes : List ℕ) where
+  pub second_first : (stop : CertStop) → Halts bytes 0 (second_kind ∷ []) stop → Halts bytes 0 (map just_line (version_of false)) stop
+  second_first stop h = halts_before bytes 0 (second_kind ∷ []) stop (limits_kind ∷ []) h
+
+  module _ (n1 : ℕ) (a : Leads bytes 0 (second_kind ∷ []) n1 [] (second_line ∷ [])) where
+    pub second_second : (stop : CertStop) → Halts bytes n1 (limits_kind ∷ []) stop → Halts bytes 0 (map just_line (version_of false)) stop
+    second_second stop h = halts_then bytes 0 (second_kind ∷ []) n1 (second_line ∷ []) (limits_kind ∷ []) stop a h
+
+    pub second_done : (n2 : ℕ) → Leads bytes n1 (limits_kind ∷ []) n2 [] (limits_line ∷ []) → Leads bytes 0 (map just_line (version_of false)) n2 [] (version_of false)
+    second_done n2 b = leads_then bytes 0 (second_kind ∷ []) n1 (second_line ∷ []) (limits_kind ∷ []) n2 (limits_line ∷ []) a b
 
 abbrev den_kind : Kind
 den_kind = kind (codes "den") (signed 1)
@@ -18,30 +39,22 @@ den_kind = kind (codes "den") (signed 1)
 abbrev value_kind : Kind
 value_kind = kind (codes "value") (signed 1)
 
-abbrev cert_line : Line
-cert_line = line (codes "cert") (pos 1 ∷ [])
-
 abbrev den_line : ℤ → Line
 den_line den = line (codes "den") (den ∷ [])
 
 abbrev value_line : ℤ → Line
 value_line value = line (codes "value") (value ∷ [])
 
-module _ (bytes : List ℕ) where
-  pub opening_first : (stop : CertStop) → Halts bytes 0 (cert_kind ∷ []) stop → Halts bytes 0 opening_plan stop
-  opening_first stop h = halts_before bytes 0 (cert_kind ∷ []) stop (den_kind ∷ value_kind ∷ []) h
+module _ (bytes : List ℕ) (place : ℕ) where
+  pub opening_first : (stop : CertStop) → Halts bytes place (den_kind ∷ []) stop → Halts bytes place opening_plan stop
+  opening_first stop h = halts_before bytes place (den_kind ∷ []) stop (value_kind ∷ []) h
 
-  module _ (n1 : ℕ) (a : Leads bytes 0 (cert_kind ∷ []) n1 [] (cert_line ∷ [])) where
-    pub opening_second : (stop : CertStop) → Halts bytes n1 (den_kind ∷ []) stop → Halts bytes 0 opening_plan stop
-    opening_second stop h = halts_then bytes 0 (cert_kind ∷ []) n1 (cert_line ∷ []) (den_kind ∷ value_kind ∷ []) stop a (halts_before bytes n1 (den_kind ∷ []) stop (value_kind ∷ []) h)
+  module _ (den : ℤ) (n1 : ℕ) (a : Leads bytes place (den_kind ∷ []) n1 [] (den_line den ∷ [])) where
+    pub opening_second : (stop : CertStop) → Halts bytes n1 (value_kind ∷ []) stop → Halts bytes place opening_plan stop
+    opening_second stop h = halts_then bytes place (den_kind ∷ []) n1 (den_line den ∷ []) (value_kind ∷ []) stop a h
 
-    module _ (den : ℤ) (n2 : ℕ) (b : Leads bytes n1 (den_kind ∷ []) n2 [] (den_line den ∷ [])) where
-      pub opening_third : (stop : CertStop) → Halts bytes n2 (value_kind ∷ []) stop → Halts bytes 0 opening_plan stop
-      opening_third stop h = halts_then bytes 0 (cert_kind ∷ []) n1 (cert_line ∷ []) (den_kind ∷ value_kind ∷ []) stop a (halts_then bytes n1 (den_kind ∷ []) n2 (den_line den ∷ []) (value_kind ∷ []) stop b h)
-
-      pub opening_done : (value : ℤ) (n3 : ℕ) → Leads bytes n2 (value_kind ∷ []) n3 [] (value_line value ∷ []) → Leads bytes 0 opening_plan n3 [] (opening_lines den value)
-      opening_done value n3 c = leads_then bytes 0 (cert_kind ∷ []) n1 (cert_line ∷ []) (den_kind ∷ value_kind ∷ []) n3 (den_line den ∷ value_line value ∷ []) a
-          (leads_then bytes n1 (den_kind ∷ []) n2 (den_line den ∷ []) (value_kind ∷ []) n3 (value_line value ∷ []) b c)
+    pub opening_done : (value : ℤ) (n2 : ℕ) → Leads bytes n1 (value_kind ∷ []) n2 [] (value_line value ∷ []) → Leads bytes place opening_plan n2 [] (opening_lines den value)
+    opening_done value n2 b = leads_then bytes place (den_kind ∷ []) n1 (den_line den ∷ []) (value_kind ∷ []) n2 (value_line value ∷ []) a b
 
 abbrev named_plan : List ℕ → ℕ → ℕ → List Kind
 named_plan word bidders states = kind word (these []) ∷ table_plan bidders states

@@ -6,9 +6,12 @@ use Rattle.std.proofs.lemmas.List.{append-nil}
 use Rattle.line_text.specs.LineText.{IsLine, IsTextOf}
 use Rattle.choices.specs.Lines.{width_of}
 use Rattle.cert_form.specs.Certificate.{CertValue}
-use Rattle.cert_form.specs.Lines.{Kind, cert_plan, IsCertText, lines}
-use Rattle.cert_form.specs.CertText.{InRange, AllInRange, IsChoice, IsTable, AreWithouts, AreRows, IsCertificate, cert_lines}
+use Rattle.cert_form.specs.Lines.{Line, Kind, version_lines, version_plan, body_plan, cert_plan, IsCertText, lines}
+use Rattle.cert_form.specs.CertText.{IsChoice, IsTable, AreWithouts, AreRows, IsCertificate, body_lines, cert_lines}
+use Rattle.wide_num.specs.Range.{InRange}
+use Rattle.text_lines.specs.Range.{AllInRange}
 use Rattle.cert_form.specs.Reading.{Reached}
+use Rattle.cert_form.proofs.Version.{version_is}
 use Rattle.cert_form.proofs.Reading.{reached-start, reached-end, reached-more, reached-tail}
 use Rattle.cert_text.specs.declared.certificate.CertRow.{CertRow}
 use Rattle.cert_text.specs.declared.certificate.WithoutPart.{WithoutPart}
@@ -51,44 +54,54 @@ module _ (b s : ℕ) (bytes : List ℕ) where
   stops : (stop : CertStop) → Halts bytes 0 (cert_plan b s) stop → StopsAt b s bytes stop
   stops stop h = h.halts b s [] [] start
 
-  pub opening_stops : (stop : CertStop) → Halts bytes 0 opening_plan stop → StopsAt b s bytes stop
-  opening_stops stop h = stops stop (halts_before bytes 0 opening_plan stop (winning_kind b s ∷ (payment_plan b ++ closing_plan b s)) h)
+  pub version_stops : (stop : CertStop) → Halts bytes 0 (version_plan b s) stop → StopsAt b s bytes stop
+  version_stops stop h = stops stop (halts_before bytes 0 (version_plan b s) stop (body_plan b s) h)
 
-  module _ (den value : ℤ) (n1 : ℕ) (one : Leads bytes 0 opening_plan n1 [] (opening_lines den value)) where
-    from_winning : (stop : CertStop) → Halts bytes n1 (winning_kind b s ∷ (payment_plan b ++ closing_plan b s)) stop → StopsAt b s bytes stop
-    from_winning stop h = stops stop (halts_then bytes 0 opening_plan n1 (opening_lines den value) (winning_kind b s ∷ (payment_plan b ++ closing_plan b s)) stop one h)
+  module _ (n0 : ℕ) (zeroth : Leads bytes 0 (version_plan b s) n0 [] (version_lines b s)) where
+    from_opening : (stop : CertStop) → Halts bytes n0 (body_plan b s) stop → StopsAt b s bytes stop
+    from_opening stop h = stops stop (halts_then bytes 0 (version_plan b s) n0 (version_lines b s) (body_plan b s) stop zeroth h)
 
-    pub winning_stops : (stop : CertStop) → Halts bytes n1 (winning_kind b s ∷ []) stop → StopsAt b s bytes stop
-    winning_stops stop h = from_winning stop (halts_before bytes n1 (winning_kind b s ∷ []) stop (payment_plan b ++ closing_plan b s) h)
+    pub opening_stops : (stop : CertStop) → Halts bytes n0 opening_plan stop → StopsAt b s bytes stop
+    opening_stops stop h = from_opening stop (halts_before bytes n0 opening_plan stop (winning_kind b s ∷ (payment_plan b ++ closing_plan b s)) h)
 
-    module _ (choice : List ℕ) (table : List (List ℤ)) (withouts : List WithoutPart) (n2 : ℕ) (two : Leads bytes n1 (winning_kind b s ∷ []) n2 [] (winning_lines choice table (map without_value withouts))) where
-      from_payments : (stop : CertStop) → Halts bytes n2 (payment_plan b ++ closing_plan b s) stop → StopsAt b s bytes stop
-      from_payments stop h = from_winning stop (halts_then bytes n1 (winning_kind b s ∷ []) n2 (winning_lines choice table (map without_value withouts)) (payment_plan b ++ closing_plan b s) stop two h)
+    module _ (den value : ℤ) (n1 : ℕ) (one : Leads bytes n0 opening_plan n1 [] (opening_lines den value)) where
+      from_winning : (stop : CertStop) → Halts bytes n1 (winning_kind b s ∷ (payment_plan b ++ closing_plan b s)) stop → StopsAt b s bytes stop
+      from_winning stop h = from_opening stop (halts_then bytes n0 opening_plan n1 (opening_lines den value) (winning_kind b s ∷ (payment_plan b ++ closing_plan b s)) stop one h)
 
-      pub payment_stops : (stop : CertStop) → Halts bytes n2 (payment_plan b) stop → StopsAt b s bytes stop
-      payment_stops stop h = from_payments stop (halts_before bytes n2 (payment_plan b) stop (closing_plan b s) h)
+      pub winning_stops : (stop : CertStop) → Halts bytes n1 (winning_kind b s ∷ []) stop → StopsAt b s bytes stop
+      winning_stops stop h = from_winning stop (halts_before bytes n1 (winning_kind b s ∷ []) stop (payment_plan b ++ closing_plan b s) h)
 
-      module _ (pay : List ℤ) (rows : List CertRow) (n3 : ℕ) (three : Leads bytes n2 (payment_plan b) n3 [] (payment_lines pay (map row_value rows))) where
-        pub closing_stops : (stop : CertStop) → Halts bytes n3 (closing_plan b s) stop → StopsAt b s bytes stop
-        closing_stops stop h = from_payments stop (halts_then bytes n2 (payment_plan b) n3 (payment_lines pay (map row_value rows)) (closing_plan b s) stop three h)
+      module _ (choice : List ℕ) (table : List (List ℤ)) (withouts : List WithoutPart) (n2 : ℕ) (two : Leads bytes n1 (winning_kind b s ∷ []) n2 [] (winning_lines choice table (map without_value withouts))) where
+        from_payments : (stop : CertStop) → Halts bytes n2 (payment_plan b ++ closing_plan b s) stop → StopsAt b s bytes stop
+        from_payments stop h = from_winning stop (halts_then bytes n1 (winning_kind b s ∷ []) n2 (winning_lines choice table (map without_value withouts)) (payment_plan b ++ closing_plan b s) stop two h)
 
-        module _ (lowered : List (List ℤ)) (n4 : ℕ) (four : Leads bytes n3 (closing_plan b s) n4 [] (closing_lines lowered)) where
-          abbrev value_read : CertValue
-          value_read = cert_from den value choice table withouts pay rows lowered
+        pub payment_stops : (stop : CertStop) → Halts bytes n2 (payment_plan b) stop → StopsAt b s bytes stop
+        payment_stops stop h = from_payments stop (halts_before bytes n2 (payment_plan b) stop (closing_plan b s) h)
 
-          whole : Leads bytes 0 (cert_plan b s) n4 [] (cert_lines value_read)
-          whole = leads_then bytes 0 opening_plan n1 (opening_lines den value) (winning_kind b s ∷ (payment_plan b ++ closing_plan b s)) n4 (winning_lines choice table (map without_value withouts) ++ (payment_lines pay (map row_value rows) ++ closing_lines lowered)) one
-              (leads_then bytes n1 (winning_kind b s ∷ []) n2 (winning_lines choice table (map without_value withouts)) (payment_plan b ++ closing_plan b s) n4 (payment_lines pay (map row_value rows) ++ closing_lines lowered) two
-              (leads_then bytes n2 (payment_plan b) n3 (payment_lines pay (map row_value rows)) (closing_plan b s) n4 (closing_lines lowered) three four))
+        module _ (pay : List ℤ) (rows : List CertRow) (n3 : ℕ) (three : Leads bytes n2 (payment_plan b) n3 [] (payment_lines pay (map row_value rows))) where
+          pub closing_stops : (stop : CertStop) → Halts bytes n3 (closing_plan b s) stop → StopsAt b s bytes stop
+          closing_stops stop h = from_payments stop (halts_then bytes n2 (payment_plan b) n3 (payment_lines pay (map row_value rows)) (closing_plan b s) stop three h)
 
-          reached : Reached b s bytes n4 [] (cert_lines value_read)
-          reached = whole.leads b s [] [] start
+          module _ (lowered : List (List ℤ)) (n4 : ℕ) (four : Leads bytes n3 (closing_plan b s) n4 [] (closing_lines lowered)) where
+            abbrev value_read : CertValue
+            value_read = cert_from den value choice table withouts pay rows lowered
 
-          pub end_stops : (stop : CertStop) → HaltsAtEnd bytes n4 stop → StopsAt b s bytes stop
-          end_stops stop h = h b s (cert_lines value_read) reached
+            body : Leads bytes n0 (body_plan b s) n4 [] (body_lines value_read)
+            body = leads_then bytes n0 opening_plan n1 (opening_lines den value) (winning_kind b s ∷ (payment_plan b ++ closing_plan b s)) n4 (winning_lines choice table (map without_value withouts) ++ (payment_lines pay (map row_value rows) ++ closing_lines lowered)) one
+                (leads_then bytes n1 (winning_kind b s ∷ []) n2 (winning_lines choice table (map without_value withouts)) (payment_plan b ++ closing_plan b s) n4 (payment_lines pay (map row_value rows) ++ closing_lines lowered) two
+                (leads_then bytes n2 (payment_plan b) n3 (payment_lines pay (map row_value rows)) (closing_plan b s) n4 (closing_lines lowered) three four))
 
-          pub text_read : length (drop n4 bytes) ≡ 0 → IsTextOf (IsCertText b s) lines bytes (cert_lines value_read)
-          text_read none = reached-end b s bytes n4 (cert_lines value_read) reached none
+            whole : Leads bytes 0 (cert_plan b s) n4 [] (version_lines b s ++ body_lines value_read)
+            whole = leads_then bytes 0 (version_plan b s) n0 (version_lines b s) (body_plan b s) n4 (body_lines value_read) zeroth body
+
+            reached : Reached b s bytes n4 [] (version_lines b s ++ body_lines value_read)
+            reached = whole.leads b s [] [] start
+
+            pub end_stops : (stop : CertStop) → HaltsAtEnd bytes n4 stop → StopsAt b s bytes stop
+            end_stops stop h = h b s (version_lines b s ++ body_lines value_read) reached
+
+            pub text_read : IsCertificate b s value_read → length (drop n4 bytes) ≡ 0 → IsTextOf (IsCertText b s) lines bytes (cert_lines value_read)
+            text_read is none = reached-end b s bytes n4 (cert_lines value_read) (subst (λ (ls : List Line). Reached b s bytes n4 [] (ls ++ body_lines value_read)) (sym (version_is b s value_read is)) reached) none
 
 -- what was read of each stage makes a certificate
 pub made : (b s : ℕ) (den value : ℤ) (choice : List ℕ) (table : List (List ℤ)) (withouts : List WithoutPart) (pay : List ℤ) (rows : List CertRow) (lowered : List (List ℤ)) → InRange den × InRange value → IsChoice b choice → IsTable b s table

@@ -1,7 +1,6 @@
 pub mod Parts
 pub mod CertValues
 pub mod Stops
-pub mod Fields
 pub mod Readers
 pub mod PartReads
 pub mod StagePlans

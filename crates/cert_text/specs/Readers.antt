@@ -1,18 +1,13 @@
 -- What a line is read as, and where the reader then stands.
 use Rattle.std.specs.Prelude.{◌≡◌, ℕ, ◌+◌, ◌≤◌, ◌<◌, Bool, false, List, [], ◌∷◌, codes, ◌++◌, length, take, drop, ℤ}
 use Rattle.line_text.specs.LineText.{IsLine}
-use Rattle.cert_form.specs.Numeral.{numbers_text}
-use Rattle.cert_form.specs.Lines.{Line, Kind, Numbers, chosen, counted, kind, any_out, FitNumbers, AreNumbers, after_numbers}
+use Rattle.text_lines.specs.Numeral.{numbers_text}
+use Rattle.cert_form.specs.Lines.{Line, Kind, Numbers, chosen, counted, kind, FitNumbers, AreNumbers, after_numbers}
+use Rattle.text_lines.specs.Range.{any_out}
 use Rattle.cert_form.specs.CertText.{as_numbers, choice_line}
 use Rattle.cert_form.specs.Reading.{Reached}
-use Rattle.cert_text.specs.Fields.{HasNumbers}
 use Rattle.cert_text.specs.Stops.{StopsAt}
 use Rattle.cert_text.specs.declared.stop.CertStop.{CertStop}
-
--- the line is the word and numbers, of which this is kept
-pub record HasLine (text word : List ℕ) (items : List ℤ) (beyond : Bool) : Type 0 where
-  pub front : take (length word) text ≡ word
-  pub rest : HasNumbers (drop (length word) text) items beyond
 
 -- at the place stands a line of the word and numbers, of which this is kept
 pub record IsLineAt (bytes : List ℕ) (place : ℕ) (word : List ℕ) (items : List ℤ) (beyond : Bool) (next : ℕ) : Type 0 where

@@ -5,10 +5,10 @@ use Rattle.cert_form.specs.Lines.{Line, Kind, kind, these, signed, headed, count
 use Rattle.cert_form.specs.CertText.{line, choice_line, table_lines, part_lines, row_lines}
 
 abbrev pub opening_plan : List Kind
-opening_plan = kind (codes "cert") (these (pos 1 ∷ [])) ∷ kind (codes "den") (signed 1) ∷ kind (codes "value") (signed 1) ∷ []
+opening_plan = kind (codes "den") (signed 1) ∷ kind (codes "value") (signed 1) ∷ []
 
 abbrev pub opening_lines : ℤ → ℤ → List Line
-opening_lines den value = line (codes "cert") (pos 1 ∷ []) ∷ line (codes "den") (den ∷ []) ∷ line (codes "value") (value ∷ []) ∷ []
+opening_lines den value = line (codes "den") (den ∷ []) ∷ line (codes "value") (value ∷ []) ∷ []
 
 abbrev pub winning_kind : ℕ → ℕ → Kind
 winning_kind bidders states = kind (codes "choice") (headed bidders states)

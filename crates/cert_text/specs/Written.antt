@@ -1,7 +1,9 @@
 -- Lines of a certificate as bytes, and which numbers are in range.
 use Rattle.std.specs.Prelude.{◌≡◌, ℕ, ℤ, pos, List, [], ◌∷◌, ◌++◌, codes, length, map}
 use Rattle.std.specs.List.{AllByRecursion}
-use Rattle.cert_form.specs.CertText.{as_numbers, choice_line, line, part_lines, row_lines, table_lines, AllInRange, InRange}
+use Rattle.cert_form.specs.CertText.{as_numbers, choice_line, line, part_lines, row_lines, table_lines}
+use Rattle.text_lines.specs.Range.{AllInRange}
+use Rattle.wide_num.specs.Range.{InRange}
 use Rattle.cert_form.specs.Lines.{Line, spell}
 use Rattle.cert_text.specs.Parts.{row_value, without_value}
 use Rattle.cert_text.specs.declared.certificate.Certificate.{Certificate}
@@ -17,9 +19,9 @@ bytes_of (l ∷ ls) = spell l ++ 10 ∷ bytes_of ls
 abbrev pub Adds : List ℕ → List ℕ → List Line → Type 0
 Adds before behind ls = behind ≡ before ++ bytes_of ls
 
--- the version, the denominator, the value and the winning choice
+-- the denominator, the value and the winning choice
 abbrev pub lines_of_head : Certificate → List Line
-lines_of_head c = line (codes "cert") (pos 1 ∷ []) ∷ line (codes "den") (c.den ∷ []) ∷ line (codes "value") (c.value ∷ []) ∷ choice_line c.choice ∷ []
+lines_of_head c = line (codes "den") (c.den ∷ []) ∷ line (codes "value") (c.value ∷ []) ∷ choice_line c.choice ∷ []
 
 -- the word of a table, and its lines
 abbrev pub lines_of_table : List ℕ → List (List ℤ) → List Line

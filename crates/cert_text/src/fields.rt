@@ -1,7 +1,9 @@
 // The kinds of lines of a certificate.
 ghost use Rattle.std.specs.Prelude.{◌≡◌, ◌≤◌, ◌<◌, ◌↔◌, ◌∷◌, length, codes, IsTrue, IfOk, IfErr, MatchOption, [], false, pos};
-ghost use Rattle.cert_form.specs.Lines.{kind, these, signed, counted, members, any_out, rows_plan, AreNumbers};
-ghost use Rattle.cert_form.specs.CertText.{line, as_numbers, AllInRange, IsChoice, AreMembers};
+ghost use Rattle.cert_form.specs.Lines.{kind, these, signed, counted, members, rows_plan, AreNumbers};
+ghost use Rattle.text_lines.specs.Range.{any_out};
+ghost use Rattle.cert_form.specs.CertText.{line, as_numbers, IsChoice, AreMembers};
+ghost use Rattle.text_lines.specs.Range.{AllInRange};
 ghost use Rattle.cert_text.specs.Readers.{IsLineAt, Leads, Halts, LeadsChosen, HaltsChosen, HaltsSmall, IsCount, IsNoCount, AreSmall, AreNotSmall};
 
 use crate::CertStop;

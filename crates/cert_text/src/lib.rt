@@ -9,7 +9,6 @@ mod certificate;
 mod fields;
 mod lines;
 mod lists;
-mod numbers;
 mod parts;
 mod read;
 mod rows;
@@ -18,6 +17,7 @@ mod stop;
 mod tables;
 #[cfg(test)]
 mod tests;
+mod version;
 mod write;
 
 pub use certificate::{CertRow, Certificate, Shape, WithoutPart};

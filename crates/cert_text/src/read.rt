@@ -12,6 +12,7 @@ ghost use Rattle.cert_text.specs.Readers.{HaltsAtEnd};
 use crate::stages::{
     Opening, Payments, Winning, take_closing, take_opening, take_payments, take_winning,
 };
+use crate::version::take_version;
 use crate::{CertStop, Certificate, Shape};
 use choices::Grid;
 use std::alloc::Global;
@@ -25,7 +26,8 @@ pub fn read_cert(alloc: Global, bytes: &[u8], shape: Shape) -> Result<Certificat
     ensures shape { IfOk result (IsFor shape.bidders shape.states) }
     ensures stops { IfErr result (StopsAt shape.bidders shape.states bytes.now) }
 {
-    let opening = take_opening(alloc, bytes)?;
+    let begin = take_version(alloc, bytes, shape)?;
+    let opening = take_opening(alloc, bytes, begin)?;
     let winning = take_winning(alloc, bytes, opening.next, shape)?;
     let payments = take_payments(alloc, bytes, winning.next, shape.bidders)?;
     let closing = take_closing(alloc, bytes, payments.next, shape)?;

@@ -1,6 +1,8 @@
 // The stages of a certificate's text.
 ghost use Rattle.std.specs.Prelude.{◌≡◌, ◌≤◌, length, IfOk, IfErr, [], ◌∷◌, map};
-ghost use Rattle.cert_form.specs.CertText.{InRange, AllInRange, IsChoice, IsTable, AreWithouts, AreRows};
+ghost use Rattle.cert_form.specs.CertText.{IsChoice, IsTable, AreWithouts, AreRows};
+ghost use Rattle.wide_num.specs.Range.{InRange};
+ghost use Rattle.text_lines.specs.Range.{AllInRange};
 ghost use Rattle.cert_text.specs.Parts.{without_value, row_value};
 ghost use Rattle.cert_text.specs.StagePlans.{opening_plan, opening_lines, winning_kind, winning_lines, payment_plan, payment_lines, closing_plan, closing_lines};
 ghost use Rattle.cert_text.specs.Readers.{Leads, Halts};
@@ -14,7 +16,7 @@ use choices::{Choice, Grid};
 use std::alloc::Global;
 use wide_num::NumList;
 
-/// The first lines of a certificate, and where the next line begins.
+/// The denominator and the value, and where the next line begins.
 #[derive(Clone, Copy)]
 pub(crate) struct Opening {
     pub(crate) den: i128,
@@ -39,15 +41,15 @@ pub(crate) struct Payments {
     pub(crate) next: usize,
 }
 
-/// Reads the lines before the winning choice.
-pub(crate) fn take_opening(alloc: Global, bytes: &[u8]) -> Result<Opening, CertStop>
-    ensures leads { IfOk result (λ r. Leads bytes.now 0 opening_plan r.next [] (opening_lines r.den r.value)) }
+/// Reads the denominator and the value.
+pub(crate) fn take_opening(alloc: Global, bytes: &[u8], place: usize) -> Result<Opening, CertStop>
+    requires { place ≤ length bytes.now }
+    ensures leads { IfOk result (λ r. Leads bytes.now place opening_plan r.next [] (opening_lines r.den r.value)) }
     ensures range { IfOk result (λ r. InRange r.den × InRange r.value) }
     ensures within { IfOk result (λ r. r.next ≤ length bytes.now) }
-    ensures halts { IfErr result (Halts bytes.now 0 opening_plan) }
+    ensures halts { IfErr result (Halts bytes.now place opening_plan) }
 {
-    let next = take_these(alloc, bytes, 0, b"cert", &[1])?;
-    let den = take_number(alloc, bytes, next, b"den")?;
+    let den = take_number(alloc, bytes, place, b"den")?;
     let value = take_number(alloc, bytes, den.next, b"value")?;
     Ok(Opening {
         den: den.number,

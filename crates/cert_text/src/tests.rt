@@ -41,6 +41,13 @@ const PARTS: &str = "cert 1\nden 1\nvalue 0\nchoice 1 0\ntable\nt 0\nt 0\nt 0\n\
 const COUNT: &str = "cert 1\nden 1\nvalue 0\nchoice 1 0\ntable\nt 0\nt 0\nt 0\n\
     without 1\nchoice 0 0\ntable\nt 0\nt 0\nt 0\npay 0 0\nrows 1\n";
 
+/// A certificate for thirteen bidders, of whom nobody wins, and one state.
+const SECOND: &str =
+    "cert 2\nlimits 16 16384\nden 1\nvalue 0\nchoice 0 0 0 0 0 0 0 0 0 0 0 0 0\ntable\n\
+    t 0\nt 0\nt 0\nt 0\nt 0\nt 0\nt 0\nt 0\nt 0\nt 0\nt 0\nt 0\nt 0\nt 0\n\
+    pay 0 0 0 0 0 0 0 0 0 0 0 0 0\nrows 0\nlowered\n\
+    t 0\nt 0\nt 0\nt 0\nt 0\nt 0\nt 0\nt 0\nt 0\nt 0\nt 0\nt 0\nt 0\nt 0\nend\n";
+
 // Where the reader stops at the text of both parts, if it stops.
 fn stop_at(
     alloc: Global,
@@ -191,5 +198,48 @@ fn names_the_first_faulty_line_behind_the_head(rt: HostRuntime) -> Result<(), Fa
             "{rest}"
         );
     }
+    Ok(())
+}
+
+#[test]
+fn tells_the_version_by_the_shape(rt: HostRuntime) -> Result<(), Fail> {
+    let front = "cert 2\nlimits 16 16384\nden 1\nvalue 0\n";
+    // Which texts are read as far as to a choice that is missing, and at which line the others are refused.
+    let cases = [
+        (12, 4096, "cert 1\nden 1\nvalue 0\n", 21),
+        (12, 4096, front, 0),
+        (13, 4096, front, 37),
+        (12, 4097, front, 37),
+        (16, 16384, front, 37),
+        (16, 16384, "cert 1\nden 1\nvalue 0\n", 0),
+        (16, 16384, "cert 2\nden 1\nvalue 0\n", 7),
+        (16, 16384, "cert 2\nlimits 16 16385\n", 7),
+        (16, 16384, "cert 2\nlimits 12 4096\n", 7),
+        (16, 16384, "cert 2\n", 7),
+        (16, 16384, "cert 3\nlimits 16 16384\n", 0),
+    ];
+    for (bidders, states, text, place) in cases {
+        let shape = Shape { bidders, states };
+        assert_eq!(rt;
+            stop_at(rt.alloc(), shape, text, "")?,
+            Some(CertStop::Form(place)),
+            "{bidders} bidders, {states} states: {text}"
+        );
+    }
+    Ok(())
+}
+
+#[test]
+fn writes_back_a_text_of_the_second_version(rt: HostRuntime) -> Result<(), Fail> {
+    assert_eq!(rt; SECOND.len(), 237);
+    let shape = Shape {
+        bidders: 13,
+        states: 1,
+    };
+    let Ok(cert) = read_cert(rt.alloc(), SECOND.as_bytes(), shape) else {
+        panic!(rt; "this is a certificate");
+    };
+    let text = write_cert(rt.alloc(), &cert)?;
+    assert!(rt; text.items() == SECOND.as_bytes());
     Ok(())
 }

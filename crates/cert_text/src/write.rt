@@ -1,16 +1,21 @@
 // From a certificate to its text.
 ghost use Rattle.std.specs.Prelude.{◌≡◌, ◌≤◌, ◌<◌, ◌∷◌, ◌++◌, [], length, take, IfOk, OnOk};
 ghost use Rattle.std.specs.List.{AllByRecursion};
-ghost use Rattle.cert_form.specs.CertText.{as_numbers, choice_line, line, AllInRange, InRange};
-ghost use Rattle.cert_form.specs.Numeral.{numbers_text};
+ghost use Rattle.cert_form.specs.CertText.{as_numbers, choice_line, line};
+ghost use Rattle.text_lines.specs.Range.{AllInRange};
+ghost use Rattle.wide_num.specs.Range.{InRange};
+ghost use Rattle.cert_form.specs.Lines.{version_lines};
+ghost use Rattle.text_lines.specs.Numeral.{numbers_text};
 ghost use Rattle.cert_form.specs.Says.{cert_text};
 ghost use Rattle.cert_text.specs.CertValues.{cert_value};
 ghost use Rattle.cert_text.specs.Written.{lines_of_head, lines_of_part, lines_of_parts, lines_of_row, lines_of_rows, lines_of_table, Adds, ArePartsInRange, IsRowInRange, IsTableInRange};
 
+use crate::version::has_first_version;
 use crate::{CertRow, Certificate, WithoutPart};
 use choices::{Choice, Grid};
-use itoa::Buffer;
+use limits::{MOST_BIDDERS, MOST_STATES};
 use std::alloc::{AllocError, Global};
+use text_lines::{add_numbers, add_signed_numbers};
 use wide_num::Text;
 
 /// The one text of a certificate. The only error is want of memory.
@@ -18,6 +23,7 @@ pub fn write_cert(alloc: Global, cert: &Certificate) -> Result<Text, AllocError>
     ensures { IfOk result (λ text. text ≡ cert_text (cert_value cert.now)) }
 {
     let mut text = Text::new(alloc);
+    add_version(&mut text, cert.choice.numbers().len(), cert.table.width())?;
     add_head(&mut text, cert)?;
     add_table(&mut text, b"table", &cert.table)?;
     add_parts(&mut text, cert.withouts.items())?;
@@ -28,12 +34,28 @@ pub fn write_cert(alloc: Global, cert: &Certificate) -> Result<Text, AllocError>
     Ok(text)
 }
 
-// The version, the denominator, the value and the winning choice.
+// The version, and in the second one the most bidders and states.
+fn add_version(text: &mut Text, bidders: usize, states: usize) -> Result<(), AllocError>
+    ensures { OnOk result (Adds text.old text.new (version_lines bidders states)) }
+{
+    if has_first_version(bidders, states) {
+        add_signed_line(text, b"cert", &[1])?;
+        return Ok(());
+    }
+    add_signed_line(text, b"cert", &[2])?;
+    add_signed_line(
+        text,
+        b"limits",
+        &[MOST_BIDDERS as i128, MOST_STATES as i128],
+    )?;
+    Ok(())
+}
+
+// The denominator, the value and the winning choice.
 fn add_head(text: &mut Text, cert: &Certificate) -> Result<(), AllocError>
     requires { InRange cert.now.den × InRange cert.now.value }
     ensures { OnOk result (Adds text.old text.new (lines_of_head cert.now)) }
 {
-    add_signed_line(text, b"cert", &[1])?;
     add_signed_line(text, b"den", &[cert.den])?;
     add_signed_line(text, b"value", &[cert.value])?;
     add_choice(text, &cert.choice)?;
@@ -121,50 +143,6 @@ fn add_number_line(text: &mut Text, word: &[u8], numbers: &[u16]) -> Result<(), 
     text.add(word)?;
     add_numbers(text, numbers)?;
     text.push(b'\n')?;
-    Ok(())
-}
-
-// Numbers with their signs, each behind one space.
-fn add_signed_numbers(text: &mut Text, numbers: &[i128]) -> Result<(), AllocError>
-    requires { AllInRange numbers.now }
-    ensures { OnOk result (text.new ≡ text.old ++ numbers_text numbers.now) }
-{
-    let mut done = 0;
-    while done < numbers.len() {
-        done += add_run(text, &numbers[done..])?;
-    }
-    Ok(())
-}
-
-// The first numbers, as far as they are equal; how many these are. Entries of tables often are, so digits are worked out once.
-fn add_run(text: &mut Text, numbers: &[i128]) -> Result<usize, AllocError>
-    requires range { AllInRange numbers.now }
-    requires some { 0 < length numbers.now }
-    ensures added { IfOk result (λ n. text.new ≡ text.old ++ numbers_text (take n numbers.now)) }
-    ensures count { IfOk result (λ n. (0 < n) × (n ≤ length numbers.now)) }
-{
-    let first = numbers[0];
-    let mut buffer = Buffer::new();
-    let digits = buffer.format(first).as_bytes();
-    for (i, number) in numbers.iter().enumerate() {
-        if *number != first {
-            return Ok(i);
-        }
-        text.push(b' ')?;
-        text.add(digits)?;
-    }
-    Ok(numbers.len())
-}
-
-// Numbers of bidders or bids, each behind one space.
-fn add_numbers(text: &mut Text, numbers: &[u16]) -> Result<(), AllocError>
-    ensures { OnOk result (text.new ≡ text.old ++ numbers_text (as_numbers numbers.now)) }
-{
-    let mut buffer = Buffer::new();
-    for number in numbers {
-        text.push(b' ')?;
-        text.add(buffer.format(*number).as_bytes())?;
-    }
     Ok(())
 }
 

@@ -1,10 +1,11 @@
 // What a book says of a choice.
-ghost use Rattle.std.specs.Prelude.{◌≡◌, ◌≤◌, ◌<◌, ◌^◌, length, IsTrue, IsFalse, IfSome, IfNone, unsigned_abs};
+ghost use Rattle.std.specs.Prelude.{◌≡◌, ◌≤◌, ◌<◌, length, IsTrue, IsFalse, IfSome, IfNone, unsigned_abs};
 ghost use Rattle.auction_model.specs.Package.{is_within, less};
 ghost use Rattle.auction_model.specs.Place.{states_of, place_of, left_at};
 ghost use Rattle.auction_model.specs.Menu.{is_known_after, fits_after};
 ghost use Rattle.auction_model.specs.Market.{value_of};
 ghost use Rattle.auction_model.specs.Book.{bids_of, lots_of, net_of, menu_of, market_of};
+ghost use Rattle.limits.specs.declared.TheConstants.{MOST_AMOUNT};
 
 use crate::Choice;
 use bid_book::BidBook;
@@ -94,7 +95,7 @@ pub fn worth(book: &BidBook, j: u16, i: u16) -> i128
     requires bidder { (0 < j) × (j ≤ length book.now.bidders) }
     requires bid { i ≤ length (bids_of book.now j) }
     ensures worth { result ≡ net_of book.now j i }
-    ensures size { unsigned_abs result ≤ 2 ^ 42 }
+    ensures size { unsigned_abs result ≤ MOST_AMOUNT }
 {
     let _bidders = book.bidders();
     if i == 0 { 0 } else { book.net(j, i) }

@@ -5,6 +5,7 @@ ghost use Rattle.auction_model.specs.Menu.{fits_after};
 ghost use Rattle.auction_model.specs.Market.{sum_after};
 ghost use Rattle.auction_model.specs.Greatest.{IsFirstGreatest, IsWinning};
 ghost use Rattle.auction_model.specs.Book.{net_of, menu_of, market_of};
+ghost use Rattle.limits.specs.declared.TheConstants.{MOST_AMOUNT};
 
 use crate::judging::{place_after, worth};
 use crate::{Choice, Numbers};
@@ -47,7 +48,7 @@ fn first_after(alloc: Global, book: &BidBook, k: usize, place: usize) -> Result<
     requires place { place < states_of book.now.supply }
     ensures first { IfOk result (λ b. IsFirstGreatest (fits_after (menu_of book.now) k (left_at book.now.supply place)) (sum_after (net_of book.now) k) b.numbers) }
     ensures value { IfOk result (λ b. b.value ≡ sum_after (net_of book.now) k b.numbers) }
-    ensures size { IfOk result (λ b. unsigned_abs b.value ≤ (length book.now.bidders - k) * 2 ^ 42) }
+    ensures size { IfOk result (λ b. unsigned_abs b.value ≤ (length book.now.bidders - k) * MOST_AMOUNT) }
 {
     if k == book.bidders() {
         let numbers = Numbers::new(alloc);

@@ -38,6 +38,7 @@ use Rattle.core_price.specs.SoFar.{CanTurn, HasEnded, IsSoFar, choice_at}
 use Rattle.core_price.specs.Turns.{IsPointOfTurn, last_turn, point_of, turn_of, turns_of}
 use Rattle.core_price.specs.Weights.{WeighAlike, weights_in}
 use Rattle.core_price.specs.declared.priced.Turn.{Turn}
+use Rattle.core_price.proofs.LookLaws.{small-product}
 use Rattle.core_price.proofs.Points.{meets}
 use Rattle.core_price.proofs.Runs.{turn-point}
 use lib.ListN.{length-append, get_or-append}
@@ -165,6 +166,19 @@ module _ (m : Market) (lawful : IsMarket m) (z : List ℕ) (win : IsWinning m z)
   of-ones : WeighAlike z weights → den <ℤ pos (2 ^ 32)
   of-ones ones = answer.den_of_ones (subst (λ n. AreOnes n (weights_in z weights)) (sym can.long) ones)
 
+  -- its excess is at most what the row asks for
+  excess-range : (b : Block) → IsBlock m z den (for_bidders z at) b → (pos 0 ≤ℤ b.excess) × (b.excess ≤ℤ pos (2 ^ 80))
+  excess-range b block =
+      let e = excess-row m z len den at b.row.members b.choice in
+      let r = block.block.taken.reached in
+      let a = block.block.some in
+      let g = ap (λ (x : ℤ). den *ℤ x) block.block.bound in
+      let o : pos 0 ≤ℤ dot (winners_in z) (holds b.row.members) (nth at) = total-nonneg (winners_in z) (λ j. holds b.row.members j *ℤ nth at j) (λ j lt. mul_nonneg (holds b.row.members j) (nth at j) (holds_nonneg b.row.members j) (at-nonneg j lt)) in
+      let bound = bound-range b block in
+      let p = small-product den b.row.bound (let d = den-positive in omega (arith, ints)) answer.small_den bound.0 bound.1 in
+      (omega (arith, ints), omega (arith, ints))
+
+  -- the turn with its block
   point-of-turn : (b : Block) → IsBlock m z den (for_bidders z at) b → IsPointOfTurn z weights (record { den = den; at = at; block = Some b })
   point-of-turn b block = record {
     den_positive = den-positive;
@@ -172,7 +186,8 @@ module _ (m : Market) (lawful : IsMarket m) (z : List ℕ) (win : IsWinning m z)
     den_of_ones = of-ones;
     winners = answer.long_at ∙ can.long;
     not_negative = at-nonneg;
-    excess = let x = block.block.some in omega (arith, ints);
+    small = answer.small_at;
+    excess = excess-range b block;
   }
 
   -- one turn more
@@ -220,10 +235,11 @@ module _ (m : Market) (lawful : IsMarket m) (z : List ℕ) (win : IsWinning m z)
   ends lowest free = record {
     long = far.long;
     given = far.given;
+    distinct = far.distinct;
     answer = answer;
     not_negative = at-nonneg;
     lowest = lowest;
-    each = all-push (IsPointOfTurn z weights) past (last_turn den at) far.each (record { den_positive = den-positive; den_small = answer.small_den; den_of_ones = of-ones; winners = answer.long_at ∙ can.long; not_negative = at-nonneg; excess = tt });
+    each = all-push (IsPointOfTurn z weights) past (last_turn den at) far.each (record { den_positive = den-positive; den_small = answer.small_den; den_of_ones = of-ones; winners = answer.long_at ∙ can.long; not_negative = at-nonneg; small = answer.small_at; excess = tt });
     few_turns = let l = length-append past (last_turn den at ∷ []) in let t = turns-few m z weights rows choices past far in omega arith;
     last = (past, refl);
     free = free;

@@ -1,6 +1,7 @@
 pub mod Answers
 pub mod Kept
 pub mod Lowest
+pub mod Priced
 pub mod Rows
 pub mod SoFar
 pub mod Stops

@@ -48,6 +48,7 @@ pub record IsSoFar (m : Market) (z weights : List ℕ) (rows : List Row) (choice
 pub record HasEnded (m : Market) (z : List ℕ) (prices : List ℤ) (weights : List ℕ) (rows : List Row) (choices : List (List ℕ)) (turns : List Turn) (den : ℤ) (at first second : List ℤ) : Type 0 where
   pub long : length choices ≡ length rows
   pub given : (i : ℕ) → i < length rows → IsGivenBy m z (row_at rows i) (choice_at choices i)
+  pub distinct : IsDistinct eqb (map (λ r. r.members) rows)
   pub answer : IsAnswer prices (weights_in z weights) rows den at first second
   pub not_negative : (i : ℕ) → i < winners_in z → pos 0 ≤ℤ nth at i
   pub lowest : IsLowest den at first second

@@ -5,6 +5,7 @@ use Rattle.std.specs.declared.option.Option.TheVariants.{None}
 use Rattle.auction_model.specs.Prices.{Point}
 use Rattle.auction_model.specs.PricingRun.{Turn as BidderTurn}
 use Rattle.blocking.specs.Look.{block_of}
+use Rattle.nearest_point.specs.Numbers.{AreBelow}
 use Rattle.row_laws.specs.Winners.{for_bidders, winners_in}
 use Rattle.wide_num.specs.Sums.{nth}
 use Rattle.core_price.specs.Weights.{WeighAlike}
@@ -28,12 +29,13 @@ last_turn den at = record { den = den; at = at; block = None }
 abbrev pub EndsWith : List Turn → Turn → Type 0
 EndsWith turns last = (past : List Turn) × (turns ≡ past ++ last ∷ [])
 
--- A payment for each winner, none below 0, over a small denominator, which is below 2^32 where all winners weigh 1. The excess
--- of a block isn't below 0.
+-- A payment for each winner, none below 0 and all small, over a small denominator, which is below 2^32 where all winners weigh 1.
+-- The excess of a block isn't below 0, and is small too.
 pub record IsPointOfTurn (z weights : List ℕ) (t : Turn) : Type 0 where
   pub den_positive : pos 1 ≤ℤ t.den
   pub den_small : t.den ≤ℤ pos (320 ^ 4)
   pub den_of_ones : WeighAlike z weights → t.den <ℤ pos (2 ^ 32)
   pub winners : length t.at ≡ winners_in z
   pub not_negative : (i : ℕ) → i < winners_in z → pos 0 ≤ℤ nth t.at i
-  pub excess : IfSome t.block (λ b. pos 0 ≤ℤ b.excess)
+  pub small : AreBelow (2 ^ 109) t.at
+  pub excess : IfSome t.block (λ b. (pos 0 ≤ℤ b.excess) × (b.excess ≤ℤ pos (2 ^ 80)))

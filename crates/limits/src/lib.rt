@@ -67,6 +67,12 @@ pub const MOST_ROUNDS: u64 = 300;
 /// The most entries of a draft list.
 pub const MOST_DRAFTS: u64 = 300;
 
+/// The most eligibility points of a lot.
+pub const MOST_POINTS: u64 = 10_000;
+
+/// The most bytes of a name.
+pub const MOST_NAME_BYTES: usize = 20;
+
 /// The greatest price of a lot, which is the greatest reserve too: 2^36.
 pub const MOST_PRICE: u64 = 68_719_476_736;
 
@@ -78,3 +84,9 @@ pub const MOST_WINNERS: usize = 6;
 
 /// The most winners that are priced where their weights aren't all 1.
 pub const MOST_WEIGHTED_WINNERS: usize = 4;
+
+/// The most bidders of a certificate whose text is of the first version.
+pub const FIRST_VERSION_BIDDERS: usize = 12;
+
+/// The most states of a certificate whose text is of the first version.
+pub const FIRST_VERSION_STATES: u64 = 4_096;

@@ -3,16 +3,18 @@ ghost use Rattle.std.specs.Prelude.{◌≡◌, ◌≤◌, ◌^◌, ◌==◌, len
 ghost use Rattle.std.specs.List.{list_all};
 ghost use Rattle.auction_model.specs.Package.{is_within, cost_of};
 ghost use Rattle.auction_model.specs.Place.{states_of};
+ghost use Rattle.limits.specs.declared.TheConstants.{MOST_CATEGORIES, MOST_LOTS, MOST_POINTS, MOST_PRICE};
 ghost use Rattle.lots.specs.Limits.{categories_stop, supply_stop, IsPackage, IsSupply};
 
 use crate::LotStop;
+use limits::{MOST_CATEGORIES, MOST_LOTS, MOST_STATES};
 
 /// Tests that there are 1 to 6 categories.
 pub fn check_categories(counts: &[u16]) -> Result<(), LotStop>
     ensures passed { IfOk result (λ _. (categories_stop counts.now ≡ None) × IsPackage counts.now) }
     ensures stopped { IfErr result (λ stop. categories_stop counts.now ≡ Some stop) }
 {
-    if counts.is_empty() || counts.len() > 6 {
+    if counts.is_empty() || counts.len() > MOST_CATEGORIES {
         return Err(LotStop::Categories(counts.len() as u64));
     }
     Ok(())
@@ -27,7 +29,7 @@ fn first_zero(counts: &[u16]) -> Option<usize>
 
 /// How many lots there are over all categories.
 fn lots_among(counts: &[u16]) -> u64
-    requires { length counts.now ≤ 6 }
+    requires { length counts.now ≤ MOST_CATEGORIES }
     ensures { result ≡ sum counts.now }
 {
     let mut lots = 0u64;
@@ -39,8 +41,8 @@ fn lots_among(counts: &[u16]) -> u64
 
 /// How many states there are.
 fn states_among(counts: &[u16]) -> u64
-    requires categories { length counts.now ≤ 6 }
-    requires lots { sum counts.now ≤ 40 }
+    requires categories { length counts.now ≤ MOST_CATEGORIES }
+    requires lots { sum counts.now ≤ MOST_LOTS }
     ensures { result ≡ states_of counts.now }
 {
     let mut states = 1u64;
@@ -60,11 +62,11 @@ pub fn check_supply(counts: &[u16]) -> Result<usize, LotStop>
         return Err(LotStop::Zero(category as u64 + 1));
     }
     let lots = lots_among(counts);
-    if lots > 40 {
+    if lots > MOST_LOTS {
         return Err(LotStop::Lots(lots));
     }
     let states = states_among(counts);
-    if states > 16384 {
+    if states > MOST_STATES {
         return Err(LotStop::States(states));
     }
     Ok(states as usize)
@@ -92,9 +94,9 @@ pub fn are_within(counts: &[u16], supply: &[u16]) -> bool
 
 /// The sum of price times count.
 pub fn cost_among(prices: &[u64], counts: &[u16]) -> u64
-    requires categories { length counts.now ≤ 6 }
+    requires categories { length counts.now ≤ MOST_CATEGORIES }
     requires prices { length prices.now ≡ length counts.now }
-    requires most { All (λ p. p ≤ 2 ^ 36) prices.now }
+    requires most { All (λ p. p ≤ MOST_PRICE) prices.now }
     ensures { result ≡ cost_of prices.now counts.now }
 {
     let mut cost = 0u64;
@@ -106,9 +108,9 @@ pub fn cost_among(prices: &[u64], counts: &[u16]) -> u64
 
 /// The sum of points times count.
 pub fn points_among(points: &[u32], counts: &[u16]) -> u64
-    requires categories { length counts.now ≤ 6 }
+    requires categories { length counts.now ≤ MOST_CATEGORIES }
     requires points { length points.now ≡ length counts.now }
-    requires most { All (λ p. p ≤ 10000) points.now }
+    requires most { All (λ p. p ≤ MOST_POINTS) points.now }
     ensures { result ≡ cost_of points.now counts.now }
 {
     let mut sum = 0u64;

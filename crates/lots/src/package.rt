@@ -1,6 +1,7 @@
 // Packages and bids.
-ghost use Rattle.std.specs.Prelude.{◌≡◌, ◌⊎◌, ℕ, ◌≤◌, ◌<◌, ◌^◌, [], length, All, IfOk, None, Some, slice_index};
+ghost use Rattle.std.specs.Prelude.{◌≡◌, ◌⊎◌, ℕ, ◌≤◌, ◌<◌, [], length, All, IfOk, None, Some, slice_index};
 ghost use Rattle.auction_model.specs.Package.{is_within, cost_of};
+ghost use Rattle.limits.specs.declared.TheConstants.{MOST_POINTS, MOST_PRICE};
 ghost use Rattle.lots.specs.Limits.{categories_stop, IsPackage};
 
 use crate::counts::{are_within, check_categories, cost_among, have_none, points_among};
@@ -100,7 +101,7 @@ impl Package {
     /// The eligibility points of the package: the sum of points times count.
     pub fn points(&self, points: &[u32]) -> u64
         requires categories { length points.now ≡ length self.now }
-        requires most { All (λ p. p ≤ 10000) points.now }
+        requires most { All (λ p. p ≤ MOST_POINTS) points.now }
         ensures { result ≡ cost_of points.now self.now }
     {
         points_among(points, &self.counts)
@@ -109,7 +110,7 @@ impl Package {
     /// The price of the package: the sum of price times count.
     pub fn cost(&self, prices: &[u64]) -> u64
         requires categories { length prices.now ≡ length self.now }
-        requires most { All (λ p. p ≤ 2 ^ 36) prices.now }
+        requires most { All (λ p. p ≤ MOST_PRICE) prices.now }
         ensures { result ≡ cost_of prices.now self.now }
     {
         cost_among(prices, &self.counts)

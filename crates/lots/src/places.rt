@@ -2,12 +2,13 @@
 ghost use Rattle.std.specs.Prelude.{◌≡◌, ◌≤◌, ◌<◌, length, IfOk, IfSome, IfNone, IsTrue, IsFalse};
 ghost use Rattle.auction_model.specs.Package.{is_within, less};
 ghost use Rattle.auction_model.specs.Place.{states_of, place_of, left_at, widths_of};
+ghost use Rattle.limits.specs.declared.TheConstants.{MOST_STATES};
 
 use std::alloc::{AllocError, Global};
 
 /// The place of `counts` in mixed radix.
 pub fn place_among(supply: &[u16], counts: &[u16]) -> usize
-    requires states { states_of supply.now ≤ 16384 }
+    requires states { states_of supply.now ≤ MOST_STATES }
     requires categories { length counts.now ≡ length supply.now }
     requires fits { IsTrue (is_within counts.now supply.now) }
     ensures place { result ≡ place_of supply.now counts.now }
@@ -23,7 +24,7 @@ pub fn place_among(supply: &[u16], counts: &[u16]) -> usize
 /// Whether the remaining supply of a place has at least these counts.
 fn leaves_enough(supply: &[u16], states: usize, place: usize, counts: &[u16]) -> bool
     requires states { states ≡ states_of supply.now }
-    requires most { states ≤ 16384 }
+    requires most { states ≤ MOST_STATES }
     requires place { place < states }
     requires categories { length counts.now ≡ length supply.now }
     ensures { result ≡ is_within counts.now (left_at supply.now place) }
@@ -43,7 +44,7 @@ fn leaves_enough(supply: &[u16], states: usize, place: usize, counts: &[u16]) ->
 /// The place of what is left of a place, or None where the counts exceed it.
 pub fn place_less(supply: &[u16], states: usize, place: usize, counts: &[u16]) -> Option<usize>
     requires states { states ≡ states_of supply.now }
-    requires most { states ≤ 16384 }
+    requires most { states ≤ MOST_STATES }
     requires place { place < states }
     requires categories { length counts.now ≡ length supply.now }
     ensures fits { IfSome result (λ _. IsTrue (is_within counts.now (left_at supply.now place))) }
@@ -80,7 +81,7 @@ pub fn counts_at(
     place: usize,
 ) -> Result<Vec<u16>, AllocError>
     requires states { states ≡ states_of supply.now }
-    requires most { states ≤ 16384 }
+    requires most { states ≤ MOST_STATES }
     requires place { place < states }
     ensures items { IfOk result (λ v. v.items ≡ left_at supply.now place) }
     ensures categories { IfOk result (λ v. length v.items ≡ length supply.now) }

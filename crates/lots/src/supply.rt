@@ -2,6 +2,7 @@
 ghost use Rattle.std.specs.Prelude.{◌≡◌, ◌⊎◌, ℕ, ◌≤◌, ◌<◌, length, IfOk, IfSome, IfNone, IsTrue, IsFalse, None, Some, slice_index};
 ghost use Rattle.auction_model.specs.Package.{is_within, less};
 ghost use Rattle.auction_model.specs.Place.{states_of, place_of, left_at, widths_of};
+ghost use Rattle.limits.specs.declared.TheConstants.{MOST_STATES};
 ghost use Rattle.lots.specs.Limits.{supply_stop, IsSupply};
 
 use crate::counts::check_supply;
@@ -81,7 +82,7 @@ impl Supply {
     /// How many states there are: the product of the counts, each one more.
     pub fn states(&self) -> usize
         ensures states { result ≡ states_of self.now }
-        ensures most { result ≤ 16384 }
+        ensures most { result ≤ MOST_STATES }
     {
         self.states
     }

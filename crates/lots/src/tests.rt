@@ -9,7 +9,7 @@ fn supplies_stop_at_the_first_broken_rule(rt: HostRuntime) {
         (&[1, 0, 50], LotStop::Zero(2)),
         (&[41], LotStop::Lots(41)),
         (&[10, 10, 10, 11], LotStop::Lots(41)),
-        (&[7, 7, 7, 8], LotStop::States(4608)),
+        (&[3, 3, 3, 3, 7, 8], LotStop::States(18432)),
     ];
     for (counts, stop) in broken {
         assert_eq!(rt; Supply::new(rt.alloc(), counts).err(), Some(stop));
@@ -18,7 +18,9 @@ fn supplies_stop_at_the_first_broken_rule(rt: HostRuntime) {
 
 #[test]
 fn supplies_tell_what_they_hold(rt: HostRuntime) -> Result<(), LotStop> {
-    let supply = Supply::new(rt.alloc(), &[7, 7, 7, 7])?;
+    let supply = Supply::new(rt.alloc(), &[7, 7, 7, 8])?;
+    assert_eq!(rt; supply.states(), 4608);
+    let supply = Supply::new(rt.alloc(), &[3, 3, 3, 3, 7, 7])?;
     assert_eq!(rt; supply.states(), 16384);
     let supply = Supply::new(rt.alloc(), &[2, 3])?;
     assert_eq!(rt; supply.categories(), 2);

@@ -6,7 +6,7 @@ use Rattle.auction_model.specs.Package.{cost_of}
 use Rattle.auction_rules.specs.PackageTests.{is_same}
 use Rattle.auction_rules.specs.Rounds.{OwnRound}
 use Rattle.auction_rules.specs.State.{Round}
-use Rattle.auction_rules.specs.Caps.{last_round, constraining, cap_by, cap_among, cap_with}
+use Rattle.auction_rules.specs.Caps.{last_round, constraining, cap_by, cap_among, cap_of}
 use Rattle.relative_cap.specs.OwnRounds.{rounds_of, own_in, IsConstraining}
 use Rattle.relative_cap.proofs.RoundLaws.{constraining-is, last_round-is}
 
@@ -17,11 +17,11 @@ last-held history j last held some is by_held =
     by_held ∙ ap (λ n. (own_in history j n).held) is ∙ ap (λ (o : OwnRound). o.held) (sym (last_round-is history j some))
 
 pub cap-none : (final : Bool) (points : List ℕ) (rounds : List OwnRound) (list : List BookBid) (lots held : List ℕ) → held ≡ (last_round rounds).held → is_same lots held ≡ true
-    → None ≡ cap_with final points rounds list lots
+    → None ≡ cap_of final points rounds list lots
 cap-none final points rounds list lots held by_held same = sym (cond-true (is_same lots (last_round rounds).held) None _ (sym (ap (is_same lots) by_held) ∙ same))
 
 pub cap-some : (final : Bool) (points : List ℕ) (rounds : List OwnRound) (list : List BookBid) (lots held : List ℕ) (amount : ℕ) → held ≡ (last_round rounds).held
-    → is_same lots held ≡ false → amount ≡ cap_among final points rounds list lots → Some amount ≡ cap_with final points rounds list lots
+    → is_same lots held ≡ false → amount ≡ cap_among final points rounds list lots → Some amount ≡ cap_of final points rounds list lots
 cap-some final points rounds list lots held amount by_held apart is =
     ap (λ (n : ℕ). Some n) is ∙ sym (cond-false (is_same lots (last_round rounds).held) None _ (sym (ap (is_same lots) by_held) ∙ apart))
 

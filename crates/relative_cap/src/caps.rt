@@ -1,7 +1,7 @@
 // Caps, and the first entry above its cap.
 ghost use Rattle.std.specs.Prelude.{◌≡◌, ◌≤◌, ◌<◌, ◌^◌, All, length, map, option_map};
 ghost use Rattle.auction_model.specs.Package.{cost_of};
-ghost use Rattle.auction_rules.specs.Caps.{cap_by, cap_with, excess_cap, list_fault_with};
+ghost use Rattle.auction_rules.specs.Caps.{cap_by, cap_of, excess_cap, list_fault};
 ghost use Rattle.auction_rules.specs.PackageTests.{InOrder};
 ghost use Rattle.clock_stage.specs.Kept.{IsHeld, categories_in};
 ghost use Rattle.relative_cap.specs.Asked.{ArePoints, IsBidderOf, IsEligible, IsEntry};
@@ -62,7 +62,7 @@ pub fn cap(
     requires order { InOrder (map entry_lots list.now) }
     requires categories { IsHeld (categories_in history.now) «package».now }
     requires eligible { cost_of points.now «package».now ≤ eligibility_in history.now j 1 }
-    ensures { cap_value result ≡ cap_with final_cap points.now (rounds_of j history.now) (map bid_value list.now) «package».now }
+    ensures { cap_value result ≡ cap_of final_cap points.now (rounds_of j history.now) (map bid_value list.now) «package».now }
 {
     let last = history.rounds();
     if is_same(package, history.package(last, j)) {
@@ -104,7 +104,7 @@ fn level_cap(
     requires levels { AreLevels history.now j (map bid_value list.now) peaks.now highs.now }
     requires categories { IsHeld (categories_in history.now) «package».now }
     requires eligible { cost_of points.now «package».now ≤ eligibility_in history.now j 1 }
-    ensures { cap_value result ≡ cap_with final_cap points.now (rounds_of j history.now) (map bid_value list.now) «package».now }
+    ensures { cap_value result ≡ cap_of final_cap points.now (rounds_of j history.now) (map bid_value list.now) «package».now }
 {
     let last = history.rounds();
     if is_same(package, history.package(last, j)) {
@@ -135,7 +135,7 @@ fn first_fault(
     requires eligible { All (IsEligible points.now history.now j) list.now }
     requires few { length list.now < 2 ^ 32 }
     requires levels { AreLevels history.now j (map bid_value list.now) peaks.now highs.now }
-    ensures { option_map excess_value result ≡ list_fault_with final_cap points.now (rounds_of j history.now) (map bid_value list.now) }
+    ensures { option_map excess_value result ≡ list_fault final_cap points.now (rounds_of j history.now) (map bid_value list.now) }
 {
     for (index, bid) in list.iter().enumerate() {
         let cap = level_cap(
@@ -175,7 +175,7 @@ pub fn list_fault(
     requires order { InOrder (map entry_lots list.now) }
     requires eligible { All (IsEligible points.now history.now j) list.now }
     requires few { length list.now < 2 ^ 32 }
-    ensures { option_map excess_value result ≡ list_fault_with final_cap points.now (rounds_of j history.now) (map bid_value list.now) }
+    ensures { option_map excess_value result ≡ list_fault final_cap points.now (rounds_of j history.now) (map bid_value list.now) }
 {
     let mut peaks = [0; MOST_ROUNDS];
     let mut highs = [0; MOST_ROUNDS];

@@ -7,3 +7,4 @@ pub mod Winners
 pub mod Sizes
 pub mod Surplus
 pub mod Blocks
+pub mod Some

@@ -8,7 +8,7 @@
 //! core-selecting payment rules for combinatorial auctions, Operations Research 60, 2012.)
 #![tactic(auto)]
 
-ghost use Rattle.std.specs.Prelude.{◌≡◌, ◌≢◌, ℕ, ◌<◌, List, ℤ, pos, ◌≤ℤ◌, ◌-ℤ◌, ◌<ℤ◌, length};
+ghost use Rattle.std.specs.Prelude.{◌≡◌, ◌≢◌, ℕ, ◌<◌, ◌≤◌, Bool, IsTrue, List, ℤ, pos, ◌≤ℤ◌, ◌-ℤ◌, ◌<ℤ◌, length};
 ghost use Rattle.auction_model.specs.Market.{Market};
 ghost use Rattle.auction_model.specs.Greatest.{IsFirstGreatest, IsWinning};
 ghost use Rattle.auction_model.specs.Lawful.{IsMarket};
@@ -46,10 +46,11 @@ pub fn rows_as_bits()
     ensures sums { (z : List ℕ) (at : List ℤ) (bits : ℕ) → sum_over (row_of z bits) (of_bidder (for_bidders z at)) (length z) ≡ dot (winners_in z) (holds bits) (nth at) }
 {}
 
-/// The row of a taken block is given by its choice: no choice that uses no member gives the set a greater bound. Such a row has a
-/// member. No row that the point meets has the same members, so no row comes twice. Each core point meets each such row.
+/// A block with an excess has a member. Its row is given by its choice: no choice that uses no member gives the set a greater
+/// bound. No row that the point meets has the same members, so no row comes twice. Each core point meets each such row.
 pub fn rows_of_blocks()
-    ensures some { (m : Market) (z : List ℕ) (row : Row) (c : List ℕ) → IsGivenBy m z row c → 0 < row.members }
+    ensures some { (m : Market) (z : List ℕ) (p : Point) (f : List ℕ) (members : ℕ → Bool) (excess : ℤ) → IsMarket m → IsWinning m z → pos 1 ≤ℤ p.den
+        → IsTakenBlock m z p f members excess → pos 0 <ℤ excess → (j : ℕ) × (0 < j) × (j ≤ m.bidders) × IsTrue (members j) }
     ensures given { (m : Market) (z : List ℕ) (p : Point) (f : List ℕ) (row : Row) (excess : ℤ) → pos 1 ≤ℤ p.den → IsTakenBlock m z p f (row_of z row.members) excess → HasWinners z row.members
         → row.bound ≡ row_bound m z (row_of z row.members) f → IsGivenBy m z row f }
     ensures new { (m : Market) (z : List ℕ) (den : ℤ) (at : List ℤ) (bits : ℕ) (old : Row) (c f : List ℕ) (excess : ℤ) → length z ≡ m.bidders → pos 1 ≤ℤ den → IsGivenBy m z old c → Meets z old den at

@@ -1,5 +1,9 @@
 use Rattle.row_laws.proofs.Blocks.{block-row, row-is_new, core-meets}
+use Rattle.row_laws.proofs.Some.{some-member}
 use Rattle.row_laws.proofs.rows_of_blocks.Goals as goal
+
+pub returns-clause-some : goal.returns-clause-some
+returns-clause-some c = λ m z p f members excess lawful win positive taken above. some-member m lawful z win p positive f members excess taken above
 
 pub returns-clause-given : goal.returns-clause-given
 returns-clause-given c = λ m z p f row excess positive taken members is. block-row m z p positive f row excess taken members is

@@ -1,8 +1,11 @@
 use Rattle.std.proofs.Common.{◌<◌, List, sym, subst, arith}
 use Rattle.cert_text.specs.declared.certificate.WithoutPart.{WithoutPart}
 use Rattle.cert_text.specs.PartReads.{AddsPart}
-use Rattle.cert_text.proofs.PartSteps.{part_winner}
+use Rattle.cert_text.proofs.PartSteps.{part_loser, part_winner}
 use Rattle.cert_text.proofs.parts.add_part.Goals as goal
+
+pub returns-then-number-eq0-clause-adds : goal.returns-then-number-eq0-clause-adds
+returns-then-number-eq0-clause-adds c = part_loser c.args.bytes.now c.args.place c.args.shape.bidders c.args.shape.states c.args.winner c.args.number c.args.parts.now (omega (arith, c.if-number-eq0.true))
 
 pub returns-clause-adds : goal.returns-clause-adds
 returns-clause-adds c =

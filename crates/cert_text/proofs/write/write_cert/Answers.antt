@@ -1,7 +1,8 @@
-use Rattle.std.proofs.Common.{◌∙◌, ap, subst, sym, ◌++◌, ◌∷◌, [], List, ℕ, ℤ, codes}
+use Rattle.std.proofs.Common.{◌∙◌, ap, subst, sym, ◌++◌, ◌∷◌, [], List, ℕ, ℤ, codes, length}
 use Rattle.std.specs.List.{AllByRecursion}
 use Rattle.cert_form.specs.CertText.{line}
-use Rattle.cert_text.specs.Written.{bytes_of, lines_of_head, lines_of_parts, lines_of_rows, Adds, ArePartsInRange, IsRowInRange}
+use Rattle.cert_form.specs.Lines.{version_lines}
+use Rattle.cert_text.specs.Written.{bytes_of, lines_of_parts, lines_of_rows, Adds, ArePartsInRange, IsRowInRange}
 use Rattle.cert_text.specs.declared.certificate.CertRow.{CertRow}
 use Rattle.cert_text.specs.declared.certificate.WithoutPart.{WithoutPart}
 use Rattle.cert_text.proofs.Written.{all_rows_range, lowered_range, table_range, whole_cert, withouts_range}
@@ -22,8 +23,14 @@ add_table-requires-2 c = lowered_range _ _ c.args.cert.now c.args.cert.now.rules
 pub returns : goal.returns
 returns c =
     let cert = c.args.cert.now in
-    whole_cert cert _ _ _ _ _ _ c.add_signed_line-2.new.text
-    (c.in_ok-add_head.ensures ∙ ap (λ (t : List ℕ). t ++ bytes_of (lines_of_head cert)) c.new-text.ensures)
+    whole_cert cert _ _ _ _ _ _ _ c.add_signed_line-2.new.text
+    (
+    c.in_ok-add_version.ensures
+    ∙ ap (λ (t : List ℕ). t ++ bytes_of (version_lines (length c.numbers.result.now) c.width.result)) c.new-text.ensures
+    ∙ ap (λ (l : List ℕ). bytes_of (version_lines (length l) c.width.result)) c.numbers.ensures
+    ∙ ap (λ (n : ℕ). bytes_of (version_lines (length cert.choice) n)) c.width.ensures
+    )
+    c.in_ok-add_head.ensures
     c.in_ok-add_table.ensures
     (subst (λ (l : List WithoutPart). Adds c.add_table.new.text c.add_parts.new.text (lines_of_parts l)) c.items.ensures c.in_ok-add_parts.ensures)
     (subst (λ (l : List ℤ). Adds c.add_parts.new.text c.add_signed_line.new.text (line (codes "pay") l ∷ [])) c.items-2.ensures c.in_ok-add_signed_line.ensures)

@@ -1,0 +1,6 @@
+-- What a list of bidders holds.
+use Rattle.auction_model.specs.Book.{Bidder}
+use Rattle.bid_book.specs.declared.bidders.BidderBids.{BidderBids}
+
+abbrev pub bidder_of : BidderBids → Bidder
+bidder_of b = record { name = b.name; bids = b.bids }

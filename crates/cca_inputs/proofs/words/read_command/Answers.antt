@@ -1,0 +1,11 @@
+use Rattle.std.proofs.Common.{string_bytes}
+use Rattle.std.proofs.lemmas.Option.{IfSome_then}
+use Rattle.cca_inputs.specs.Words.{command_value}
+use Rattle.cca_inputs.proofs.Names.{among-behind}
+use Rattle.cca_inputs.proofs.words.read_command.Goals as goal
+
+pub returns-in-price-clause-among : goal.returns-in-price-clause-among
+returns-in-price-clause-among c = IfSome_then c.price_command.result c.price_command.ensures.among (λ k among. among-behind string_bytes c.args.words.now (command_value k) among)
+
+pub returns-in-check-clause-among : goal.returns-in-check-clause-among
+returns-in-check-clause-among c = IfSome_then c.check_command.result c.check_command.ensures.among (λ k among. among-behind string_bytes c.args.words.now (command_value k) among)

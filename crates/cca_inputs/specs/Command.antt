@@ -1,0 +1,131 @@
+-- The plain form of the words that are given to the program, and the files of each command.
+use Rattle.std.specs.Prelude.{ℕ, Bool, true, false, ◌==◌, ◌&&◌, ◌||◌, not, Option, Some, None, option_map, option_and_then, List, [], ◌∷◌, codes, find, filter, map, if◌then◌else◌}
+use Rattle.std.specs.Str.{bytes_eq}
+use Rattle.cca_inputs.specs.declared.status.FileKind.{FileKind}
+use Rattle.cca_inputs.specs.declared.status.FileKind.TheVariants.{Award, Log, Book, Cert, Out}
+
+-- what is to be done, with the names of its files
+pub data CommandValue : Type 0 where
+  -- the winners of a book
+  win : List ℕ → CommandValue
+  -- the prices of a book and their certificate, with a line for each turn or without
+  price : List ℕ → List ℕ → Bool → CommandValue
+  -- the test of a certificate of a book
+  check : List ℕ → List ℕ → CommandValue
+
+-- what a command does with a file
+pub data Use : Type 0 where
+  reads : Use
+  appends : Use
+
+-- a file of a command: the part that it plays, what is done with it, and its name
+pub record FileUse : Type 0 where
+  pub kind : FileKind
+  pub how : Use
+  pub name : List ℕ
+
+abbrev pub reading : FileKind → List ℕ → FileUse
+reading kind name = record { kind = kind; how = reads; name = name }
+
+abbrev pub appending : FileKind → List ℕ → FileUse
+appending kind name = record { kind = kind; how = appends; name = name }
+
+-- The table of files: those of each command, in the order of the words. All else that is said of a command's files follows from it.
+abbrev pub files_of : CommandValue → List FileUse
+files_of (win book) = reading Book book ∷ []
+files_of (price book cert rounds) = reading Book book ∷ appending Cert cert ∷ []
+files_of (check book cert) = reading Book book ∷ reading Cert cert ∷ []
+
+-- not empty, and not beginning with '-'
+abbrev pub is_file_word : List ℕ → Bool
+is_file_word [] = false
+is_file_word (c ∷ cs) = not (c == 45)
+
+-- the word is one of these
+abbrev pub is_among : List ℕ → List (List ℕ) → Bool
+is_among f [] = false
+is_among f (g ∷ gs) = bytes_eq f g || is_among f gs
+
+-- names of files, no two the same
+abbrev pub are_file_words : List (List ℕ) → Bool
+are_file_words [] = true
+are_file_words (f ∷ fs) = is_file_word f && (not (is_among f fs) && are_file_words fs)
+
+-- the words behind `win`
+abbrev pub win_words : List (List ℕ) → Option CommandValue
+win_words [] = None
+win_words (f ∷ []) = if are_file_words (f ∷ []) then Some (win f) else None
+win_words (f ∷ g ∷ rest) = None
+
+-- whether the words behind the files of `price` ask for the turns
+abbrev pub rounds_asked : List (List ℕ) → Option Bool
+rounds_asked [] = Some false
+rounds_asked (f ∷ []) = if bytes_eq f (codes "--rounds") then Some true else None
+rounds_asked (f ∷ g ∷ rest) = None
+
+-- the words behind `price`
+abbrev pub price_words : List (List ℕ) → Option CommandValue
+price_words [] = None
+price_words (f ∷ []) = None
+price_words (f ∷ g ∷ flags) = if are_file_words (f ∷ g ∷ []) then option_map (price f g) (rounds_asked flags) else None
+
+-- the words behind `check`
+abbrev pub check_words : List (List ℕ) → Option CommandValue
+check_words [] = None
+check_words (f ∷ []) = None
+check_words (f ∷ g ∷ []) = if are_file_words (f ∷ g ∷ []) then Some (check f g) else None
+check_words (f ∷ g ∷ h ∷ rest) = None
+
+-- the command that the words say, if they are of the plain form
+abbrev pub command_of : List (List ℕ) → Option CommandValue
+command_of [] = None
+command_of (w ∷ rest) =
+    if bytes_eq w (codes "win") then win_words rest else if bytes_eq w (codes "price") then price_words rest else if bytes_eq w (codes "check") then check_words rest else None
+
+-- the number of a kind
+abbrev pub kind_number : FileKind → ℕ
+kind_number Award = 0
+kind_number Log = 1
+kind_number Book = 2
+kind_number Cert = 3
+kind_number Out = 4
+
+abbrev pub is_kind : FileKind → FileKind → Bool
+is_kind kind other = kind_number kind == kind_number other
+
+abbrev pub is_read : Use → Bool
+is_read reads = true
+is_read appends = false
+
+-- the name of the first of these files that has the kind
+abbrev pub named : FileKind → List FileUse → Option (List ℕ)
+named kind files = option_map (λ f. f.name) (find (λ f. is_kind kind f.kind) files)
+
+-- the files that are read, and those that are appended to, in the order of the words
+abbrev pub read_files : CommandValue → List FileUse
+read_files command = filter (λ f. is_read f.how) (files_of command)
+
+abbrev pub appended_files : CommandValue → List FileUse
+appended_files command = filter (λ f. not (is_read f.how)) (files_of command)
+
+-- the file of this kind that the command reads, and the one that it appends to
+abbrev pub input_as : CommandValue → FileKind → Option (List ℕ)
+input_as command kind = named kind (read_files command)
+
+abbrev pub output_as : CommandValue → FileKind → Option (List ℕ)
+output_as command kind = named kind (appended_files command)
+
+-- the names of all files that it reads, and of all that it appends to
+abbrev pub inputs_of : CommandValue → List (List ℕ)
+inputs_of command = map (λ f. f.name) (read_files command)
+
+abbrev pub outputs_of : CommandValue → List (List ℕ)
+outputs_of command = map (λ f. f.name) (appended_files command)
+
+-- the bytes of a command's input of each kind: none where the file is missing, or the command reads none of the kind
+abbrev pub contents_of : CommandValue → (List ℕ → Option (List ℕ)) → FileKind → Option (List ℕ)
+contents_of command file kind = option_and_then file (input_as command kind)
+
+-- the same, with the input of this kind missing
+abbrev pub missing : FileKind → (FileKind → Option (List ℕ)) → FileKind → Option (List ℕ)
+missing kind contents other = if is_kind kind other then None else contents other

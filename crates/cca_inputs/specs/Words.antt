@@ -1,0 +1,20 @@
+-- What a command of the program says.
+use Rattle.std.specs.Prelude.{ℕ, List, Contains, IsTrue}
+use Rattle.std.specs.List.{AllByRecursion}
+use Rattle.cca_base.specs.Files.{Folder}
+use Rattle.cca_inputs.specs.declared.words.Command.{Command}
+use Rattle.cca_inputs.specs.declared.words.Command.TheVariants.{Win, Price, Check}
+use Rattle.cca_inputs.specs.Command.{CommandValue, win, price, check, files_of}
+
+abbrev pub command_value : Command → CommandValue
+command_value (Win book) = win book.now
+command_value (Price book cert rounds) = price book.now cert.now rounds
+command_value (Check book cert) = check book.now cert.now
+
+-- the names of its files are among the words
+abbrev pub AreAmong : List (List ℕ) → CommandValue → Type 0
+AreAmong words command = AllByRecursion (λ f. Contains words f.name) (files_of command)
+
+-- the files know the names of the command
+abbrev pub KnowsFiles : Folder → CommandValue → Type 0
+KnowsFiles folder command = AllByRecursion (λ f. IsTrue (folder.knows f.name)) (files_of command)

@@ -1,0 +1,145 @@
+// The plain form of the words.
+ghost use Rattle.std.specs.Prelude.{◌≡◌, map, string_bytes, option_map, Some, None, IfSome};
+ghost use Rattle.cca_inputs.specs.Command.{are_file_words, check_words, command_of, is_among, is_file_word, output_as, price_words, rounds_asked, win_words};
+ghost use Rattle.cca_inputs.specs.Words.{AreAmong, command_value};
+
+use crate::FileKind;
+
+/// A command in its plain form, with the names of its files.
+#[derive(Clone, Copy, Debug)]
+pub enum Command<'a> {
+    /// The winners of a book are printed.
+    Win {
+        book: &'a str,
+    },
+    /// A book is priced; its certificate is appended, and the prices are printed, behind a line for each turn where the rounds are
+    /// asked for.
+    Price {
+        book: &'a str,
+        cert: &'a str,
+        rounds: bool,
+    },
+    /// A certificate of a book is tested.
+    Check {
+        book: &'a str,
+        cert: &'a str,
+    },
+}
+
+impl<'a> Command<'a> {
+    /// The name of the file of this kind that the command appends to.
+    pub fn output(self, kind: FileKind) -> Option<&'a str>
+        ensures { option_map (λ name. name.now) result ≡ output_as (command_value self.entry) kind }
+    {
+        match (self, kind) {
+            (Command::Price { cert, .. }, FileKind::Cert) => Some(cert),
+            _ => None,
+        }
+    }
+}
+
+fn can_be_file(word: &str) -> bool
+    ensures { result ≡ is_file_word word.now }
+{
+    match word.as_bytes() {
+        [] => false,
+        [first, ..] => *first != b'-',
+    }
+}
+
+fn is_one_of(word: &str, others: &[String]) -> bool
+    ensures { result ≡ is_among word.now (map string_bytes others.now) }
+{
+    match others {
+        [] => false,
+        [first, rest @ ..] => word == first.as_str() || is_one_of(word, rest),
+    }
+}
+
+// Whether these can be names of files, no two of them the same.
+fn can_be_files(words: &[String]) -> bool
+    ensures { result ≡ are_file_words (map string_bytes words.now) }
+{
+    match words {
+        [] => true,
+        [first, rest @ ..] => {
+            can_be_file(first.as_str()) && (!is_one_of(first.as_str(), rest) && can_be_files(rest))
+        }
+    }
+}
+
+fn win_command(words: &[String]) -> Option<Command<'_>>
+    ensures among { IfSome result (λ c. AreAmong (map string_bytes words.now) (command_value c)) }
+    ensures command { option_map command_value result ≡ win_words (map string_bytes words.now) }
+{
+    let [book] = words else {
+        return None;
+    };
+    if !can_be_files(words) {
+        return None;
+    }
+    Some(Command::Win {
+        book: book.as_str(),
+    })
+}
+
+// Whether the words behind the files ask for the rounds; None where they say something else.
+fn asks_for_rounds(flags: &[String]) -> Option<bool>
+    ensures { result ≡ rounds_asked (map string_bytes flags.now) }
+{
+    match flags {
+        [] => Some(false),
+        [flag] if flag.as_str() == "--rounds" => Some(true),
+        _ => None,
+    }
+}
+
+fn price_command(words: &[String]) -> Option<Command<'_>>
+    ensures among { IfSome result (λ c. AreAmong (map string_bytes words.now) (command_value c)) }
+    ensures command { option_map command_value result ≡ price_words (map string_bytes words.now) }
+{
+    let [book, cert, flags @ ..] = words else {
+        return None;
+    };
+    if !can_be_files(&words[..2]) {
+        return None;
+    }
+    let rounds = asks_for_rounds(flags)?;
+    Some(Command::Price {
+        book: book.as_str(),
+        cert: cert.as_str(),
+        rounds,
+    })
+}
+
+fn check_command(words: &[String]) -> Option<Command<'_>>
+    ensures among { IfSome result (λ c. AreAmong (map string_bytes words.now) (command_value c)) }
+    ensures command { option_map command_value result ≡ check_words (map string_bytes words.now) }
+{
+    let [book, cert] = words else {
+        return None;
+    };
+    if !can_be_files(words) {
+        return None;
+    }
+    Some(Command::Check {
+        book: book.as_str(),
+        cert: cert.as_str(),
+    })
+}
+
+/// The command that the words say, where they are of the plain form. It takes no memory.
+pub fn read_command(words: &[String]) -> Option<Command<'_>>
+    ensures among { IfSome result (λ c. AreAmong (map string_bytes words.now) (command_value c)) }
+    ensures command { option_map command_value result ≡ command_of (map string_bytes words.now) }
+{
+    let [name, rest @ ..] = words else {
+        return None;
+    };
+    match name.as_str() {
+        "win" => win_command(rest),
+        "price" => price_command(rest),
+        "check" => check_command(rest),
+        _ => None,
+    }
+}

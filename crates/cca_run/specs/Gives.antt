@@ -1,0 +1,106 @@
+-- What each command gives, by the bytes of its inputs.
+use Rattle.std.specs.Prelude.{◌≡◌, ◌⊎◌, ℕ, Bool, true, false, Option, Some, None, List, [], ◌∷◌, ◌++◌, codes, replicate}
+use Rattle.auction_model.specs.Greatest.{IsWinning}
+use Rattle.auction_model.specs.Book.{market_of, Book as BookValue}
+use Rattle.auction_model.specs.Prices.{weight_of}
+use Rattle.auction_model.specs.PricingRun.{Turn, IsPricingRun}
+use Rattle.book_form.specs.WinText.{win_text}
+use Rattle.cert_form.specs.Certificate.{CertValue}
+use Rattle.cert_form.specs.CertText.{IsCertificate}
+use Rattle.cert_form.specs.Says.{cert_text}
+use Rattle.cert_laws.specs.Priced.{IsPricedCert}
+use Rattle.cert_laws.specs.Sound.{IsSound, cert_point, cert_prices}
+use Rattle.cert_laws.specs.Tests.{FailsFirst, Holds, bidders_of, states}
+use Rattle.core_price.specs.Weights.{FewWin, ManyWin}
+use Rattle.limits.specs.declared.LimitKind.TheVariants.{Winners}
+use Rattle.limits.specs.declared.TheConstants.{BOOK_BYTES, CERT_BYTES}
+use Rattle.print_form.specs.Prices.{IsPriceText}
+use Rattle.print_form.specs.Rounds.{AreTurnLines, IsLastPoint}
+use Rattle.row_laws.specs.Winners.{winners_in}
+use Rattle.cca_inputs.specs.Answers.{BookAnswers, CertAnswers}
+use Rattle.cca_inputs.specs.Command.{CommandValue, win, price, check, command_of, contents_of}
+use Rattle.cca_inputs.specs.Outcome.{FileText, InputGives, Outcome, done, stopped}
+use Rattle.cca_inputs.specs.declared.status.FileKind.{FileKind}
+use Rattle.cca_inputs.specs.declared.status.FileKind.TheVariants.{Book, Cert}
+use Rattle.cca_inputs.specs.declared.status.Status.TheVariants.{No, Words, Limit}
+
+-- each bidder of the book weighs 1
+abbrev pub ones : BookValue → List ℕ
+ones book = replicate (bidders_of book) 1
+
+-- the lines of the winners, and nothing is appended
+abbrev pub WinGives : BookValue → Outcome → Type 0
+WinGives book outcome = (z : List ℕ) × IsWinning (market_of book) z × (outcome ≡ done (win_text book z) [])
+
+-- the lines of the turns, where they are asked for
+abbrev pub AreRounds : Bool → List ℕ → List Turn → List ℕ → Type 0
+AreRounds true z turns text = AreTurnLines z 0 turns text
+AreRounds false z turns text = text ≡ []
+
+-- What pricing a book gives: a certificate of the core outcome for which all tests hold, and a pricing run that ends at its payments;
+-- printed are the lines of the turns, where they are asked for, and the prices.
+pub record IsPricing (book : BookValue) (weights : List ℕ) (rounds : Bool) (c : CertValue) (text : List ℕ) : Type 0 where
+  pub certificate : IsCertificate (bidders_of book) (states book) c
+  pub priced : IsPricedCert book (weight_of weights) c
+  pub few : FewWin c.choice weights
+  pub turns : List Turn
+  pub run : IsPricingRun (market_of book) (weight_of weights) c.choice turns
+  pub last : IsLastPoint turns (cert_point c)
+  pub lines : List ℕ
+  pub are_rounds : AreRounds rounds c.choice turns lines
+  pub prices : List ℕ
+  pub are_prices : IsPriceText book c.choice (cert_prices book c) (cert_point c) prices
+  pub whole : text ≡ lines ++ prices
+
+-- more winners than can be priced with the weights win
+pub record HasTooMany (book : BookValue) (z weights : List ℕ) : Type 0 where
+  pub winning : IsWinning (market_of book) z
+  pub many : ManyWin z weights
+
+-- the certificate is all that is appended
+abbrev pub cert_alone : CertValue → List FileText
+cert_alone c = record { kind = Cert; text = cert_text c } ∷ []
+
+-- The prices are printed and their certificate is appended; more winners than can be priced are the limit of winners.
+abbrev pub PriceGives : BookValue → List ℕ → Bool → Outcome → Type 0
+PriceGives book weights rounds outcome =
+    ((c : CertValue) × (text : List ℕ) × IsPricing book weights rounds c text × (outcome ≡ done text (cert_alone c)))
+    ⊎ ((z : List ℕ) × HasTooMany book z weights × (outcome ≡ stopped (Limit Winners (winners_in z))))
+
+-- the line `yes`, and the outcome that the certificate shows
+abbrev pub IsYesText : BookValue → CertValue → List ℕ → Type 0
+IsYesText book c text = (prices : List ℕ) × IsPriceText book c.choice (cert_prices book c) (cert_point c) prices × (text ≡ codes "yes\n" ++ prices)
+
+-- A certificate that passes all tests gives yes and the outcome that it shows; then its choice and its payments are the core outcome.
+-- Else the first test that fails is told, with its first place.
+abbrev pub VerdictGives : BookValue → List ℕ → CertValue → Outcome → Type 0
+VerdictGives book weights c outcome =
+    (Holds book (weight_of weights) c × IsSound book (weight_of weights) c × ((text : List ℕ) × IsYesText book c text × (outcome ≡ done text [])))
+    ⊎ ((test place : ℕ) × FailsFirst book (weight_of weights) c test place × (outcome ≡ stopped (No test place)))
+
+-- what the book, and a certificate of a book, gives by its bytes, where this follows
+abbrev pub BookGives : Option (List ℕ) → (BookValue → Outcome → Type 0) → Outcome → Type 0
+BookGives content follows outcome = InputGives Book BOOK_BYTES BookAnswers content follows outcome
+
+abbrev pub CertGives : BookValue → Option (List ℕ) → (CertValue → Outcome → Type 0) → Outcome → Type 0
+CertGives book content follows outcome = InputGives Cert CERT_BYTES (CertAnswers book) content follows outcome
+
+-- What a command gives, by the bytes of its inputs of each kind.
+abbrev pub CommandGives : CommandValue → (FileKind → Option (List ℕ)) → Outcome → Type 0
+CommandGives (win book) contents outcome = BookGives (contents Book) WinGives outcome
+CommandGives (price book cert rounds) contents outcome = BookGives (contents Book) (λ b. PriceGives b (ones b) rounds) outcome
+CommandGives (check book cert) contents outcome = BookGives (contents Book) (λ b. CertGives b (contents Cert) (VerdictGives b (ones b))) outcome
+
+-- what a command gives by the files
+abbrev pub FilesGive : CommandValue → (List ℕ → Option (List ℕ)) → Outcome → Type 0
+FilesGive command file outcome = CommandGives command (contents_of command file) outcome
+
+-- what the words give that may be no command
+abbrev pub WordsGive : Option CommandValue → (List ℕ → Option (List ℕ)) → Outcome → Type 0
+WordsGive None file outcome = outcome ≡ stopped Words
+WordsGive (Some command) file outcome = FilesGive command file outcome
+
+-- The result of a run, by its words and the bytes of the files. What is appended is free within the tests of a certificate, all else
+-- is one.
+abbrev pub Gives : List (List ℕ) → (List ℕ → Option (List ℕ)) → Outcome → Type 0
+Gives words file outcome = WordsGive (command_of words) file outcome

@@ -1,0 +1,133 @@
+-- How a run ends: the causes of faults, and what is left in the files and in the output.
+use Rattle.std.specs.Prelude.{◌≡◌, ◌⊎◌, ◌<◌, ◌≤◌, ℕ, IsTrue, Option, Some, None, List, [], ◌∷◌, ◌++◌, Contains, length}
+use Rattle.cca_base.specs.Faults.{Rose}
+use Rattle.cca_base.specs.Files.{Folder, KeepsFiles, Adds}
+use Rattle.cca_base.specs.Sink.{Output, Puts}
+use Rattle.cca_inputs.specs.Command.{CommandValue, command_of, contents_of, input_as, inputs_of, missing, output_as, outputs_of}
+use Rattle.cca_inputs.specs.Outcome.{FileText, Outcome, stopped}
+use Rattle.cca_inputs.specs.StatusLine.{status_line}
+use Rattle.cca_inputs.specs.declared.status.FileKind.{FileKind}
+use Rattle.cca_inputs.specs.declared.status.FileKind.TheVariants.{Award, Log, Book, Cert, Out}
+use Rattle.cca_inputs.specs.declared.status.Status.{Status}
+use Rattle.cca_inputs.specs.declared.status.Status.TheVariants.{Done, No, Words, Refused, ReadFault, WriteFault, Memory, Limit}
+use Rattle.cca_run.specs.Gives.{CommandGives, FilesGive, Gives}
+
+-- All steps before the input of this kind is read pass: with that input missing, the command would stop at it.
+abbrev pub IsReached : CommandValue → (FileKind → Option (List ℕ)) → FileKind → Type 0
+IsReached command contents kind = CommandGives command (missing kind contents) (stopped (ReadFault kind))
+
+-- the command reads a file of this kind, a load of which failed, and all that comes before it passed
+pub record FailsToRead (command : CommandValue) (old new : Folder) (kind : FileKind) : Type 0 where
+  pub name : List ℕ
+  pub input : input_as command kind ≡ Some name
+  pub rose : Rose (old.load_faults name) (new.load_faults name)
+  pub reached : IsTrue old.told → IsReached command (contents_of command old.file) kind
+
+abbrev pub IsReadFault : Option CommandValue → Folder → Folder → FileKind → Type 0
+IsReadFault None old new kind = ⊥
+IsReadFault (Some command) old new kind = FailsToRead command old new kind
+
+-- the whole text was appended to the command's file of its kind
+pub record AppendsWhole (command : CommandValue) (appended : FileText) (old new : Folder) : Type 0 where
+  pub name : List ℕ
+  pub output : output_as command appended.kind ≡ Some name
+  pub whole : Adds name old new appended.text (length appended.text)
+
+-- these texts were appended whole, one after the other, and no other file changed
+abbrev pub AppendsAll : CommandValue → List FileText → Folder → Folder → Type 0
+AppendsAll command [] old new = KeepsFiles old new
+AppendsAll command (first ∷ rest) old new = (between : Folder) × AppendsWhole command first old between × AppendsAll command rest between new
+
+-- Of these texts the ones before that of this kind were appended whole, of that one a part from its front and not all, and of those behind
+-- it nothing; no other file changed.
+pub record AppendsUpTo (command : CommandValue) (kind : FileKind) (appended : List FileText) (old new : Folder) : Type 0 where
+  pub before : List FileText
+  pub text : List ℕ
+  pub behind : List FileText
+  pub split : appended ≡ before ++ record { kind = kind; text = text } ∷ behind
+  pub between : Folder
+  pub whole : AppendsAll command before old between
+  pub name : List ℕ
+  pub output : output_as command kind ≡ Some name
+  pub count : ℕ
+  pub part : count < length text
+  pub front : Adds name between new text count
+
+-- The command appends to a file of this kind, an append to which failed: all else was done, the texts before this one were appended whole,
+-- and of this one a part from its front.
+pub record FailsToWrite (command : CommandValue) (old new : Folder) (kind : FileKind) : Type 0 where
+  pub name : List ℕ
+  pub output : output_as command kind ≡ Some name
+  pub rose : Rose (old.append_faults name) (new.append_faults name)
+  pub appended : List FileText
+  pub given : IsTrue old.told → (o : Outcome) × FilesGive command old.file o × (o.status ≡ Done) × (o.appended ≡ appended)
+  pub part : AppendsUpTo command kind appended old new
+
+abbrev pub IsFileFault : Option CommandValue → Folder → Folder → FileKind → Type 0
+IsFileFault None old new kind = ⊥
+IsFileFault (Some command) old new kind = FailsToWrite command old new kind
+
+abbrev pub IsWriteFault : Option CommandValue → Folder → Folder → Output → Output → FileKind → Type 0
+IsWriteFault command old new before now Award = IsFileFault command old new Award
+IsWriteFault command old new before now Log = IsFileFault command old new Log
+IsWriteFault command old new before now Book = IsFileFault command old new Book
+IsWriteFault command old new before now Cert = IsFileFault command old new Cert
+IsWriteFault command old new before now Out = Rose before.faults now.faults
+
+-- words of the plain form
+abbrev pub IsPlain : Option CommandValue → Type 0
+IsPlain None = ⊥
+IsPlain (Some command) = Unit {0}
+
+-- a fault of a file or want of memory, each with its cause
+abbrev pub IsHindrance : Option CommandValue → Folder → Folder → Status → Type 0
+IsHindrance command old new Done = ⊥
+IsHindrance command old new (No test place) = ⊥
+IsHindrance command old new Words = ⊥
+IsHindrance command old new (Refused file place entry) = ⊥
+IsHindrance command old new (ReadFault kind) = IsReadFault command old new kind
+IsHindrance command old new (WriteFault kind) = IsFileFault command old new kind
+IsHindrance command old new Memory = IsPlain command
+IsHindrance command old new (Limit which count) = ⊥
+
+-- A text that was due to be printed: that of the result, or the line of a hindrance whose own cause holds.
+abbrev pub IsDue : List (List ℕ) → Folder → Folder → List ℕ → Type 0
+IsDue words old new text =
+    ((o : Outcome) × Gives words old.file o × (text ≡ o.printed))
+    ⊎ ((status : Status) × IsHindrance (command_of words) old new status × (text ≡ status_line status))
+
+-- what a command appends was appended whole
+abbrev pub Appended : Option CommandValue → List FileText → Folder → Folder → Type 0
+Appended None appended old new = KeepsFiles old new
+Appended (Some command) appended old new = AppendsAll command appended old new
+
+-- The texts that the command gives were appended, whole and in order, up to some place.
+pub record Grows (command : CommandValue) (old new : Folder) : Type 0 where
+  pub appended : List FileText
+  pub given : IsTrue old.told → (o : Outcome) × FilesGive command old.file o × (o.status ≡ Done) × (o.appended ≡ appended)
+  pub grown : AppendsAll command appended old new ⊎ ((kind : FileKind) × AppendsUpTo command kind appended old new)
+
+-- no file changed, or the command's files grew
+abbrev pub Changes : Option CommandValue → Folder → Folder → Type 0
+Changes None old new = KeepsFiles old new
+Changes (Some command) old new = KeepsFiles old new ⊎ Grows command old new
+
+-- the names of the files that are read, and of those that are appended to; none without a command
+abbrev pub inputs : Option CommandValue → List (List ℕ)
+inputs None = []
+inputs (Some command) = inputs_of command
+
+abbrev pub outputs : Option CommandValue → List (List ℕ)
+outputs None = []
+outputs (Some command) = outputs_of command
+
+-- no count falls, and only those of these names may rise
+pub record CountsAmong (names : List (List ℕ)) (old new : List ℕ → ℕ) : Type 0 where
+  pub not_less : (name : List ℕ) → old name ≤ new name
+  pub elsewhere : (name : List ℕ) → (Contains names name → ⊥) → new name ≡ old name
+
+-- the whole text was written and this status answered, or a front of it and a fault of the output, which was counted
+abbrev pub Prints : Output → Output → List ℕ → Status → Status → Type 0
+Prints old new text status result =
+    ((result ≡ status) × Puts old new text (length text))
+    ⊎ ((result ≡ WriteFault Out) × Rose old.faults new.faults × ((n : ℕ) × (n < length text) × Puts old new text n))

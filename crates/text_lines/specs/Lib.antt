@@ -1,0 +1,4 @@
+pub mod Numeral
+pub mod Range
+pub mod Decimals
+pub mod Fields
