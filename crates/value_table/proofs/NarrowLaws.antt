@@ -20,13 +20,13 @@ pub sum-narrow : (a b : ℤ) → unsigned_abs a ≤ 2 ^ 61 → unsigned_abs b �
 sum-narrow a b h k = omega (arith, ints, h, k)
 
 module _ (l : Lowering) where
-  pub narrow-spread : IsBidBook l.book.now → unsigned_abs l.den ≤ 2 ^ 14 → ((k : ℕ) → unsigned_abs (get_or l.surplus.now k (pos 0)) ≤ 2 ^ 56) → IsNarrow l
+  pub narrow-spread : IsBidBook l.book.now → unsigned_abs l.den ≤ 2 ^ 13 → ((k : ℕ) → unsigned_abs (get_or l.surplus.now k (pos 0)) ≤ 2 ^ 56) → IsNarrow l
   narrow-spread kept den surplus =
       let bids = (counted_bids l).bids in
       let top = λ (j : ℕ). greatest_size (net_of l.book.now j) (bids j) in
       let small : (j : ℕ) → top j ≤ 2 ^ 42 = λ j. greatest-at_most (net_of l.book.now j) (bids j) (2 ^ 42) (λ i low. net-small l.book.now j i kept (omega (arith, low, bids-fewer l.book.now l.skip j))) in
-      let one : (j : ℕ) → unsigned_abs l.den * top j + unsigned_abs (of_bidder l.surplus.now j) ≤ 2 ^ 57 = λ j. omega (arith, surplus (j - 1), mul-le (unsigned_abs l.den) (top j) (2 ^ 14) (2 ^ 42) den (small j)) in
-      omega (arith, kept.bidders, sum_to-at_most (λ j. unsigned_abs l.den * top j + unsigned_abs (of_bidder l.surplus.now j)) (length l.book.now.bidders) (2 ^ 57) one)
+      let one : (j : ℕ) → unsigned_abs l.den * top j + unsigned_abs (of_bidder l.surplus.now j) ≤ 2 ^ 55 + 2 ^ 56 = λ j. omega (arith, surplus (j - 1), mul-le (unsigned_abs l.den) (top j) (2 ^ 13) (2 ^ 42) den (small j)) in
+      omega (arith, kept.bidders, sum_to-at_most (λ j. unsigned_abs l.den * top j + unsigned_abs (of_bidder l.surplus.now j)) (length l.book.now.bidders) (2 ^ 55 + 2 ^ 56) one)
 
   pub line-narrow : IsNarrow l → (k : ℕ) (line : List ℤ) → IsCountedLine l k line → (s : ℕ) → unsigned_abs (get_or line s (pos 0)) ≤ 2 ^ 61
   line-narrow narrow k line e s =

@@ -6,7 +6,7 @@ ghost use Rattle.value_table.specs.BookTable.{IsInRange};
 use bid_book::BidBook;
 
 /// The greatest denominator with which a table is narrow.
-const NARROW_DEN: u128 = 1 << 14;
+const NARROW_DEN: u128 = 1 << 13;
 
 /// The greatest surplus with which a table is narrow.
 const NARROW_SURPLUS: u128 = 1 << 56;
