@@ -9,7 +9,7 @@ use Rattle.auction_model.specs.Book.{Book, market_of}
 use Rattle.auction_model.specs.Prices.{Point, AreWeights, sum_over, everyone, IsCorePoint, AreVickreyPrices, IsLeastSum, IsNearest, share, square_distance}
 use Rattle.auction_model.proofs.PriceLaws.{vickrey-one}
 use Rattle.wide_num.specs.Sums.{total, dot}
-use Rattle.wide_num.proofs.Sums.{total-same, total-zero}
+use Rattle.wide_num.proofs.Sums.{total-zero}
 use Rattle.point_laws.specs.Points.{SamePoint, square_distance as distance_to}
 use Rattle.point_laws.specs.Multipliers.{AreFirst, AreSecond, AreShares, SumsToOrStands}
 use Rattle.point_laws.proofs.PointLaws.{least, nearest}

@@ -8,4 +8,6 @@ pub mod Rows
 pub mod Aims
 pub mod Outcome
 pub mod Exact
+pub mod TextSizes
+pub mod ShortText
 pub mod WorkedCases

@@ -1,5 +1,5 @@
 -- Certificates whose sizes fail: a denominator of 0, a value below 0, and a product that leaves the range.
-use Rattle.std.proofs.Common.{◌≡◌, [], refl, arith}
+use Rattle.std.proofs.Common.{[], refl, arith}
 use Rattle.std.specs.Prelude.{ℤ, pos, negsuc, ◌^◌, ◌-◌}
 use Rattle.std.proofs.lemmas.Int.{ints}
 use Rattle.cert_form.specs.Certificate.{CertValue}

@@ -2,3 +2,4 @@ pub mod Tests
 pub mod Sound
 pub mod Priced
 pub mod Weights
+pub mod BookSizes

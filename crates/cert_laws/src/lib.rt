@@ -7,7 +7,7 @@
 //! Computer Science Review 5, 2011.)
 #![tactic(auto)]
 
-ghost use Rattle.std.specs.Prelude.{◌≡◌, ℕ, List, ℤ, length};
+ghost use Rattle.std.specs.Prelude.{◌≡◌, ◌≤◌, ◌<◌, ℕ, List, ℤ, length};
 ghost use Rattle.auction_model.specs.Book.{Book, net_of, menu_of, market_of};
 ghost use Rattle.auction_model.specs.Lowered.{lowered};
 ghost use Rattle.auction_model.specs.Menu.{without};
@@ -15,8 +15,14 @@ ghost use Rattle.auction_model.specs.Prices.{AreWeights};
 ghost use Rattle.auction_model.specs.Table.{IsExactTable};
 ghost use Rattle.row_laws.specs.Surplus.{surpluses_of};
 ghost use Rattle.cert_form.specs.Certificate.{CertValue};
+ghost use Rattle.cert_form.specs.CertText.{IsCertificate};
+ghost use Rattle.cert_form.specs.Says.{cert_text};
+ghost use Rattle.row_laws.specs.Winners.{winners_in};
+ghost use Rattle.limits.specs.declared.TheConstants.{MOST_WINNERS};
+ghost use Rattle.cert_laws.specs.BookSizes.{IsWithinSizes};
+ghost use Rattle.cert_laws.specs.Priced.{IsPricedCert};
 ghost use Rattle.cert_laws.specs.Sound.{IsSound};
-ghost use Rattle.cert_laws.specs.Tests.{Obeys, bidders_of, C5, lowered_net, Holds, FailsFirst};
+ghost use Rattle.cert_laws.specs.Tests.{Obeys, bidders_of, states, C5, lowered_net, Holds, FailsFirst};
 
 /// A certificate that passes all tests is sound: its choice is the winning one, its value the value of that choice, its
 /// parts give the Vickrey prices, and its choice and payments are the core outcome.
@@ -45,4 +51,14 @@ pub fn exact_tables()
     ensures lowered { (book : Book) (c : CertValue) (table : List (List ℤ)) → length c.pay ≡ bidders_of book → ((place : ℕ) → C5 book c place)
         → IsExactTable (menu_of book) (lowered c.den (net_of book) (surpluses_of (market_of book) c.choice c.den c.pay)) book.supply table
         → Obeys (menu_of book) (lowered_net book c) book.supply table }
+{}
+
+/// The text of a certificate that pricing writes has less than 57,000,000 bytes, where the book is within the limits and at most
+/// six bidders win: so it is never above the limit of a certificate file.
+///
+/// A table of net amounts has at most 17 lines of 16,384 entries, each of at most 14 digits, and a certificate has at most seven
+/// of them. The table of lowered worths has entries of at most 37 digits.
+pub fn short_text()
+    ensures { (book : Book) (w : ℕ → ℕ) (c : CertValue) → IsWithinSizes book → IsCertificate (bidders_of book) (states book) c → IsPricedCert book w c → winners_in c.choice ≤ MOST_WINNERS
+        → length (cert_text c) < 57000000 }
 {}

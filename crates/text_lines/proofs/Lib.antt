@@ -5,3 +5,4 @@ pub mod Signs
 pub mod FieldRuns
 pub mod Words
 pub mod Runs
+pub mod Lengths
