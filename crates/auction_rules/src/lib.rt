@@ -16,9 +16,9 @@ ghost use Rattle.auction_model.specs.Book.{bidder_of};
 ghost use Rattle.auction_model.specs.Package.{ComesBefore, is_within, cost_of};
 ghost use Rattle.auction_rules.specs.PackageTests.{first_over, is_empty, is_same, is_before, InOrder};
 ghost use Rattle.auction_rules.specs.Terms.{Terms, entrant, final_cap};
-ghost use Rattle.auction_rules.specs.Step.{ticks_of, IsRaise};
+ghost use Rattle.auction_rules.specs.Step.{AreRisingFrom, IsRaise, IsReachedShare, permille_at, ticks_of};
 ghost use Rattle.auction_rules.specs.Rounds.{OwnRound, prices_after};
-ghost use Rattle.auction_rules.specs.Caps.{list_fault, constraining, constraining_number, round_at};
+ghost use Rattle.auction_rules.specs.Caps.{IsLastEnough, list_fault, constraining, constraining_number, round_at};
 ghost use Rattle.auction_rules.specs.Replies.{is_of, reply_to, has_entry, admitted, standing};
 ghost use Rattle.auction_rules.specs.State.{state_of, reply_in, state_with};
 ghost use Rattle.auction_rules.specs.View.{view, own_replies};
@@ -114,6 +114,13 @@ pub fn package_tests()
     ensures none_over { (category : ℕ) (lots supply : List ℕ) → first_over category lots supply ≡ None → is_within lots supply ≡ true }
 {}
 
+/// A price rises by the permille of the greatest threshold that the excess reaches, where the thresholds rise and the excess
+/// reaches the first.
+pub fn greatest_threshold()
+    ensures { (first : ℕ × ℕ) (later : List (ℕ × ℕ)) (excess : ℕ) → AreRisingFrom first.0 later → first.0 ≤ excess
+        → IsReachedShare (first ∷ later) excess (permille_at (first ∷ later) excess) }
+{}
+
 /// A raise is the least multiple of the tick that is at least the tick and at least so many thousandths of the price, and there
 /// is no other.
 pub fn raise_is_least()
@@ -126,10 +133,12 @@ pub fn prices_never_fall()
     ensures { (terms : Terms) (held : ℕ → ℕ → List ℕ) (n : ℕ) (lots : List ℕ) → cost_of (prices_after terms held n) lots ≤ cost_of (prices_after terms held (suc n)) lots }
 {}
 
-/// The constraining round for some points is the round of its number: the last one in which the bidder's eligibility was enough
-/// for them.
+/// The constraining round for some points is the round of its number. Where the bidder's eligibility was enough for them in some
+/// round, it was so in this one, and in no later one.
 pub fn constraining_round()
-    ensures { (points : ℕ) (rounds : List OwnRound) → constraining points rounds ≡ round_at rounds (constraining_number points rounds) }
+    ensures last { (points : ℕ) (rounds : List OwnRound) (k : ℕ) → 1 ≤ k → k ≤ length rounds → points ≤ (round_at rounds k).eligibility
+        → IsLastEnough points rounds (constraining_number points rounds) }
+    ensures number { (points : ℕ) (rounds : List OwnRound) → constraining points rounds ≡ round_at rounds (constraining_number points rounds) }
 {}
 
 /// After any log a bidder is eligible for the package that it holds, and its submitted list is valid: each amount in it, but
