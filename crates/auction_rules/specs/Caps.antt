@@ -1,5 +1,5 @@
 -- Relative caps, over the clock rounds of one bidder.
-use Rattle.std.specs.Prelude.{ℕ, zero, suc, ◌+◌, ◌-◌, max, min, Bool, true, false, List, [], ◌∷◌, ◌++◌, Option, Some, None, map, slice_index_or, nat_le, if◌then◌else◌}
+use Rattle.std.specs.Prelude.{ℕ, zero, suc, ◌+◌, ◌-◌, ◌≤◌, ◌<◌, max, min, Bool, true, false, List, [], ◌∷◌, ◌++◌, Option, Some, None, map, length, slice_index_or, nat_le, if◌then◌else◌}
 use Rattle.auction_model.specs.Book.{BookBid}
 use Rattle.auction_model.specs.Package.{cost_of}
 use Rattle.auction_rules.specs.PackageTests.{is_empty, is_same}
@@ -37,6 +37,13 @@ constraining_number points rounds = last_or 0 (enough_numbers points 1 rounds)
 abbrev pub round_at : List OwnRound → ℕ → OwnRound
 round_at rounds zero = no_round
 round_at rounds (suc k) = slice_index_or rounds k no_round
+
+-- the round of this number is the last one whose eligibility is enough for the points
+pub record IsLastEnough (points : ℕ) (rounds : List OwnRound) (number : ℕ) : Type 0 where
+  pub some : 1 ≤ number
+  pub there : number ≤ length rounds
+  pub enough : points ≤ (round_at rounds number).eligibility
+  pub later : (k : ℕ) → number < k → k ≤ length rounds → (round_at rounds k).eligibility < points
 
 -- the clock bid of a round
 abbrev pub clock_bid : OwnRound → BookBid

@@ -1,6 +1,7 @@
 -- The reply to a line. A list of lines has the newest line first; a line is admitted when its reply, after the lines before it,
 -- is Ok.
-use Rattle.std.specs.Prelude.{ℕ, suc, ◌-◌, ◌^◌, Bool, true, false, not, ◌&&◌, ◌||◌, List, [], ◌∷◌, Option, Some, None, map, length, nat_le, nat_lt, ◌==◌, if◌then◌else◌}
+use Rattle.std.specs.Prelude.{ℕ, suc, ◌-◌, Bool, true, false, not, ◌&&◌, ◌||◌, List, [], ◌∷◌, Option, Some, None, map, length, nat_le, nat_lt, ◌==◌, if◌then◌else◌}
+use Rattle.limits.specs.declared.TheConstants.{MOST_AMOUNT, MOST_DRAFTS, MOST_PRICE, MOST_ROUNDS}
 use Rattle.auction_rules.specs.declared.Event.{Event}
 use Rattle.auction_rules.specs.declared.Event.TheVariants.{Bid, Draft, Drop, Submit, Close}
 use Rattle.auction_rules.specs.declared.Reply.{Reply}
@@ -103,13 +104,13 @@ has_entry lots [] = false
 has_entry lots (b ∷ bids) = is_same b.lots lots || has_entry lots bids
 
 abbrev pub drafts_full : List BookBid → List ℕ → Option Reply
-drafts_full drafts lots = when (not (has_entry lots drafts) && nat_le 300 (length drafts)) (reply.Full 300)
+drafts_full drafts lots = when (not (has_entry lots drafts) && nat_le MOST_DRAFTS (length drafts)) (reply.Full MOST_DRAFTS)
 
 -- the first of the prices that is above the top, where the first of them is that of the given category
 -- (prices that were not raised are not above it, where the reserves are not)
 abbrev pub price_top : ℕ → List ℕ → Option Reply
 price_top category [] = None
-price_top category (p ∷ prices) = if nat_le p (2 ^ 36) then price_top (suc category) prices else Some (reply.PriceTop category p)
+price_top category (p ∷ prices) = if nat_le p MOST_PRICE then price_top (suc category) prices else Some (reply.PriceTop category p)
 
 -- the reply to a clock bid of bidder j
 abbrev pub bid_reply : Terms → Stage → ℕ → ℕ → List ℕ → Reply
@@ -134,7 +135,7 @@ own_reply terms j s (Draft k lots amount) = first_reply (
     ∷ below_reserve terms lots amount
     ∷ below_clock s.rounds lots amount
     ∷ drafts_full s.drafts lots
-    ∷ when (nat_lt (2 ^ 42) amount) (reply.AmountTop (2 ^ 42))
+    ∷ when (nat_lt MOST_AMOUNT amount) (reply.AmountTop MOST_AMOUNT)
     ∷ [])
 own_reply terms j s (Drop k lots) = first_reply (
     when (not (is_sealed s.stage)) reply.Stage
@@ -156,7 +157,7 @@ has_excess terms held n = is_clock (stage_after terms held n) && not (is_within 
 abbrev pub close_reply : Terms → (ℕ → ℕ → List ℕ) → ℕ → Reply
 close_reply terms held n = first_reply (
     when (is_closed (stage_after terms held n)) reply.Stage
-    ∷ when (has_excess terms held n && nat_le 300 (suc n)) (reply.Full 300)
+    ∷ when (has_excess terms held n && nat_le MOST_ROUNDS (suc n)) (reply.Full MOST_ROUNDS)
     ∷ (if has_excess terms held n then price_top 1 (prices_after terms held (suc n)) else None)
     ∷ [])
 

@@ -1,5 +1,6 @@
 -- The state of a desk, which takes the lines of a log one by one: what it keeps for all bidders at once.
 use Rattle.std.specs.Prelude.{ℕ, zero, suc, ◌-◌, Bool, not, ◌&&◌, List, [], ◌∷◌, ◌++◌, None, map, length, slice_index, slice_index_or, slice_set, nat_le, if◌then◌else◌}
+use Rattle.limits.specs.declared.TheConstants.{MOST_ROUNDS}
 use Rattle.auction_rules.specs.declared.Event.{Event}
 use Rattle.auction_rules.specs.declared.Event.TheVariants.{Bid, Draft, Drop, Submit, Close}
 use Rattle.auction_rules.specs.declared.Reply.{Reply}
@@ -139,7 +140,7 @@ has_excess_in st = is_clock st.stage && not (is_within (asked st.terms st.held) 
 abbrev pub close_reply_in : DeskState → Reply
 close_reply_in st = first_reply (
     when (is_closed st.stage) reply.Stage
-    ∷ when (has_excess_in st && nat_le 300 (suc (length st.rounds))) (reply.Full 300)
+    ∷ when (has_excess_in st && nat_le MOST_ROUNDS (suc (length st.rounds))) (reply.Full MOST_ROUNDS)
     ∷ (if has_excess_in st then price_top 1 (raised_prices st.terms.tick st.terms.thresholds st.prices (asked st.terms st.held) st.terms.supply) else None)
     ∷ [])
 

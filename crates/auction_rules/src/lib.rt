@@ -12,13 +12,14 @@
 
 ghost use Rattle.std.specs.Prelude.{◌≡◌, ℕ, suc, ◌+◌, ◌*◌, ◌≤◌, List, ◌∷◌, None, IsTrue, true, false, not, ◌&&◌, length, map};
 ghost use Rattle.std.specs.List.{AllByRecursion};
+ghost use Rattle.limits.specs.declared.TheConstants.{MOST_BIDS, MOST_ROUNDS};
 ghost use Rattle.auction_model.specs.Book.{bidder_of};
 ghost use Rattle.auction_model.specs.Package.{ComesBefore, is_within, cost_of};
 ghost use Rattle.auction_rules.specs.PackageTests.{first_over, is_empty, is_same, is_before, InOrder};
 ghost use Rattle.auction_rules.specs.Terms.{Terms, entrant, final_cap};
-ghost use Rattle.auction_rules.specs.Step.{ticks_of, IsRaise};
+ghost use Rattle.auction_rules.specs.Step.{AreRisingFrom, IsRaise, IsReachedShare, permille_at, ticks_of};
 ghost use Rattle.auction_rules.specs.Rounds.{OwnRound, prices_after};
-ghost use Rattle.auction_rules.specs.Caps.{list_fault, constraining, constraining_number, round_at};
+ghost use Rattle.auction_rules.specs.Caps.{IsLastEnough, list_fault, constraining, constraining_number, round_at};
 ghost use Rattle.auction_rules.specs.Replies.{is_of, reply_to, has_entry, admitted, standing};
 ghost use Rattle.auction_rules.specs.State.{state_of, reply_in, state_with};
 ghost use Rattle.auction_rules.specs.View.{view, own_replies};
@@ -114,6 +115,13 @@ pub fn package_tests()
     ensures none_over { (category : ℕ) (lots supply : List ℕ) → first_over category lots supply ≡ None → is_within lots supply ≡ true }
 {}
 
+/// A price rises by the permille of the greatest threshold that the excess reaches, where the thresholds rise and the excess
+/// reaches the first.
+pub fn greatest_threshold()
+    ensures { (first : ℕ × ℕ) (later : List (ℕ × ℕ)) (excess : ℕ) → AreRisingFrom first.0 later → first.0 ≤ excess
+        → IsReachedShare (first ∷ later) excess (permille_at (first ∷ later) excess) }
+{}
+
 /// A raise is the least multiple of the tick that is at least the tick and at least so many thousandths of the price, and there
 /// is no other.
 pub fn raise_is_least()
@@ -126,10 +134,12 @@ pub fn prices_never_fall()
     ensures { (terms : Terms) (held : ℕ → ℕ → List ℕ) (n : ℕ) (lots : List ℕ) → cost_of (prices_after terms held n) lots ≤ cost_of (prices_after terms held (suc n)) lots }
 {}
 
-/// The constraining round for some points is the round of its number: the last one in which the bidder's eligibility was enough
-/// for them.
+/// The constraining round for some points is the round of its number. Where the bidder's eligibility was enough for them in some
+/// round, it was so in this one, and in no later one.
 pub fn constraining_round()
-    ensures { (points : ℕ) (rounds : List OwnRound) → constraining points rounds ≡ round_at rounds (constraining_number points rounds) }
+    ensures last { (points : ℕ) (rounds : List OwnRound) (k : ℕ) → 1 ≤ k → k ≤ length rounds → points ≤ (round_at rounds k).eligibility
+        → IsLastEnough points rounds (constraining_number points rounds) }
+    ensures number { (points : ℕ) (rounds : List OwnRound) → constraining points rounds ≡ round_at rounds (constraining_number points rounds) }
 {}
 
 /// After any log a bidder is eligible for the package that it holds, and its submitted list is valid: each amount in it, but
@@ -141,12 +151,12 @@ pub fn sound_standings()
         → list_fault (final_cap terms) terms.points (standing terms (admitted terms log) j).rounds (standing terms (admitted terms log) j).submitted ≡ None }
 {}
 
-/// What a bidder's rounds and lists keep after any log, on which relative caps rest: there are at most 300 closed rounds; the
+/// What a bidder's rounds and lists keep after any log, on which relative caps rest: there are no more closed rounds than there may be; the
 /// eligibility never rises, from that of the award to that of the posted round. Where the packages of the log have the award's
-/// number of categories, the draft list and the submitted list have at most 300 entries, in the order of their packages, each
-/// once, and each of them the bidder may draft.
+/// number of categories, the draft list and the submitted list have no more entries than they may, in the order of their
+/// packages, each package once, and each of them the bidder may draft.
 pub fn kept_standings()
-    ensures rounds { (terms : Terms) (log : List Event) (j : ℕ) → length (standing terms (admitted terms log) j).rounds ≤ 300 }
+    ensures rounds { (terms : Terms) (log : List Event) (j : ℕ) → length (standing terms (admitted terms log) j).rounds ≤ MOST_ROUNDS }
     ensures eligibility { (terms : Terms) (log : List Event) (j : ℕ)
         → NeverRises (entrant terms j).eligibility (standing terms (admitted terms log) j).rounds (standing terms (admitted terms log) j).eligibility }
     ensures drafts { (terms : Terms) (log : List Event) (j : ℕ) → AllByRecursion (HasCategories terms) log
@@ -188,14 +198,14 @@ pub fn bidders_of_book()
 
 /// What stands in the book of a log. A package has a bid of the bidder exactly where it isn't empty and stands among the bidder's
 /// clock bids or in its submitted list. Each bid is one of these, and none of them has a greater amount for its package. No bid
-/// is for the empty package, and there are at most 600.
+/// is for the empty package, and there are no more than a book allows.
 pub fn bids_of_book()
     ensures packages { (terms : Terms) (log : List Event) (j : ℕ) (lots : List ℕ)
         → has_entry lots (bids_in_book terms log j) ≡ (not (is_empty lots) && has_entry lots (pairs_of (standing terms (admitted terms log) j))) }
     ensures amounts { (terms : Terms) (log : List Event) (j : ℕ)
         → AllByRecursion (IsGreatestFor (pairs_of (standing terms (admitted terms log) j))) (bids_in_book terms log j) }
     ensures some { (terms : Terms) (log : List Event) (j : ℕ) → AllByRecursion (λ b. is_empty b.lots ≡ false) (bids_in_book terms log j) }
-    ensures few { (terms : Terms) (log : List Event) (j : ℕ) → length (bids_in_book terms log j) ≤ 600 }
+    ensures few { (terms : Terms) (log : List Event) (j : ℕ) → length (bids_in_book terms log j) ≤ MOST_BIDS }
 {}
 
 /// The bids of a bidder in the book are in the order of their packages, each package once.

@@ -9,3 +9,4 @@ mod AwardLaws
 mod LimitLaws
 mod PartLaws
 mod ReadingLaws
+mod AwardBooks

@@ -62,7 +62,7 @@ apart-more bidders e apart new =
     (IsDistinct-push nat_list_eq_equiv (names_of bidders) e.name apart (not-true (list_any (bytes_eq e.name) (names_of bidders)) new))
 
 -- the name of a bidder, by its place
-name-at : (bidders : List Entrant) (i : ℕ) → i < length bidders → get_or (names_of bidders) i [] ≡ (get_or bidders i (entrant_with [] 0 [])).name
+pub name-at : (bidders : List Entrant) (i : ℕ) → i < length bidders → get_or (names_of bidders) i [] ≡ (get_or bidders i (entrant_with [] 0 [])).name
 name-at bidders i inside = get_or-map name_of bidders i (entrant_with [] 0 []) [] inside
 
 number-few-by : (o : Option ℕ) (name : List ℕ) (names : List (List ℕ)) → position (bytes_eq name) names ≡ o → from_one o ≤ length names

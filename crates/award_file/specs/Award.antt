@@ -1,7 +1,8 @@
 -- What each award keeps, and who a name is in it.
-use Rattle.std.specs.Prelude.{◌≡◌, ℕ, ◌+◌, ◌-◌, ◌^◌, ◌≤◌, ◌<◌, Bool, not, List, [], ◌∷◌, length, map, Option, Some, None, position, slice_index_or}
+use Rattle.std.specs.Prelude.{◌≡◌, ℕ, ◌+◌, ◌-◌, ◌≤◌, ◌<◌, Bool, not, List, [], ◌∷◌, length, map, Option, Some, None, position, slice_index_or}
 use Rattle.std.specs.List.{All, IsDistinct, list_any}
 use Rattle.std.specs.Str.{bytes_eq}
+use Rattle.limits.specs.declared.TheConstants.{MOST_BIDDERS, MOST_COUNT, MOST_POINTS, MOST_PRICE}
 use Rattle.auction_rules.specs.Terms.{SpectrumRule, Entrant, Terms}
 use Rattle.book_form.specs.BookForm.{IsName}
 use Rattle.lots.specs.Limits.{IsSupply}
@@ -30,7 +31,7 @@ AreThresholds (t ∷ ts) = (t.0 ≡ 1) × RiseAbove 0 (t ∷ ts)
 -- what a step table keeps
 pub record IsSteps (steps : Steps) : Type 0 where
   pub some_tick : 1 ≤ steps.tick
-  pub tick_top : steps.tick ≤ 2 ^ 36
+  pub tick_top : steps.tick ≤ MOST_PRICE
   pub few : length steps.thresholds ≤ 20
   pub thresholds : AreThresholds steps.thresholds
 
@@ -39,7 +40,7 @@ pub record IsEntrant (categories : ℕ) (e : Entrant) : Type 0 where
   pub name : IsName e.name
   pub eligibility : e.eligibility ≤ 1000000
   pub holding : length e.holding ≡ categories
-  pub most_held : All (λ n. n ≤ 999) e.holding
+  pub most_held : All (λ n. n ≤ MOST_COUNT) e.holding
 
 -- a spectrum cap of an award with so many categories
 pub record IsRule (categories : ℕ) (r : SpectrumRule) : Type 0 where
@@ -62,11 +63,11 @@ pub record IsAward (terms : Terms) : Type 0 where
   pub version : (1 ≤ terms.version) × (terms.version ≤ 2)
   pub supply : IsSupply terms.supply
   pub points : length terms.points ≡ length terms.supply
-  pub most_points : All (λ p. p ≤ 10000) terms.points
+  pub most_points : All (λ p. p ≤ MOST_POINTS) terms.points
   pub reserves : length terms.reserves ≡ length terms.supply
-  pub most_reserve : All (λ p. p ≤ 2 ^ 36) terms.reserves
+  pub most_reserve : All (λ p. p ≤ MOST_PRICE) terms.reserves
   pub steps : IsSteps (steps_of terms)
-  pub few_bidders : length terms.bidders ≤ 16
+  pub few_bidders : length terms.bidders ≤ MOST_BIDDERS
   pub bidders : All (IsEntrant (length terms.supply)) terms.bidders
   pub apart : AreNamedApart terms.bidders
   pub few_rules : length terms.rules ≤ 20

@@ -2,6 +2,7 @@
 use Rattle.std.specs.Prelude.{◌≡◌, ℕ, ◌-◌, ◌^◌, min, List, length, Option, Some, None, nat_le, if◌then◌else◌}
 use Rattle.std.specs.Str.{is_utf8}
 use Rattle.std.specs.Option.{option_or}
+use Rattle.limits.specs.declared.TheConstants.{MOST_BIDDERS}
 use Rattle.toml.specs.Data.{Members}
 use Rattle.toml.specs.Parse.{parse_document}
 use Rattle.book_form.specs.BookLines.{Excess, supply_excess}
@@ -18,9 +19,9 @@ use Rattle.award_file.specs.declared.read.AwardStop.TheVariants.{Text, Field, Li
 abbrev pub stated_table : List ℕ → Option Members
 stated_table bytes = if is_utf8 bytes then parse_document bytes else None
 
--- what more than 16 bidders exceed
+-- what too many bidders exceed
 abbrev pub bidders_excess : ℕ → Option Excess
-bidders_excess count = if nat_le count 16 then None else Some (Bidders, count)
+bidders_excess count = if nat_le count MOST_BIDDERS then None else Some (Bidders, count)
 
 -- the first limit that the terms exceed, with the count: of categories, lots, states, bidders in this order
 abbrev pub terms_excess : Terms → Option Excess

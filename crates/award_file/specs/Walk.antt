@@ -1,6 +1,7 @@
 -- The walk over the rules of an award: the first that a table breaks, and the terms of a table that breaks none.
 use Rattle.std.specs.Prelude.{ℕ, ◌+◌, ◌-◌, ◌^◌, min, ◌&&◌, not, ◌==◌, Bool, true, false, if◌then◌else◌, List, [], ◌∷◌, ◌++◌, map, codes, Option, Some, None, is_some, option_and_then, unwrap_or, length, replicate, nat_le, nat_lt}
 use Rattle.std.specs.Option.{option_or}
+use Rattle.limits.specs.declared.TheConstants.{MOST_COUNT, MOST_POINTS, MOST_PRICE}
 use Rattle.toml.specs.Data.{Data, Members, get_member}
 use Rattle.auction_rules.specs.Step.{last_or}
 use Rattle.auction_rules.specs.Terms.{Terms, Entrant, SpectrumRule}
@@ -49,17 +50,17 @@ name_or_none t = unwrap_or (name_at t) []
 abbrev pub category_keys : List (List ℕ)
 category_keys = codes "name" ∷ codes "supply" ∷ codes "points" ∷ codes "reserve" ∷ []
 
--- 1 to 999 lots
+-- at least one lot, and no more than a text may state
 abbrev pub supply_at : Members → Option ℕ
-supply_at t = number_at 1 999 (codes "supply") t
+supply_at t = number_at 1 MOST_COUNT (codes "supply") t
 
--- at most 10,000 points
+-- points of a lot
 abbrev pub points_at : Members → Option ℕ
-points_at t = number_at 0 10000 (codes "points") t
+points_at t = number_at 0 MOST_POINTS (codes "points") t
 
--- a reserve of at most 2^36
+-- a reserve, at most the greatest price
 abbrev pub reserve_at : Members → Option ℕ
-reserve_at t = number_at 0 (2 ^ 36) (codes "reserve") t
+reserve_at t = number_at 0 MOST_PRICE (codes "reserve") t
 
 -- the first fault of a category behind those of these names
 abbrev pub category_fault : List (List ℕ) → Members → Option Fault
@@ -89,10 +90,10 @@ bidder_keys = codes "name" ∷ codes "eligibility" ∷ codes "holding" ∷ []
 abbrev pub eligibility_at : Members → Option ℕ
 eligibility_at t = number_at 0 1000000 (codes "eligibility") t
 
--- for each category a holding of at most 999 lots, or no lots at all where the key is missing
+-- for each category a holding, or no lots at all where the key is missing
 abbrev pub holding_in : ℕ → Option Data → Option (List ℕ)
 holding_in categories None = Some (replicate categories 0)
-holding_in categories (Some d) = row_of categories 999 d
+holding_in categories (Some d) = row_of categories MOST_COUNT d
 
 -- the holding that a table states
 abbrev pub holding_at : ℕ → Members → Option (List ℕ)
@@ -199,9 +200,9 @@ top_keys = codes "version" ∷ codes "tick" ∷ codes "category" ∷ codes "bidd
 abbrev pub version_at : Members → Option ℕ
 version_at t = number_at 1 2 (codes "version") t
 
--- a tick of 1 to 2^36
+-- a tick of at least 1, at most the greatest price
 abbrev pub tick_at : Members → Option ℕ
-tick_at t = number_at 1 (2 ^ 36) (codes "tick") t
+tick_at t = number_at 1 MOST_PRICE (codes "tick") t
 
 -- how many categories the table states
 abbrev pub category_count : Members → ℕ

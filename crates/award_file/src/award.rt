@@ -1,5 +1,6 @@
 // Awards, and the calls that read them.
 ghost use Rattle.std.specs.Prelude.{◌≡◌, ℕ, ◌≤◌, ◌<◌, length, option_map};
+ghost use Rattle.limits.specs.declared.TheConstants.{MOST_BIDDERS};
 ghost use Rattle.auction_rules.specs.Terms.{broken_rule, entrant, final_cap};
 ghost use Rattle.award_file.specs.Award.{IsAward, number_of, steps_of, terms_with};
 ghost use Rattle.award_file.specs.Fields.{fault_value, rule_values};
@@ -117,7 +118,7 @@ impl Award {
     /// How many bidders there are.
     pub fn bidders(&self) -> usize
         ensures bidders { result ≡ length self.now.bidders }
-        ensures most { result ≤ 16 }
+        ensures most { result ≤ MOST_BIDDERS }
         ensures kept { IsAward self.now }
     {
         self.bidders.count()

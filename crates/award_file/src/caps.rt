@@ -1,5 +1,6 @@
 // Spectrum caps.
 ghost use Rattle.std.specs.Prelude.{◌≡◌, ◌≤◌, length, All, option_map};
+ghost use Rattle.limits.specs.declared.TheConstants.{MOST_CATEGORIES};
 ghost use Rattle.auction_model.specs.Package.{together, cost_of};
 ghost use Rattle.auction_rules.specs.Terms.{first_broken};
 ghost use Rattle.award_file.specs.Award.{IsRule};
@@ -25,7 +26,7 @@ pub struct CapFault {
 
 /// The weighted sum of what is asked for and held.
 fn weight_of(weights: &[u16], counts: &[u16], holding: &[u16]) -> u64
-    requires categories { length counts.now ≤ 6 }
+    requires categories { length counts.now ≤ MOST_CATEGORIES }
     requires weights { length weights.now ≡ length counts.now }
     requires holding { length holding.now ≡ length counts.now }
     requires most { All (λ w. w ≤ 1000) weights.now }
@@ -41,7 +42,7 @@ fn weight_of(weights: &[u16], counts: &[u16], holding: &[u16]) -> u64
 /// The first of the caps that the counts exceed with the holding.
 pub fn first_exceeded(caps: &[SpectrumCap], counts: &[u16], holding: &[u16]) -> Option<CapFault>
     requires few { length caps.now ≤ 20 }
-    requires categories { length counts.now ≤ 6 }
+    requires categories { length counts.now ≤ MOST_CATEGORIES }
     requires holding { length holding.now ≡ length counts.now }
     requires rules { All (IsRule (length counts.now)) (rule_values caps.now) }
     ensures { option_map fault_value result ≡ first_broken 1 (rule_values caps.now) (together counts.now holding.now) }

@@ -5,11 +5,13 @@
 mod award;
 mod caps;
 mod entrants;
+mod laws;
 mod read;
 mod steps;
 
 pub use award::Award;
 pub use caps::CapFault;
+pub use laws::book_of_award;
 pub use limits::LimitKind;
 pub use read::{AwardStop, read_award};
 pub use steps::StepTable;

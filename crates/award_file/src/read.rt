@@ -21,7 +21,7 @@ use crate::{Award, StepTable};
 use bidders::read_bidders;
 use categories::{Category, read_categories};
 use fields::{broken_top, has_other, number_at};
-use limits::LimitKind;
+use limits::{LimitKind, MOST_BIDDERS, MOST_PRICE};
 use lots::{LotStop, Supply};
 use price_steps::read_steps;
 use spectrum_caps::read_caps;
@@ -37,11 +37,8 @@ const FIRST_VERSION: u64 = 1;
 /// The last version of award files.
 const LAST_VERSION: u64 = 2;
 
-/// The greatest tick, 2^36.
-const MOST_TICK: u64 = 1 << 36;
-
-/// The most bidders of an award.
-const MOST_BIDDERS: usize = 16;
+/// The greatest tick.
+const MOST_TICK: u64 = MOST_PRICE;
 
 /// Why bytes are no award.
 #[derive(Clone, Copy, Debug, PartialEq, Eq)]

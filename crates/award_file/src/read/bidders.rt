@@ -11,6 +11,7 @@ use crate::read::AwardStop;
 use crate::read::fields::{
     broken, broken_top, has_other, list_at, name_at, number_at, row_of, value_at,
 };
+use limits::MOST_COUNT;
 use std::alloc::{AllocError, Global};
 use toml::Value;
 use toml::value::Table;
@@ -22,7 +23,7 @@ const BIDDER_KEYS: [&str; 3] = ["name", "eligibility", "holding"];
 const MOST_ELIGIBILITY: u64 = 1_000_000;
 
 /// The most lots of a category that a bidder holds already.
-const MOST_HOLDING: u16 = 999;
+const MOST_HOLDING: u16 = MOST_COUNT as u16;
 
 /// Reads the bidders that a table states, where there are so many categories.
 pub fn read_bidders(alloc: Global, table: &Table, categories: usize) -> Result<Entrants, AwardStop>

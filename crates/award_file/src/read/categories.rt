@@ -10,21 +10,13 @@ ghost use Rattle.award_file.specs.Walk as walk;
 
 use crate::read::AwardStop;
 use crate::read::fields::{broken, broken_top, has_other, list_at, name_at, number_at};
+use limits::{MOST_COUNT, MOST_POINTS, MOST_PRICE};
 use std::alloc::Global;
 use toml::Value;
 use toml::value::Table;
 
 /// The keys of a category.
 const CATEGORY_KEYS: [&str; 4] = ["name", "supply", "points", "reserve"];
-
-/// The most lots of a category in a text.
-const MOST_SUPPLY: u64 = 999;
-
-/// The most points of a lot.
-const MOST_POINTS: u64 = 10_000;
-
-/// The greatest reserve of a lot, 2^36.
-const MOST_RESERVE: u64 = 1 << 36;
 
 /// A category of lots.
 #[derive(Drop)]
@@ -81,13 +73,13 @@ fn read_category(alloc: Global, table: &Table, before: &[Category]) -> Result<Ca
     if has_name(before, name) {
         return Err(broken(4, before.len()));
     }
-    let Some(supply) = number_at(table, "supply", 1, MOST_SUPPLY) else {
+    let Some(supply) = number_at(table, "supply", 1, MOST_COUNT) else {
         return Err(broken(5, before.len()));
     };
     let Some(points) = number_at(table, "points", 0, MOST_POINTS) else {
         return Err(broken(6, before.len()));
     };
-    let Some(reserve) = number_at(table, "reserve", 0, MOST_RESERVE) else {
+    let Some(reserve) = number_at(table, "reserve", 0, MOST_PRICE) else {
         return Err(broken(7, before.len()));
     };
     if has_other(table, &CATEGORY_KEYS) {

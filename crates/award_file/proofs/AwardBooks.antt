@@ -1,0 +1,217 @@
+-- The book of a log on an award keeps the rules and the limits of a book.
+use Rattle.std.proofs.Common.{◌≡◌, ◌≢◌, ℕ, zero, suc, ◌+◌, ◌-◌, ◌<◌, ◌≤◌, true, false, List, [], ◌∷◌, ◌++◌, Option, Some, None, length, map, get_or, replicate, refl, sym, ap, subst, ◌∙◌, inl, inr, arith, append_assoc}
+use Rattle.std.specs.Prelude.{codes, sum, ◌==◌, nat_le, position}
+use Rattle.std.specs.List.{AllByRecursion, position_or_len}
+use Rattle.std.specs.Option.{option_or}
+use Rattle.std.specs.Str.{bytes_eq}
+use Rattle.std.proofs.lemmas.Bool.{cases_Bool, eqb-true, ne_eqb, true≢false}
+use Rattle.std.proofs.lemmas.Bool.Decides.{nat_tests}
+use Rattle.std.proofs.lemmas.List.{append-nil, length-map}
+use Rattle.std.proofs.lemmas.List.Elements.{recursion_from_All}
+use Rattle.std.proofs.lemmas.List.Sums.{sum_by-cons}
+use Rattle.std.proofs.lemmas.Map.Keys.{apart_from_distinct}
+use Rattle.std.proofs.lemmas.Slice.Eq.{bytes_eq-Decides}
+use Rattle.line_text.specs.LineText.{first_excess}
+use Rattle.line_text.proofs.Lines.{first_excess-append}
+use Rattle.auction_model.specs.Book.{BookBid, Bidder, Book}
+use Rattle.auction_model.specs.Package.{ComesBefore}
+use Rattle.book_form.specs.BookForm.{IsBid, AreBids, IsBidder, AreBidders, IsOffer, IsName, empty_package}
+use Rattle.book_form.specs.BookLines.{Excess, Line, supply_excess, bid_excess, bidder_excess, bid_lines, bidder_line, bidder_lines, head_lines, IsBookWithinLimits}
+use Rattle.lots.specs.Limits.{IsSupply, categories_stop, zero_stop}
+use Rattle.auction_rules.specs.declared.Event.{Event}
+use Rattle.auction_rules.specs.PackageTests.{is_empty, is_before, AllAfter, InOrder}
+use Rattle.auction_rules.specs.Terms.{Terms, Entrant, entrant}
+use Rattle.auction_rules.specs.State.{listing}
+use Rattle.auction_rules.specs.Lawful.{AreLimited, IsLawfulBid}
+use Rattle.auction_rules.specs.BookOfLog.{bid_lots, bids_in_book, book_bidder, book_by, book_of_log}
+use Rattle.award_file.specs.Award.{IsAward, IsEntrant, names_of, entrant_with}
+use Rattle.award_file.proofs.FaultLaws.{none-first, none-second}
+use Rattle.award_file.proofs.LimitLaws.{within-limits}
+use Rattle.award_file.proofs.Names.{name-at}
+
+-- an award keeps the limits on which amounts rest
+pub is_limited : (terms : Terms) → IsAward terms → AreLimited terms
+is_limited terms award = record { reserves = recursion_from_All _ terms.reserves award.most_reserve; lots = award.supply.lots }
+
+-- what the laws say of the bids in a book
+pub record AreKnown (terms : Terms) (bids : ℕ → List BookBid) : Type 0 where
+  pub comes : (p q : List ℕ) → length p ≡ length q → is_before p q ≡ true → ComesBefore p q
+  pub lawful : (j : ℕ) → AllByRecursion (IsLawfulBid terms) (bids j)
+  pub order : (j : ℕ) → InOrder (map bid_lots (bids j))
+  pub some : (j : ℕ) → AllByRecursion (λ (b : BookBid). is_empty b.lots ≡ false) (bids j)
+  pub few : (j : ℕ) → length (bids j) ≤ 600
+
+-- ---- the supply
+
+-- where no count is 0 and there are few lots, each category has 1 to 999
+counts-there : (ns : List ℕ) → length ns ≤ position_or_len (λ n. n == 0) ns → sum ns ≤ 40 → AllByRecursion (λ n. (1 ≤ n) × (n ≤ 999)) ns
+counts-there [] none few = tt
+counts-there (n ∷ ns) none few =
+    let parts : sum (n ∷ ns) ≡ n + sum ns = sum_by-cons (λ (m : ℕ). m) n ns in
+    ((grind (arith, nat_tests), omega arith), counts-there ns (grind (arith, nat_tests)) (omega arith))
+
+no_zero-tells : (supply : List ℕ) → zero_stop supply ≡ None → length supply ≤ position_or_len (λ n. n == 0) supply
+no_zero-tells supply none = grind (arith, nat_tests)
+
+is_offer : (supply : List ℕ) → IsSupply supply → IsOffer supply
+is_offer supply is =
+    let zero : zero_stop supply ≡ None = first_none (zero_stop supply) _ (second_none (categories_stop supply) _ is.allowed) in
+    record { some = is.some; each = counts-there supply (no_zero-tells supply zero) is.lots }
+  where
+    first_none : {O : Type 0} (a b : Option O) → option_or a b ≡ None → a ≡ None
+    first_none None b is = refl
+    first_none (Some x) b is = absurd (cc is)
+
+    second_none : {O : Type 0} (a b : Option O) → option_or a b ≡ None → b ≡ None
+    second_none None b is = is
+    second_none (Some x) b is = absurd (cc is)
+
+-- ---- the bids
+
+-- the empty package comes before each other one
+empty-before : (n : ℕ) (lots : List ℕ) → length lots ≡ n → is_empty lots ≡ false → ComesBefore (replicate n 0) lots
+empty-before zero [] count some = cc
+empty-before zero (a ∷ lots) count some = absurd (omega arith)
+empty-before (suc n) [] count some = absurd (omega arith)
+empty-before (suc n) (a ∷ lots) count some =
+    elim (cases_Bool (a == 0)) [
+      | inl none ↦ let rest : is_empty lots ≡ false = rw none at some in inr (sym (eqb-true a 0 none), empty-before n lots (omega arith) rest)
+      | inr there ↦ inl (above_none a there)
+    ]
+  where
+    above_none : (a : ℕ) → (a == 0) ≡ false → 0 < a
+    above_none zero there = cc
+    above_none (suc a) there = omega arith
+
+-- the first of the bids comes after this package
+abbrev FirstAfter : List ℕ → List BookBid → Type 0
+FirstAfter before [] = Unit {0}
+FirstAfter before (b ∷ bids) = ComesBefore before b.lots
+
+module _ (terms : Terms) (comes : (p q : List ℕ) → length p ≡ length q → is_before p q ≡ true → ComesBefore p q) where
+  first-after : (b : BookBid) (bids : List BookBid) → IsLawfulBid terms b → AllByRecursion (IsLawfulBid terms) bids → AllAfter b.lots (map bid_lots bids) → FirstAfter b.lots bids
+  first-after b [] is lawful after = tt
+  first-after b (d ∷ bids) is lawful after = comes b.lots d.lots (is.categories ∙ sym lawful.0.categories) after.0
+
+  -- lawful bids in order are bids of a book
+  bids-are : (before : List ℕ) (bids : List BookBid) → FirstAfter before bids → AllByRecursion (IsLawfulBid terms) bids → InOrder (map bid_lots bids) → AreBids terms.supply terms.reserves before bids
+  bids-are before [] first lawful order = tt
+  bids-are before (b ∷ bids) first lawful order = (
+    record { categories = lawful.0.categories; within = lawful.0.within; after = first; reserve = lawful.0.reserve; top = lawful.0.top },
+    bids-are b.lots bids (first-after b bids lawful.0 lawful.1 order.0) lawful.1 order.1,
+  )
+
+  some-first : (bids : List BookBid) → AllByRecursion (IsLawfulBid terms) bids → AllByRecursion (λ (b : BookBid). is_empty b.lots ≡ false) bids → FirstAfter (empty_package terms.supply) bids
+  some-first [] lawful some = tt
+  some-first (b ∷ bids) lawful some = empty-before (length terms.supply) b.lots lawful.0.categories some.0
+
+-- ---- the bidders
+
+abbrev no_entrant : Entrant
+no_entrant = entrant_with [] 0 []
+
+-- bidders of an award have names
+named : (terms : Terms) (n : ℕ) → IsAward terms → n < length terms.bidders → IsName (entrant terms (suc n)).name
+named terms n award less =
+    let e : suc n - 1 ≡ n = omega arith in
+    rw e (award.bidders n no_entrant less).name
+
+-- and no two have one name
+apart : (terms : Terms) (k n : ℕ) → IsAward terms → k < n → n < length terms.bidders → (entrant terms (suc k)).name ≢ (entrant terms (suc n)).name
+apart terms k n award less inside =
+    let e : suc k - 1 ≡ k = omega arith in
+    let f : suc n - 1 ≡ n = omega arith in
+    let names : List (List ℕ) = names_of terms.bidders in
+    let long : length names ≡ length terms.bidders = length-map terms.bidders _ in
+    let differ : bytes_eq (get_or names k []) (get_or names n []) ≡ false = apart_from_distinct bytes_eq names k n [] award.apart less (omega (arith, long)) in
+    let first : get_or names k [] ≡ (entrant terms (suc k)).name = rw e (name-at terms.bidders k (omega arith)) in
+    let second : get_or names n [] ≡ (entrant terms (suc n)).name = rw f (name-at terms.bidders n inside) in
+    λ same. true≢false (sym ((bytes_eq-Decides (get_or names k []) (get_or names n [])).1 (first ∙ same ∙ sym second)) ∙ differ)
+
+-- none of the bidders before has the name
+unused : (terms : Terms) (bids : ℕ → List BookBid) (m n : ℕ) → IsAward terms → m ≤ n → n < length terms.bidders
+    → AllByRecursion (λ (b : Bidder). b.name ≢ (entrant terms (suc n)).name) (listing (book_bidder terms bids) m)
+unused terms bids zero n award few inside = tt
+unused terms bids (suc m) n award few inside =
+    push-each (λ (b : Bidder). b.name ≢ (entrant terms (suc n)).name) (listing (book_bidder terms bids) m) (book_bidder terms bids (suc m))
+    (unused terms bids m n award (omega arith) inside) (apart terms m n award (omega arith) inside)
+  where
+    push-each : {A : Type 0} (P : A → Type 0) (xs : List A) (x : A) → AllByRecursion P xs → P x → AllByRecursion P (xs ++ x ∷ [])
+    push-each P [] x each last = (last, tt)
+    push-each P (y ∷ xs) x each last = (each.0, push-each P xs x each.1 last)
+
+bidders-push : (supply reserves : List ℕ) (earlier xs : List Bidder) (x : Bidder) → AreBidders supply reserves earlier xs → IsBidder supply reserves (earlier ++ xs) x
+    → AreBidders supply reserves earlier (xs ++ x ∷ [])
+bidders-push supply reserves earlier [] x are last = (subst (λ (before : List Bidder). IsBidder supply reserves before x) (append-nil earlier) last, tt)
+bidders-push supply reserves earlier (y ∷ xs) x are last =
+    (are.0, bidders-push supply reserves (earlier ++ y ∷ []) xs x are.1 (subst (λ (before : List Bidder). IsBidder supply reserves before x) (sym (append_assoc earlier (y ∷ []) xs)) last))
+
+module _ (terms : Terms) (bids : ℕ → List BookBid) (award : IsAward terms) (known : AreKnown terms bids) where
+  bidders-are : (n : ℕ) → n ≤ length terms.bidders → AreBidders terms.supply terms.reserves [] (listing (book_bidder terms bids) n)
+  bidders-are zero few = tt
+  bidders-are (suc n) few =
+      bidders-push terms.supply terms.reserves [] (listing (book_bidder terms bids) n) (book_bidder terms bids (suc n)) (bidders-are n (omega arith)) (record {
+        name = named terms n award (omega arith);
+        unused = unused terms bids n n award (omega arith) (omega arith);
+        bids = bids-are terms known.comes (empty_package terms.supply) (bids (suc n)) (some-first terms known.comes (bids (suc n)) (known.lawful (suc n)) (known.some (suc n))) (known.lawful (suc n)) (known.order (suc n));
+      })
+
+-- ---- the limits
+
+bids-few : (before : ℕ) (bids : List BookBid) → before + length bids ≤ 600 → first_excess (bid_lines before bids) ≡ None
+bids-few before [] few = refl
+bids-few before (b ∷ bids) few =
+    let here : bid_excess (before + 1) ≡ None = grind (arith, nat_tests) in
+    rw here (bids-few (before + 1) bids (omega arith))
+
+bidders-few : (before : ℕ) (bidders : List Bidder) → before + length bidders ≤ 16 → AllByRecursion (λ (b : Bidder). length b.bids ≤ 600) bidders → first_excess (bidder_lines before bidders) ≡ None
+bidders-few before [] few each = refl
+bidders-few before (b ∷ bidders) few each =
+    let here : bidder_excess (before + 1) ≡ None = grind (arith, nat_tests) in
+    let own : first_excess (bidder_line before b.name ∷ bid_lines 0 b.bids) ≡ None = rw here (bids-few 0 b.bids (omega (arith, each.0))) in
+    first_excess-append (bidder_line before b.name ∷ bid_lines 0 b.bids) (bidder_lines (before + 1) bidders)
+    ∙ ap (λ (o : Option Excess). option_or o (first_excess (bidder_lines (before + 1) bidders))) own
+    ∙ bidders-few (before + 1) bidders (omega arith) each.1
+
+listed-few : (terms : Terms) (bids : ℕ → List BookBid) (n : ℕ) → ((j : ℕ) → length (bids j) ≤ 600) → AllByRecursion (λ (b : Bidder). length b.bids ≤ 600) (listing (book_bidder terms bids) n)
+listed-few terms bids zero few = tt
+listed-few terms bids (suc n) few = push-few (listing (book_bidder terms bids) n) (book_bidder terms bids (suc n)) (listed-few terms bids n few) (few (suc n))
+  where
+    push-few : (xs : List Bidder) (x : Bidder) → AllByRecursion (λ (b : Bidder). length b.bids ≤ 600) xs → length x.bids ≤ 600 → AllByRecursion (λ (b : Bidder). length b.bids ≤ 600) (xs ++ x ∷ [])
+    push-few [] x each last = (last, tt)
+    push-few (y ∷ xs) x each last = (each.0, push-few xs x each.1 last)
+
+length-listing : {A : Type 0} (f : ℕ → A) (n : ℕ) → length (listing f n) ≡ n
+length-listing f zero = refl
+length-listing f (suc n) = omega (arith, length-push (listing f n) (f (suc n)), length-listing f n)
+  where
+    length-push : {A : Type 0} (xs : List A) (x : A) → length (xs ++ x ∷ []) ≡ suc (length xs)
+    length-push [] x = refl
+    length-push (y ∷ xs) x = omega (arith, length-push xs x)
+
+-- no line of the book exceeds a limit
+lines-within : (book : Book) → supply_excess book.supply ≡ None → first_excess (bidder_lines 0 book.bidders) ≡ None
+    → first_excess ((head_lines book ++ bidder_lines 0 book.bidders) ++ (codes "end", None) ∷ []) ≡ None
+lines-within book supply bidders =
+    let head : first_excess (head_lines book) ≡ None = rw supply refl in
+    first_excess-append (head_lines book ++ bidder_lines 0 book.bidders) ((codes "end", None) ∷ [])
+    ∙ ap (λ (o : Option Excess). option_or o None)
+    (first_excess-append (head_lines book) (bidder_lines 0 book.bidders) ∙ ap (λ (o : Option Excess). option_or o (first_excess (bidder_lines 0 book.bidders))) head ∙ bidders)
+
+book_by-within : (terms : Terms) (bids : ℕ → List BookBid) → IsAward terms → AreKnown terms bids → IsBookWithinLimits (book_by terms bids)
+book_by-within terms bids award known =
+    let few : 0 + length (listing (book_bidder terms bids) (length terms.bidders)) ≤ 16 = omega (arith, length-listing (book_bidder terms bids) (length terms.bidders), award.few_bidders) in
+    record {
+      form = record {
+        supply = is_offer terms.supply award.supply;
+        reserves = record { count = award.reserves; each = recursion_from_All _ terms.reserves award.most_reserve };
+        bidders = bidders-are terms bids award known (length terms.bidders) (omega arith);
+      };
+      limits = lines-within (book_by terms bids) (within-limits terms.supply award.supply)
+          (bidders-few 0 (listing (book_bidder terms bids) (length terms.bidders)) few (listed-few terms bids (length terms.bidders) known.few));
+    }
+
+-- the book of a log
+pub book-within : (terms : Terms) (log : List Event) → IsAward terms → AreKnown terms (bids_in_book terms log) → IsBookWithinLimits (book_of_log terms log)
+unfolding book_of_log
+book-within terms log award known = book_by-within terms (bids_in_book terms log) award known
