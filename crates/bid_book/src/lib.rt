@@ -14,6 +14,7 @@ mod name;
 mod read;
 mod rivals;
 mod stop;
+mod write;
 
 pub use bidders::{BidderBids, Bidders};
 pub use book::BidBook;
@@ -23,6 +24,7 @@ pub use limits::LimitKind;
 pub use lists::{BidList, Reserves};
 pub use name::Name;
 pub use read::read_book;
+pub use write::write_book;
 
 /// Why bytes are no book.
 #[derive(Clone, Copy, Debug, PartialEq, Eq)]

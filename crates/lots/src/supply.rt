@@ -1,5 +1,5 @@
 // Supplies.
-ghost use Rattle.std.specs.Prelude.{◌≡◌, ◌⊎◌, ℕ, ◌≤◌, ◌<◌, length, IfOk, IfSome, IfNone, IsTrue, IsFalse, None, Some, slice_index};
+ghost use Rattle.std.specs.Prelude.{◌≡◌, ◌⊎◌, ℕ, ◌+◌, ◌≤◌, ◌<◌, length, IfOk, IfSome, IfNone, IsTrue, IsFalse, None, Some, slice_index};
 ghost use Rattle.auction_model.specs.Package.{is_within, less};
 ghost use Rattle.auction_model.specs.Place.{states_of, place_of, left_at, widths_of};
 ghost use Rattle.limits.specs.declared.TheConstants.{MOST_STATES};
@@ -79,20 +79,23 @@ impl Supply {
         &self.widths
     }
 
-    /// How many states there are: the product of the counts, each one more.
+    /// How many states there are: the product of the counts, each one more. The whole supply has the last place.
     pub fn states(&self) -> usize
         ensures states { result ≡ states_of self.now }
+        ensures last { place_of self.now self.now + 1 ≡ result }
         ensures most { result ≤ MOST_STATES }
     {
         self.states
     }
 
-    /// The place of a package that fits. The whole supply has the last place, `states - 1`.
+    /// The place of a package that fits: `package_at` gives the package of this place back. The whole supply has the last place,
+    /// `states - 1`.
     pub fn place(&self, package: &Package) -> usize
         requires categories { length «package».now ≡ length self.now }
         requires fits { IsTrue (is_within «package».now self.now) }
         ensures place { result ≡ place_of self.now «package».now }
         ensures below { result < states_of self.now }
+        ensures package { left_at self.now result ≡ «package».now }
     {
         place_among(&self.counts, package.counts())
     }

@@ -1,0 +1,109 @@
+-- How a text grows line by line to that of a book.
+use Rattle.std.specs.Prelude.{◌≡◌, ℕ, zero, suc, ◌+◌, ◌≤◌, ◌<◌, List, [], ◌∷◌, ◌++◌, None, codes, drop, get_or, length}
+use Rattle.std.specs.Fmt.{decimal}
+use Rattle.std.proofs.Common.{refl, sym, ap, subst, ◌∙◌, arith, append_assoc}
+use Rattle.std.proofs.lemmas.List.{append-nil, at_drop_more, drop_all}
+use Rattle.line_text.specs.LineText.{text_of, Says, stated}
+use Rattle.auction_model.specs.Book.{Book, BookBid, Bidder, no_bid, no_bidder, bidder_of, bids_of, bid_of, lots_of}
+use Rattle.book_form.specs.BookForm.{IsBook}
+use Rattle.book_form.specs.BookLines.{Line, IsBookWithinLimits, bid_line, bid_lines, bidder_line, bidder_lines, head_lines, lines, numbers_text, reserve_line, supply_line}
+use Rattle.lots.specs.declared.package.Bid.{Bid}
+use Rattle.bid_book.specs.Kept.{IsBidBook}
+use Rattle.bid_book.specs.Lists as given
+use Rattle.bid_book.specs.Written.{bid_text, bidder_text, bidders_text}
+
+-- A piece for each item makes up the text of all: one item more.
+pub one_more : {X : Type 0} (F : List X → List ℕ) (xs : List X) (i : ℕ) (d : X) (whole before behind piece : List ℕ) → i < length xs → F (get_or xs i d ∷ drop (i + 1) xs) ≡ piece ++ F (drop (i + 1) xs)
+    → before ++ F (drop i xs) ≡ whole → behind ≡ before ++ piece → behind ++ F (drop (i + 1) xs) ≡ whole
+one_more F xs i d whole before behind piece inside splits so_far step =
+    ap (λ (t : List ℕ). t ++ F (drop (i + 1) xs)) step
+    ∙ append_assoc before piece (F (drop (i + 1) xs))
+    ∙ ap (λ (t : List ℕ). before ++ t) (sym splits ∙ sym (at_drop_more F xs i d inside))
+    ∙ so_far
+
+-- all pieces
+pub all_added : {X : Type 0} (F : List X → List ℕ) (xs : List X) (i : ℕ) (whole before : List ℕ) → length xs ≤ i → F [] ≡ [] → before ++ F (drop i xs) ≡ whole → before ≡ whole
+all_added F xs i whole before end empty so_far =
+    sym (append-nil before) ∙ ap (λ (t : List ℕ). before ++ t) (sym (ap F (drop_all i xs end) ∙ empty)) ∙ so_far
+
+-- the next of some numbers
+pub next_number : (ns : List ℕ) (i : ℕ) (whole before behind : List ℕ) → i < length ns → before ++ numbers_text (drop i ns) ≡ whole → behind ≡ before ++ 32 ∷ decimal (get_or ns i 0) → behind ++ numbers_text (drop (i + 1) ns) ≡ whole
+next_number ns i whole before behind inside so_far step = one_more numbers_text ns i 0 whole before behind (32 ∷ decimal (get_or ns i 0)) inside refl so_far step
+
+-- the text of lines, and then of more
+pub text_append : (xs ys : List Line) → text_of (xs ++ ys) ≡ text_of xs ++ text_of ys
+text_append [] ys = refl
+text_append (l ∷ ls) ys = ap (λ (b : List ℕ). l.0 ++ 10 ∷ b) (text_append ls ys) ∙ sym (append_assoc l.0 (10 ∷ text_of ls) (text_of ys))
+
+-- the text of bids doesn't depend on how many stand before them
+bids_text : (m n : ℕ) (bs : List BookBid) → text_of (bid_lines m bs) ≡ text_of (bid_lines n bs)
+bids_text m n [] = refl
+bids_text m n (b ∷ bs) = ap (λ (t : List ℕ). (bid_line 0 b).0 ++ 10 ∷ t) (bids_text (m + 1) (n + 1) bs)
+
+-- nor does that of bidders
+bidders_same : (m n : ℕ) (bs : List Bidder) → text_of (bidder_lines m bs) ≡ text_of (bidder_lines n bs)
+bidders_same m n [] = refl
+bidders_same m n (b ∷ bs) =
+    text_append (bidder_line m b.name ∷ bid_lines 0 b.bids) (bidder_lines (m + 1) bs)
+    ∙ ap (λ (t : List ℕ). bidder_text b ++ t) (bidders_same (m + 1) (n + 1) bs)
+    ∙ sym (text_append (bidder_line n b.name ∷ bid_lines 0 b.bids) (bidder_lines (n + 1) bs))
+
+-- the bid of the next number
+pub next_bid : (bs : List BookBid) (i : ℕ) (whole before behind : List ℕ) → i < length bs → before ++ text_of (bid_lines 0 (drop i bs)) ≡ whole → behind ≡ before ++ bid_text (get_or bs i no_bid) → behind ++ text_of (bid_lines 0 (drop (i + 1) bs)) ≡ whole
+next_bid bs i whole before behind inside so_far step =
+    let b = get_or bs i no_bid in
+    let more = drop (i + 1) bs in
+    let split : text_of (bid_lines 0 (b ∷ more)) ≡ bid_text b ++ text_of (bid_lines 0 more) =
+    ap (λ (t : List ℕ). (bid_line 0 b).0 ++ 10 ∷ t) (bids_text 1 0 more) ∙ sym (append_assoc (bid_line 0 b).0 (10 ∷ []) (text_of (bid_lines 0 more))) in
+    one_more (λ (l : List BookBid). text_of (bid_lines 0 l)) bs i no_bid whole before behind (bid_text b) inside split so_far step
+
+-- the next bidder
+pub next_bidder : (bs : List Bidder) (k : ℕ) (whole before behind : List ℕ) → k < length bs → before ++ bidders_text (drop k bs) ≡ whole → behind ≡ before ++ bidder_text (get_or bs k no_bidder) → behind ++ bidders_text (drop (k + 1) bs) ≡ whole
+next_bidder bs k whole before behind inside so_far step =
+    let b = get_or bs k no_bidder in
+    let more = drop (k + 1) bs in
+    let split : bidders_text (b ∷ more) ≡ bidder_text b ++ bidders_text more =
+    text_append (bidder_line 0 b.name ∷ bid_lines 0 b.bids) (bidder_lines 1 more) ∙ ap (λ (t : List ℕ). bidder_text b ++ t) (bidders_same 1 0 more) in
+    one_more bidders_text bs k no_bidder whole before behind (bidder_text b) inside split so_far step
+
+-- the bid that a call gave, among those of its bidder
+pub bid_is : (book : Book) (bid : Bid) (j i : ℕ) → bid.package ≡ lots_of book j (i + 1) → bid.amount ≡ (bid_of book j (i + 1)).amount → given.bid_of bid ≡ get_or (bids_of book j) i no_bid
+bid_is book bid j i lots amount =
+    let given_is : given.bid_of bid ≡ bid_of book j (i + 1) = λ k. record { lots = lots k; amount = amount k } in
+    let more : i + 1 ≡ suc i = omega arith in
+    given_is ∙ ap (bid_of book j) more
+
+-- the bidder of the next number, among all
+pub bidder_is : (book : Book) (k : ℕ) → bidder_of book (k + 1) ≡ get_or book.bidders k no_bidder
+bidder_is book k = ap (λ (n : ℕ). get_or book.bidders n no_bidder) (omega arith)
+
+-- numbers, and then more
+numbers_append : (xs ys : List ℕ) → numbers_text (xs ++ ys) ≡ numbers_text xs ++ numbers_text ys
+numbers_append [] ys = refl
+numbers_append (x ∷ xs) ys = ap (λ (t : List ℕ). 32 ∷ decimal x ++ t) (numbers_append xs ys) ∙ ap (λ (t : List ℕ). 32 ∷ t) (sym (append_assoc (decimal x) (numbers_text xs) (numbers_text ys)))
+
+-- the line of a bid, piece by piece
+pub whole_bid : (bid : BookBid) (a b c d e : List ℕ) → b ≡ a ++ codes "bid" → c ≡ b ++ numbers_text bid.lots → d ≡ c ++ 32 ∷ decimal bid.amount → e ≡ d ++ codes "\n" → e ≡ a ++ bid_text bid
+whole_bid bid a b c d e one two three four =
+    let last : numbers_text (bid.lots ++ bid.amount ∷ []) ≡ numbers_text bid.lots ++ 32 ∷ decimal bid.amount = numbers_append bid.lots (bid.amount ∷ []) ∙ ap (λ (t : List ℕ). numbers_text bid.lots ++ 32 ∷ t) (append-nil (decimal bid.amount)) in
+    rw (four, three, two, one, last) (simp append_assoc)
+
+-- the lines of a bidder: the first, and those of its bids
+pub whole_bidder : (bidder : Bidder) (a b c d e : List ℕ) → b ≡ a ++ codes "bidder " → c ≡ b ++ bidder.name → d ≡ c ++ codes "\n" → e ≡ d ++ text_of (bid_lines 0 bidder.bids) → e ≡ a ++ bidder_text bidder
+whole_bidder bidder a b c d e one two three four = rw (four, three, two, one) (simp append_assoc)
+
+-- the whole text, piece by piece
+pub whole_text : (book : Book) (a b c d e f g : List ℕ) → a ≡ codes "book 1\nsupply" → b ≡ a ++ numbers_text book.supply → c ≡ b ++ codes "\nreserve" → d ≡ c ++ numbers_text book.reserves → e ≡ d ++ codes "\n" → f ≡ e ++ bidders_text book.bidders → g ≡ f ++ codes "end\n"
+    → IsBidBook book → Says IsBook lines g (stated book)
+whole_text book a b c d e f g one two three four five six seven kept =
+    record {
+      valid = kept.rules.form;
+      spelled = spelled;
+      within = kept.rules.limits;
+    }
+  where
+    tail : text_of (bidder_lines 0 book.bidders ++ (codes "end", None) ∷ []) ≡ bidders_text book.bidders ++ codes "end\n"
+    tail = text_append (bidder_lines 0 book.bidders) ((codes "end", None) ∷ [])
+
+    spelled : g ≡ text_of (lines book)
+    spelled = rw (seven, six, five, four, three, two, one, tail) (simp append_assoc)

@@ -1,0 +1,95 @@
+// From a book to its text.
+ghost use Rattle.std.specs.Prelude.{◌≡◌, ◌≤◌, ◌<◌, ◌∷◌, ◌++◌, IfOk, OnOk, length};
+ghost use Rattle.std.specs.Fmt.{decimal};
+ghost use Rattle.line_text.specs.LineText.{Says, stated};
+ghost use Rattle.auction_model.specs.Book.{bidder_of};
+ghost use Rattle.book_form.specs.BookForm.{IsBook};
+ghost use Rattle.book_form.specs.BookLines.{lines, numbers_text};
+ghost use Rattle.bid_book.specs.Lists.{bid_of};
+ghost use Rattle.bid_book.specs.Written.{bid_text, bidder_text, bidders_text};
+
+use crate::BidBook;
+use itoa::Buffer;
+use lots::Bid;
+use std::alloc::{AllocError, Global};
+use wide_num::Text;
+
+/// The one text of a book, which states it. The only error is want of memory.
+pub fn write_book(alloc: Global, book: &BidBook) -> Result<Text, AllocError>
+    ensures { IfOk result (λ text. Says IsBook lines text (stated book.now)) }
+{
+    let mut text = Text::new(alloc);
+    text.add(b"book 1\nsupply")?;
+    add_counts(&mut text, book.supply().counts())?;
+    text.add(b"\nreserve")?;
+    add_numbers(&mut text, book.reserves())?;
+    text.push(b'\n')?;
+    add_bidders(&mut text, book)?;
+    text.add(b"end\n")?;
+    Ok(text)
+}
+
+/// The lines of all bidders with their bids.
+fn add_bidders(text: &mut Text, book: &BidBook) -> Result<(), AllocError>
+    ensures { OnOk result (text.new ≡ text.old ++ bidders_text book.now.bidders) }
+{
+    for k in 0..book.bidders() as u16 {
+        add_bidder(text, book, k + 1)?;
+    }
+    Ok(())
+}
+
+/// The lines of bidder `j` and of its bids.
+fn add_bidder(text: &mut Text, book: &BidBook, j: u16) -> Result<(), AllocError>
+    requires { (0 < j) × (j ≤ length book.now.bidders) }
+    ensures { OnOk result (text.new ≡ text.old ++ bidder_text (bidder_of book.now j)) }
+{
+    text.add(b"bidder ")?;
+    text.add(book.name(j).as_bytes())?;
+    text.push(b'\n')?;
+    for i in 0..book.bids(j) {
+        add_bid(text, book.bid(j, i + 1))?;
+    }
+    Ok(())
+}
+
+/// The line of a bid.
+fn add_bid(text: &mut Text, bid: &Bid) -> Result<(), AllocError>
+    ensures { OnOk result (text.new ≡ text.old ++ bid_text (bid_of bid.now)) }
+{
+    text.add(b"bid")?;
+    add_counts(text, bid.package.counts())?;
+    add_number(text, bid.amount)?;
+    text.push(b'\n')?;
+    Ok(())
+}
+
+/// Counts of lots, each behind one space.
+fn add_counts(text: &mut Text, counts: &[u16]) -> Result<(), AllocError>
+    ensures { OnOk result (text.new ≡ text.old ++ numbers_text counts.now) }
+{
+    for count in counts {
+        add_number(text, *count as u64)?;
+    }
+    Ok(())
+}
+
+/// Numbers, each behind one space.
+fn add_numbers(text: &mut Text, numbers: &[u64]) -> Result<(), AllocError>
+    ensures { OnOk result (text.new ≡ text.old ++ numbers_text numbers.now) }
+{
+    for number in numbers {
+        add_number(text, *number)?;
+    }
+    Ok(())
+}
+
+/// A number behind one space.
+fn add_number(text: &mut Text, number: u64) -> Result<(), AllocError>
+    ensures { OnOk result (text.new ≡ text.old ++ 32 ∷ decimal number) }
+{
+    let mut buffer = Buffer::new();
+    text.push(b' ')?;
+    text.add(buffer.format(number).as_bytes())?;
+    Ok(())
+}
