@@ -28,6 +28,7 @@ mem_becomes name xs ys old new bytes n change is = record {
   told = refl;
   file = λ told. ap (option_and_then content) change.is ∙ is;
   other_files = λ other ne. ap (option_and_then content) (change.others other ne);
+  fits = Prim.cc;
   room = refl;
   other_rooms = λ other ne. refl;
 }

@@ -9,6 +9,7 @@ use crate::known_file::{
     KnownFile, append_faults_of, count_append_fault, count_load_fault, load_faults_of,
 };
 use crate::named::new_files;
+use crate::sink::taken;
 use crate::{Failed, Files};
 use std::alloc::{AllocError, Global};
 use std::fs::{File, OpenOptions};
@@ -70,23 +71,19 @@ impl<R: rt::Files<File = File> + Drop> Files for RealFiles<R> {
     ghost folder = { λ s. real_folder s.files.items };
 
     fn load(&mut self, name: &str, at: u64, buf: &mut [u8]) -> Result<usize, Failed> {
-        match read_from(&self.rt, name, at, buf) {
-            Ok(n) => Ok(n),
-            Err(_) => {
-                count_load_fault(&mut self.files, name);
-                Err(Failed)
-            }
-        }
+        let Ok(n) = read_from(&self.rt, name, at, buf) else {
+            count_load_fault(&mut self.files, name);
+            return Err(Failed);
+        };
+        Ok(n)
     }
 
     fn append(&mut self, name: &str, piece: &[u8]) -> Result<usize, Failed> {
-        match append_to(&self.rt, name, piece) {
-            Ok(n) if n > 0 || piece.is_empty() => Ok(n),
-            _ => {
-                count_append_fault(&mut self.files, name);
-                Err(Failed)
-            }
+        let appended = taken(append_to(&self.rt, name, piece), piece.len());
+        if appended.is_err() {
+            count_append_fault(&mut self.files, name);
         }
+        appended
     }
 
     fn load_faults(&self, name: &str) -> u64 {

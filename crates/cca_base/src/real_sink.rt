@@ -1,6 +1,7 @@
 // Standard output. It tells no bytes.
 ghost use Rattle.std.specs.Prelude.{◌≡◌, None};
 
+use crate::sink::taken;
 use crate::{Failed, Sink};
 use std::io;
 use std::io::Write;
@@ -25,14 +26,11 @@ impl<R: Print + Drop> Sink for RealSink<R> {
     ghost output = { λ s. record { bytes = None; faults = s.faults; room = None } };
 
     fn put(&mut self, piece: &[u8]) -> Result<usize, Failed> {
-        let written = io::writer(&self.rt).write(piece);
-        match written {
-            Ok(n) if n > 0 || piece.is_empty() => Ok(n),
-            _ => {
-                self.faults = self.faults.saturating_add(1);
-                Err(Failed)
-            }
+        let put = taken(io::writer(&self.rt).write(piece), piece.len());
+        if put.is_err() {
+            self.faults = self.faults.saturating_add(1);
         }
+        put
     }
 
     fn faults(&self) -> u64 {

@@ -1,13 +1,13 @@
 -- What holds from the files that are as before holds from those before.
 use Rattle.std.proofs.Common.{inl, inr, ◌≡◌, ◌∙◌, ℕ, IsTrue, Option, Some, None, List, length, sym, ap, subst}
-use Rattle.std.specs.Option.{option_map}
+use Rattle.std.specs.Option.{option_map, IfSome}
 use Rattle.cca_base.specs.Faults.{Rose}
 use Rattle.cca_base.specs.Files.{Folder, KeepsFiles, Adds, added}
 use Rattle.cca_base.specs.Sink.{Output}
 use Rattle.cca_run.specs.Command.{Command, output_of}
 use Rattle.cca_run.specs.Ends.{AppendsTo, CountsAmong, EndsWith}
 use Rattle.cca_run.specs.declared.status.Status.{Status}
-use Rattle.std.specs.Prelude.{take, ◌-◌}
+use Rattle.std.specs.Prelude.{take, ◌-◌, ◌≤◌}
 
 module _ (old mid new : Folder) (kept : KeepsFiles old mid) where
   keeps-on : KeepsFiles mid new → KeepsFiles old new
@@ -19,6 +19,7 @@ module _ (old mid new : Folder) (kept : KeepsFiles old mid) where
     told = b.told ∙ kept.told;
     file = λ t. b.file (subst IsTrue (sym kept.told) t) ∙ ap (λ (f : List ℕ → Option (List ℕ)). added (f name) (take n text)) kept.file;
     other_files = λ other apart. b.other_files other apart ∙ ap (λ (f : List ℕ → Option (List ℕ)). f other) kept.file;
+    fits = subst (λ (f : List ℕ → Option ℕ). IfSome (f name) (λ r. n ≤ r)) kept.room b.fits;
     room = b.room ∙ ap (λ (f : List ℕ → Option ℕ). option_map (λ r. r - n) (f name)) kept.room;
     other_rooms = λ other apart. b.other_rooms other apart ∙ ap (λ (f : List ℕ → Option ℕ). f other) kept.room;
   }

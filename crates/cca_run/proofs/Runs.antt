@@ -4,6 +4,7 @@ use Rattle.std.specs.Prelude.{◌-◌}
 use Rattle.std.proofs.lemmas.List.{append-nil}
 use Rattle.std.specs.Option.{option_map}
 use Rattle.cca_base.specs.Files.{Folder, KeepsFiles, added}
+use Rattle.cca_base.proofs.Writing.{room_none}
 use Rattle.cca_base.specs.Sink.{Output, Puts}
 use Rattle.cca_run.specs.Command.{Command, command_of, output_of}
 use Rattle.cca_run.specs.Ends.{AppendsTo, Appended, Changes, EndsWith, FailsToRead, IsDecided, IsHindered, IsReadFault, IsStop, IsWriteFault, KeepsAll, MayPrint, Prints, StopsBy}
@@ -131,6 +132,7 @@ module _ (words : List (List ℕ)) (command : Command) (is : command_of words �
       told = kept.told;
       file = λ t. ap (λ (f : List ℕ → Option (List ℕ)). f name) kept.file ∙ nothing (old.file name);
       other_files = λ o apart. ap (λ (f : List ℕ → Option (List ℕ)). f o) kept.file;
+      fits = room_none (old.room name);
       room = ap (λ (f : List ℕ → Option ℕ). f name) kept.room ∙ less-nothing (old.room name);
       other_rooms = λ o apart. ap (λ (f : List ℕ → Option ℕ). f o) kept.room;
     }
