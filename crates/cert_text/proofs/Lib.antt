@@ -7,3 +7,4 @@ mod RowSteps
 mod StageSteps
 mod WholeText
 pub mod Written
+mod PartsFound

@@ -1,11 +1,15 @@
 // What a certificate holds.
-ghost use Rattle.std.specs.Prelude.{length};
+ghost use Rattle.std.specs.Prelude.{◌≡◌, ◌≢◌, length, map, IfSome, IfNone};
+ghost use Rattle.std.specs.List.{AllByRecursion};
+ghost use Rattle.auction_model.specs.Place.{states_of};
+ghost use Rattle.cert_form.specs.Certificate.{part_of};
 ghost use Rattle.cert_form.specs.CertText.{IsCertificate};
 ghost use Rattle.cert_form.specs.OneProof.{IsCertificate-prop};
-ghost use Rattle.cert_text.specs.Parts.{cert_from};
+ghost use Rattle.cert_text.specs.Parts.{cert_from, without_value};
 ghost use Rattle.choices.specs.Lines.{width_of};
 
 use crate::{CertRows, WithoutList};
+use bid_book::BidBook;
 use choices::{Choice, Grid, Numbers};
 use wide_num::NumList;
 
@@ -16,6 +20,19 @@ pub struct Shape {
     pub bidders: u16,
     /// How many states the supply has.
     pub states: u32,
+}
+
+impl Shape {
+    /// The shape of a certificate of the book.
+    pub fn of(book: &BidBook) -> Shape
+        ensures bidders { result.bidders ≡ length book.now.bidders }
+        ensures states { result.states ≡ states_of book.now.supply }
+    {
+        Shape {
+            bidders: book.bidders() as u16,
+            states: book.supply().states() as u32,
+        }
+    }
 }
 
 /// The best choice without a winner, and the table that shows it.
@@ -63,4 +80,19 @@ pub struct Certificate {
     /// The table of the net amounts times the denominator, those of each winner lowered by what it gains.
     pub lowered: Grid,
     pub ghost rules: { IsCertificate (length choice) (width_of table) (cert_from den value choice table withouts pay rows lowered) } by { IsCertificate-prop (length choice) (width_of table) (cert_from den value choice table withouts pay rows lowered) },
+}
+
+impl Certificate {
+    /// The part without bidder `j`, and None where there is none. Each winner has one.
+    pub fn part(&self, j: u16) -> Option<&WithoutPart>
+        ensures found { IfSome result (λ part. without_value part.now ≡ part_of (map without_value self.now.withouts) j) }
+        ensures none { IfNone result (AllByRecursion (λ part. part.winner ≢ j) self.now.withouts) }
+    {
+        for part in self.withouts.items() {
+            if part.winner == j {
+                return Some(part);
+            }
+        }
+        None
+    }
 }

@@ -5,11 +5,11 @@ ghost use Rattle.std.specs.Prelude.{◌≡◌};
 use std::alloc::AllocError;
 
 /// Why bytes are not read as a certificate.
-#[derive(Clone, Copy, Debug, Drop, PartialEq, Eq)]
+#[derive(Clone, Copy, Debug, PartialEq, Eq)]
 pub enum CertStop {
-    /// The byte where the first faulty line begins.
+    /// The byte where the first faulty line begins, counted from 0.
     Form(u64),
-    /// The byte where the first faulty line begins, which is of right form and has a number that is out of range.
+    /// The byte where the first faulty line begins, counted from 0. That line is of right form and has a number out of range.
     Range(u64),
     /// There was no memory.
     Memory,
