@@ -2,8 +2,9 @@
 use Rattle.std.proofs.Common.{◌≡◌, ℕ, zero, suc, ◌-◌, ◌<◌, ◌≤◌, List, Option, Some, None, refl, ap, inl, inr, arith, length}
 use Rattle.auction_model.specs.Package.{is_within, cost_of}
 use Rattle.auction_rules.specs.Terms.{Terms, no_lots}
-use Rattle.auction_rules.specs.Rounds.{sum_of, demand, prices_after, eligibility_after, first_of, final_round, own_rounds}
+use Rattle.auction_rules.specs.Rounds.{sum_of, demand, prices_after, eligibility_after, final_round, own_rounds}
 use Rattle.std.specs.Prelude.{if◌then◌else◌, ◌⊎◌}
+use Rattle.std.specs.Option.{option_or}
 use Rattle.std.proofs.lemmas.Bool.{cases_Bool}
 
 -- the same packages in the rounds up to n
@@ -50,15 +51,15 @@ pub Some-injective : {A : Type 0} {x y : A} → Some x ≡ Some y → x ≡ y
 Some-injective h = cc
 
 -- the first of two is one of them
-pub first_of-cases : {A : Type 0} (o p : Option A) (x : A) → first_of o p ≡ Some x → (o ≡ Some x) ⊎ (p ≡ Some x)
-first_of-cases (Some y) p x h = inl h
-first_of-cases None p x h = inr h
+pub option_or-cases : {A : Type 0} (o p : Option A) (x : A) → option_or o p ≡ Some x → (o ≡ Some x) ⊎ (p ≡ Some x)
+option_or-cases (Some y) p x h = inl h
+option_or-cases None p x h = inr h
 
 -- the final round is among the rounds that are closed
 pub final_round-bounds : (terms : Terms) (n : ℕ) (held : ℕ → ℕ → List ℕ) (final : ℕ) → final_round terms held n ≡ Some final → (0 < final) × (final ≤ n)
 final_round-bounds terms zero held final h = cc
 final_round-bounds terms (suc n) held final h =
-    elim (first_of-cases (final_round terms held n) (if is_within (demand terms held (suc n)) terms.supply then Some (suc n) else None) final h) [
+    elim (option_or-cases (final_round terms held n) (if is_within (demand terms held (suc n)) terms.supply then Some (suc n) else None) final h) [
       | inl before ↦ let e : (0 < final) × (final ≤ n) = final_round-bounds terms n held final before in (e.0, omega arith)
       | inr now ↦ elim (cases_Bool (is_within (demand terms held (suc n)) terms.supply)) [
         | inl within ↦ let e : suc n ≡ final = Some-injective (rw within at now) in (omega arith, omega arith)

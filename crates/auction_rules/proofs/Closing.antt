@@ -8,9 +8,9 @@ use Rattle.auction_rules.specs.declared.Event.TheVariants.{Close}
 use Rattle.auction_model.specs.Book.{BookBid}
 use Rattle.auction_model.specs.Package.{is_within, cost_of}
 use Rattle.auction_rules.specs.Terms.{Terms, no_lots}
-use Rattle.auction_rules.specs.Rounds.{sum_of, demand, raised_prices, prices_after, eligibility_after, final_round, stage_by, round_by, closed_by}
+use Rattle.auction_rules.specs.Rounds.{sum_of, demand, raised_prices, prices_after, eligibility_after, final_round, stage_by, round_by, closed_by, listing}
 use Rattle.auction_rules.specs.Lines.{closes, held_in, draft_list, submitted_list}
-use Rattle.auction_rules.specs.State.{DeskState, listing, round_of, state_by, state_after, asked, next_round, clock_stopped, closed_state}
+use Rattle.auction_rules.specs.State.{DeskState, round_of, state_by, state_after, asked, next_round, clock_stopped, closed_state}
 use Rattle.auction_rules.proofs.Held.{held_in-later}
 use Rattle.auction_rules.proofs.Drafts.{draft_list-other}
 use Rattle.auction_rules.proofs.Standings.{IsFinal, stopped, IsFinal-final_round, held_in-close}

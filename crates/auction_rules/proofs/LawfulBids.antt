@@ -2,6 +2,7 @@
 use Rattle.std.proofs.Common.{◌≡◌, ℕ, zero, suc, ◌+◌, ◌-◌, ◌*◌, ◌^◌, ◌≤◌, Bool, true, false, not, ◌&&◌, List, [], ◌∷◌, ◌++◌, Option, Some, None, refl, sym, ◌∙◌, ap, subst, inl, inr, arith, map, length}
 use Rattle.std.specs.Prelude.{if◌then◌else◌, ◌==◌, filter, nat_le, nat_lt, nat_eq, sum}
 use Rattle.std.specs.List.{AllByRecursion}
+use Rattle.std.specs.Option.{option_or}
 use Rattle.std.proofs.lemmas.Bool.{cases_Bool, cases_eq, cond-true, cond-false, leb-true, le-leb, ltb-false, eqb-true, and_parts}
 use Rattle.std.proofs.lemmas.List.Sums.{sum_by-cons}
 use Rattle.std.proofs.Math.Nat.{mul-le-mul, mul-le-mul_left}
@@ -12,7 +13,7 @@ use Rattle.auction_rules.specs.declared.Event.TheVariants.{Bid, Draft, Drop, Sub
 use Rattle.auction_rules.specs.declared.Reply.TheVariants as reply
 use Rattle.auction_rules.specs.PackageTests.{is_empty, first_over, is_same, is_before}
 use Rattle.auction_rules.specs.Terms.{Terms, no_lots, entrant, broken_rule}
-use Rattle.auction_rules.specs.Rounds.{OwnRound, demand, prices_after, first_of, final_round, stage_by, stage_after, closed_after, own_round, own_rounds}
+use Rattle.auction_rules.specs.Rounds.{OwnRound, demand, prices_after, final_round, stage_by, stage_after, closed_after, own_round, own_rounds}
 use Rattle.auction_rules.specs.Caps.{clock_bid, greatest}
 use Rattle.auction_rules.specs.Lines.{is_close, line_bidder, bid_by, is_submit, closes, held_in, placed, in_order, priced, draft_list, submitted_list, with_entry, without_entry, drafts_after}
 use Rattle.auction_rules.specs.Replies.{Standing, is_of, is_clock, is_sealed, is_closed, is_ok_reply, first_reply, when, supply_reply, rule_reply, has_entry, price_top, has_excess, own_reply, close_reply, reply_after, admitted, standing}
@@ -243,7 +244,7 @@ close-ok false false false prices ok more = cc
 
 -- prices are posted where there is excess demand
 pub posts-excess : (n : ℕ) (final : Option ℕ) (within : Bool) (p prices : List ℕ)
-    → (if is_clock (stage_by (suc n) (first_of final (if within then Some (suc n) else None))) then Some prices else None) ≡ Some p
+    → (if is_clock (stage_by (suc n) (option_or final (if within then Some (suc n) else None))) then Some prices else None) ≡ Some p
     → ((is_clock (stage_by n final) && not within) ≡ true) × (prices ≡ p)
 posts-excess n None false p prices h = (refl, Some-injective h)
 posts-excess n None true p prices h =

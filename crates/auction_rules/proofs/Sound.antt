@@ -1,6 +1,7 @@
 -- What holds of every bidder's standing after a log: the rounds are rising and eligible, and the submitted list is valid.
 use Rattle.std.proofs.Common.{◌≡◌, ℕ, zero, suc, ◌-◌, ◌*◌, ◌≤◌, Bool, true, false, not, List, [], ◌∷◌, ◌++◌, Option, Some, None, refl, sym, ◌∙◌, ap, subst, inl, inr, arith, map, length}
 use Rattle.std.specs.Prelude.{if◌then◌else◌, ◌&&◌, ◌==◌, nat_lt, nat_le, nat_eq, unwrap_or}
+use Rattle.std.specs.Option.{option_or}
 use Rattle.std.proofs.lemmas.Bool.{cases_Bool, ltb-false}
 use Rattle.std.proofs.Math.Nat.{mul-le-mul_left}
 use Rattle.auction_model.specs.Package.{cost_of, is_within}
@@ -13,7 +14,7 @@ use Rattle.auction_rules.specs.Step.{stepped}
 use Rattle.auction_rules.specs.Rounds.{OwnRound, raised_prices, demand, prices_after, own_round, own_rounds}
 use Rattle.auction_rules.specs.declared.Event.TheVariants.{Bid, Draft, Drop, Submit, Close}
 use Rattle.auction_rules.specs.declared.Reply.TheVariants as reply
-use Rattle.auction_rules.specs.Rounds.{first_of, closed_after, final_round, stage_by, stage_after}
+use Rattle.auction_rules.specs.Rounds.{closed_after, final_round, stage_by, stage_after}
 use Rattle.auction_rules.specs.Caps.{list_fault}
 use Rattle.auction_rules.specs.Lines.{is_close, is_submit, closes, held_in}
 use Rattle.auction_rules.specs.Replies.{Standing, is_clock, is_sealed, is_ok_reply, first_reply, when, supply_reply, rule_reply, cap_reply, own_reply, reply_after, admitted, standing}
@@ -171,7 +172,7 @@ IsSound-close terms s None posts sound =
     ]
 
 -- a close that posts prices comes in the clock
-posts : (n : ℕ) (final now : Option ℕ) (p prices : List ℕ) → (if is_clock (stage_by (suc n) (first_of final now)) then Some prices else None) ≡ Some p → is_clock (stage_by n final) ≡ true
+posts : (n : ℕ) (final now : Option ℕ) (p prices : List ℕ) → (if is_clock (stage_by (suc n) (option_or final now)) then Some prices else None) ≡ Some p → is_clock (stage_by n final) ≡ true
 posts n None now p prices h = refl
 posts n (Some final) now p prices h =
     elim (cases_Bool (nat_eq (suc n) final)) [

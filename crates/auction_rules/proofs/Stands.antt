@@ -6,10 +6,10 @@ use Rattle.auction_rules.specs.declared.Event.{Event}
 use Rattle.auction_rules.specs.declared.Event.TheVariants.{Bid, Draft, Drop, Submit, Close}
 use Rattle.auction_rules.specs.declared.Reply.{Reply}
 use Rattle.auction_rules.specs.Terms.{Terms}
-use Rattle.auction_rules.specs.Rounds.{demand, final_round, round_after}
+use Rattle.auction_rules.specs.Rounds.{demand, final_round, round_after, listing}
 use Rattle.auction_rules.specs.Lines.{is_close, line_bidder, closes, held_in, draft_list, submitted_list}
 use Rattle.auction_rules.specs.Replies.{Standing, is_of, is_clock, is_sealed, is_ok_reply, own_reply, close_reply, reply_after, reply_to, admitted, standing}
-use Rattle.auction_rules.specs.State.{DeskState, listing, round_of, state_after, state_of, asked, standing_in, close_reply_in, reply_in, taken, state_with}
+use Rattle.auction_rules.specs.State.{DeskState, round_of, state_after, state_of, asked, standing_in, close_reply_in, reply_in, taken, state_with}
 use Rattle.auction_rules.proofs.Views.{is_close-true, with_line-ok, with_line-refused}
 use Rattle.auction_model.specs.Book.{BookBid}
 use Rattle.auction_rules.proofs.Standings.{IsFinal, IsFinal-final_round, after_own}

@@ -7,14 +7,14 @@ use Rattle.auction_rules.specs.declared.Event.{Event}
 use Rattle.auction_model.specs.Book.{BookBid}
 use Rattle.auction_rules.specs.Terms.{Terms}
 use Rattle.auction_rules.specs.declared.Stage.{Stage}
-use Rattle.auction_rules.specs.Rounds.{OwnRound, own_rounds, prices_after, eligibility_after, round_after, closed_after, closed_by, final_round}
+use Rattle.auction_rules.specs.Rounds.{OwnRound, own_rounds, prices_after, eligibility_after, round_after, closed_after, closed_by, final_round, listing}
 use Rattle.auction_rules.specs.Lines.{is_close, line_bidder, closes, held_in, draft_list, submitted_list}
 use Rattle.auction_rules.specs.Replies.{Standing, is_of, standing}
 use Rattle.auction_rules.proofs.Held.{closes-line}
 use Rattle.auction_rules.proofs.Agree.{Agree, Agree-fewer, prices_after-same, eligibility_after-same, final_round-same}
 use Rattle.auction_rules.proofs.Standings.{IsFinal, stopped, IsFinal-final_round, Agree-line, after_own, standing-own, standing-other}
 use Rattle.auction_rules.proofs.Views.{is_of-parts}
-use Rattle.auction_rules.specs.State.{Round, DeskState, listing, round_of, state_after, own_of, standing_in}
+use Rattle.auction_rules.specs.State.{Round, DeskState, round_of, state_after, own_of, standing_in}
 
 pub length-listing : {A : Type 0} (f : ℕ → A) (n : ℕ) → length (listing f n) ≡ n
 length-listing f zero = refl

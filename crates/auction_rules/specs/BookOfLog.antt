@@ -6,10 +6,11 @@ use Rattle.auction_rules.specs.declared.Event.{Event}
 use Rattle.auction_model.specs.Book.{BookBid, Bidder, Book}
 use Rattle.auction_rules.specs.PackageTests.{is_empty}
 use Rattle.auction_rules.specs.Terms.{Terms, entrant}
+use Rattle.auction_rules.specs.Rounds.{listing}
 use Rattle.auction_rules.specs.Caps.{clock_bid, greatest}
 use Rattle.auction_rules.specs.Lines.{in_order, priced}
 use Rattle.auction_rules.specs.Replies.{Standing, is_closed, admitted, standing}
-use Rattle.auction_rules.specs.State.{DeskState, listing, state_of, standing_in}
+use Rattle.auction_rules.specs.State.{DeskState, state_of, standing_in}
 
 abbrev pub bid_lots : BookBid → List ℕ
 bid_lots b = b.lots

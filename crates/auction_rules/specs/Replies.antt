@@ -153,13 +153,18 @@ own_reply terms j s Close = reply.Ok
 abbrev pub has_excess : Terms → (ℕ → ℕ → List ℕ) → ℕ → Bool
 has_excess terms held n = is_clock (stage_after terms held n) && not (is_within (demand terms held (suc n)) terms.supply)
 
+-- the reply to a close of the round of this number, by whether the auction is closed and there is excess demand, and by the prices
+-- that it would raise
+abbrev pub closing_reply : Bool → Bool → ℕ → List ℕ → Reply
+closing_reply closed excess round prices = first_reply (
+    when closed reply.Stage
+    ∷ when (excess && nat_le MOST_ROUNDS round) (reply.Full MOST_ROUNDS)
+    ∷ (if excess then price_top 1 prices else None)
+    ∷ [])
+
 -- the reply to a close after n closes
 abbrev pub close_reply : Terms → (ℕ → ℕ → List ℕ) → ℕ → Reply
-close_reply terms held n = first_reply (
-    when (is_closed (stage_after terms held n)) reply.Stage
-    ∷ when (has_excess terms held n && nat_le MOST_ROUNDS (suc n)) (reply.Full MOST_ROUNDS)
-    ∷ (if has_excess terms held n then price_top 1 (prices_after terms held (suc n)) else None)
-    ∷ [])
+close_reply terms held n = closing_reply (is_closed (stage_after terms held n)) (has_excess terms held n) (suc n) (prices_after terms held (suc n))
 
 -- the reply to a line after these admitted lines
 abbrev pub reply_after : Terms → List Event → Event → Reply

@@ -1,11 +1,17 @@
 -- The clock rounds, as functions of what each bidder holds in each round: `held r j` is the package of bidder j in round r,
 -- both numbered from 1.
 use Rattle.std.specs.Prelude.{ℕ, zero, suc, ◌-◌, List, [], ◌∷◌, ◌++◌, Option, Some, None, length, nat_le, ◌==◌, if◌then◌else◌}
+use Rattle.std.specs.Option.{option_or}
 use Rattle.auction_rules.specs.declared.Stage.{Stage}
 use Rattle.auction_rules.specs.declared.Stage.TheVariants.{Clock, Sealed, Closed}
 use Rattle.auction_model.specs.Package.{together, is_within, cost_of}
 use Rattle.auction_rules.specs.Terms.{Terms, entrant, no_lots}
 use Rattle.auction_rules.specs.Step.{stepped}
+
+-- what f gives at 1 to n
+abbrev pub listing : {A : Type 0} → (ℕ → A) → ℕ → List A
+listing f zero = []
+listing f (suc n) = listing f n ++ f (suc n) ∷ []
 
 -- the sum of the packages of bidders 1 to n, where `none` is the empty package
 abbrev pub sum_of : List ℕ → (ℕ → List ℕ) → ℕ → List ℕ
@@ -35,16 +41,11 @@ abbrev pub eligibility_after : Terms → (ℕ → ℕ → List ℕ) → ℕ → 
 eligibility_after terms held j zero = (entrant terms j).eligibility
 eligibility_after terms held j (suc n) = cost_of terms.points (held (suc n) j)
 
--- the first of two
-abbrev pub first_of : {A : Type 0} → Option A → Option A → Option A
-first_of (Some x) y = Some x
-first_of None y = y
-
 -- the first of the rounds 1 to n whose demand is within the supply
 abbrev pub final_round : Terms → (ℕ → ℕ → List ℕ) → ℕ → Option ℕ
 final_round terms held zero = None
 final_round terms held (suc n) =
-    first_of (final_round terms held n) (if is_within (demand terms held (suc n)) terms.supply then Some (suc n) else None)
+    option_or (final_round terms held n) (if is_within (demand terms held (suc n)) terms.supply then Some (suc n) else None)
 
 -- after n closes: the clock runs until a final round is closed; the next close closes the sealed round
 abbrev pub stage_by : ℕ → Option ℕ → Stage
@@ -83,5 +84,4 @@ own_round terms held j r =
 
 -- the first n rounds of bidder j, the first one first
 abbrev pub own_rounds : Terms → (ℕ → ℕ → List ℕ) → ℕ → ℕ → List OwnRound
-own_rounds terms held j zero = []
-own_rounds terms held j (suc n) = own_rounds terms held j n ++ own_round terms held j (suc n) ∷ []
+own_rounds terms held j n = listing (own_round terms held j) n

@@ -1,6 +1,5 @@
 -- The state of a desk, which takes the lines of a log one by one: what it keeps for all bidders at once.
 use Rattle.std.specs.Prelude.{ℕ, zero, suc, ◌-◌, Bool, not, ◌&&◌, List, [], ◌∷◌, ◌++◌, None, map, length, slice_index, slice_index_or, slice_set, nat_le, if◌then◌else◌}
-use Rattle.limits.specs.declared.TheConstants.{MOST_ROUNDS}
 use Rattle.auction_rules.specs.declared.Event.{Event}
 use Rattle.auction_rules.specs.declared.Event.TheVariants.{Bid, Draft, Drop, Submit, Close}
 use Rattle.auction_rules.specs.declared.Reply.{Reply}
@@ -9,10 +8,10 @@ use Rattle.auction_model.specs.Book.{BookBid}
 use Rattle.auction_rules.specs.declared.Stage.TheVariants.{Clock, Sealed, Closed}
 use Rattle.auction_model.specs.Package.{is_within, cost_of}
 use Rattle.auction_rules.specs.Terms.{Terms, no_lots}
-use Rattle.auction_rules.specs.Rounds.{OwnRound, sum_of, raised_prices, prices_after, eligibility_after, stage_after, round_after, closed_after}
+use Rattle.auction_rules.specs.Rounds.{OwnRound, listing, sum_of, raised_prices, prices_after, eligibility_after, stage_after, round_after, closed_after}
 use Rattle.auction_rules.specs.declared.Reply.TheVariants as reply
 use Rattle.auction_rules.specs.Lines.{is_close, line_bidder, with_entry, without_entry, closes, held_in, draft_list, submitted_list}
-use Rattle.auction_rules.specs.Replies.{Standing, is_clock, is_closed, is_ok_reply, first_reply, when, price_top, own_reply, admitted}
+use Rattle.auction_rules.specs.Replies.{Standing, is_clock, is_closed, is_ok_reply, closing_reply, own_reply, admitted}
 
 -- one closed clock round: the prices, and of each bidder its eligibility at the start and its package
 pub record Round : Type 0 where
@@ -30,11 +29,6 @@ pub record DeskState : Type 0 where
   pub held : List (List ℕ)
   pub drafts : List (List BookBid)
   pub submitted : List (List BookBid)
-
--- what f gives at 1 to n
-abbrev pub listing : {A : Type 0} → (ℕ → A) → ℕ → List A
-listing f zero = []
-listing f (suc n) = listing f n ++ f (suc n) ∷ []
 
 abbrev pub round_of : Terms → (ℕ → ℕ → List ℕ) → ℕ → Round
 round_of terms held r = record {
@@ -79,9 +73,13 @@ standing_in st j = record {
   submitted = slice_index_or st.submitted (j - 1) [];
 }
 
+-- what is asked for together of a supply
+abbrev pub asked_of : List ℕ → List (List ℕ) → List ℕ
+asked_of supply held = sum_of (map (λ n. 0) supply) (λ j. slice_index_or held (j - 1) []) (length held)
+
 -- what all bidders ask for together
 abbrev pub asked : Terms → List (List ℕ) → List ℕ
-asked terms held = sum_of (no_lots terms) (λ j. slice_index_or held (j - 1) []) (length held)
+asked terms held = asked_of terms.supply held
 
 -- the posted round, as it is kept once it is closed
 abbrev pub round_now : DeskState → Round
@@ -138,11 +136,9 @@ has_excess_in st = is_clock st.stage && not (is_within (asked st.terms st.held) 
 
 -- the reply to a close
 abbrev pub close_reply_in : DeskState → Reply
-close_reply_in st = first_reply (
-    when (is_closed st.stage) reply.Stage
-    ∷ when (has_excess_in st && nat_le MOST_ROUNDS (suc (length st.rounds))) (reply.Full MOST_ROUNDS)
-    ∷ (if has_excess_in st then price_top 1 (raised_prices st.terms.tick st.terms.thresholds st.prices (asked st.terms st.held) st.terms.supply) else None)
-    ∷ [])
+close_reply_in st =
+    closing_reply (is_closed st.stage) (has_excess_in st) (suc (length st.rounds))
+    (raised_prices st.terms.tick st.terms.thresholds st.prices (asked st.terms st.held) st.terms.supply)
 
 -- the reply to a line in a state
 abbrev pub reply_in : DeskState → Event → Reply

@@ -21,7 +21,7 @@ use Rattle.lots.specs.Limits.{IsSupply, categories_stop, zero_stop}
 use Rattle.auction_rules.specs.declared.Event.{Event}
 use Rattle.auction_rules.specs.PackageTests.{is_empty, is_before, AllAfter, InOrder}
 use Rattle.auction_rules.specs.Terms.{Terms, Entrant, entrant}
-use Rattle.auction_rules.specs.State.{listing}
+use Rattle.auction_rules.specs.Rounds.{listing}
 use Rattle.auction_rules.specs.Lawful.{AreLimited, IsLawfulBid}
 use Rattle.auction_rules.specs.BookOfLog.{bid_lots, bids_in_book, book_bidder, book_by, book_of_log}
 use Rattle.award_file.specs.Award.{IsAward, IsEntrant, names_of, entrant_with}

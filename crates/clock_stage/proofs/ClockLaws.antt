@@ -10,7 +10,8 @@ use Rattle.auction_rules.specs.declared.Stage.TheVariants.{Clock, Sealed}
 use Rattle.auction_rules.specs.declared.Stage.TheVariants as stage
 use Rattle.auction_rules.specs.Terms.{Terms, entrant, no_lots}
 use Rattle.auction_rules.specs.Replies.{is_clock, is_ok_reply, bid_reply, reply_to}
-use Rattle.auction_rules.specs.State.{DeskState, listing, state_of, asked, close_reply_in, closed_state, clock_stopped, next_round, reply_in, taken, state_with}
+use Rattle.auction_rules.specs.Rounds.{listing}
+use Rattle.auction_rules.specs.State.{DeskState, state_of, asked, close_reply_in, closed_state, clock_stopped, next_round, reply_in, taken, state_with}
 use Rattle.auction_rules.proofs.Stands.{reply_in-state_of, state_with-state_of}
 use Rattle.clock_stage.specs.ClockState.{ClockState, clock_with, clock_of, round_with, reply_to_bid, after_bid, reply_to_close, after_close, clock_closed}
 use Rattle.clock_stage.specs.declared.closes.Closed.{Closed}

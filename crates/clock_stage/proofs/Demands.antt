@@ -10,7 +10,7 @@ use Rattle.auction_model.specs.Package.{together, is_within}
 use Rattle.auction_model.specs.Place.{states_of, left_at}
 use Rattle.auction_model.proofs.PlaceLaws.{states-positive}
 use Rattle.auction_rules.specs.Rounds.{sum_of}
-use Rattle.auction_rules.specs.State.{listing}
+use Rattle.auction_rules.specs.Rounds.{listing}
 
 pub length-together : (p q : List ℕ) → length q ≡ length p → length (together p q) ≡ length p
 length-together [] [] e = refl

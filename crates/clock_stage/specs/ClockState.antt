@@ -1,12 +1,12 @@
 -- The state of a clock, and what its bids and closes make of it.
-use Rattle.std.specs.Prelude.{ℕ, suc, ◌-◌, Bool, true, false, not, ◌&&◌, List, [], ◌∷◌, ◌++◌, None, length, map, slice_index, slice_index_or, slice_set, nat_le, if◌then◌else◌}
+use Rattle.std.specs.Prelude.{ℕ, suc, ◌-◌, Bool, true, false, not, List, [], ◌∷◌, ◌++◌, length, map, slice_index, slice_set, if◌then◌else◌}
 use Rattle.auction_model.specs.Package.{is_within, cost_of}
 use Rattle.auction_rules.specs.declared.Reply.{Reply}
 use Rattle.auction_rules.specs.declared.Reply.TheVariants as reply
 use Rattle.auction_rules.specs.declared.Stage.TheVariants.{Clock}
 use Rattle.auction_rules.specs.Terms.{Terms, no_lots}
-use Rattle.auction_rules.specs.Rounds.{sum_of, raised_prices}
-use Rattle.auction_rules.specs.Replies.{is_clock, is_ok_reply, first_reply, when, price_top, bid_reply}
+use Rattle.auction_rules.specs.Rounds.{raised_prices}
+use Rattle.auction_rules.specs.Replies.{is_clock, is_ok_reply, closing_reply, bid_reply}
 use Rattle.auction_rules.specs.State.{Round, DeskState, round_now, asked}
 
 -- whether rounds are posted, the closed rounds, and the posted one. Once the clock has ended it keeps the final round as posted
@@ -42,10 +42,6 @@ abbrev pub after_bid : Terms → ClockState → ℕ → List ℕ → ClockState
 after_bid terms clock j lots =
     if is_ok_reply (reply_to_bid terms clock j lots) then clock_with clock.running clock.rounds (with_held clock.posted j lots) else clock
 
--- what is asked for together of a supply
-abbrev pub asked_of : List ℕ → List (List ℕ) → List ℕ
-asked_of supply held = sum_of (map (λ n. 0) supply) (λ j. slice_index_or held (j - 1) []) (length held)
-
 -- the reply to a close that would raise this category to this price
 abbrev pub top_reply : ℕ × ℕ → Reply
 top_reply top = reply.PriceTop top.0 top.1
@@ -60,10 +56,7 @@ next_prices terms clock = raised_prices terms.tick terms.thresholds clock.posted
 
 -- the reply to a close while the clock runs
 abbrev pub reply_to_close : Terms → ClockState → Reply
-reply_to_close terms clock = first_reply (
-    when (has_excess terms clock && nat_le 300 (suc (length clock.rounds))) (reply.Full 300)
-    ∷ (if has_excess terms clock then price_top 1 (next_prices terms clock) else None)
-    ∷ [])
+reply_to_close terms clock = closing_reply false (has_excess terms clock) (suc (length clock.rounds)) (next_prices terms clock)
 
 -- the round that is posted after this one where there is excess demand: at these prices each bidder is eligible for the points
 -- of its package, and holds nothing yet

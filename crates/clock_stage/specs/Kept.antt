@@ -1,6 +1,7 @@
 -- What each clock and each history keep.
-use Rattle.std.specs.Prelude.{◌≡◌, ℕ, ◌^◌, ◌≤◌, ◌<◌, true, List, [], length, sum, slice_index_or, ◌-◌}
+use Rattle.std.specs.Prelude.{◌≡◌, ℕ, ◌≤◌, ◌<◌, true, List, [], length, sum, slice_index_or, ◌-◌}
 use Rattle.std.specs.List.{All}
+use Rattle.limits.specs.declared.TheConstants.{MOST_BIDDERS, MOST_CATEGORIES, MOST_LOTS, MOST_PRICE, MOST_ROUNDS}
 use Rattle.auction_rules.specs.Terms.{Terms}
 use Rattle.auction_rules.specs.State.{Round}
 use Rattle.clock_stage.specs.ClockState.{ClockState, round_with}
@@ -8,12 +9,12 @@ use Rattle.clock_stage.specs.ClockState.{ClockState, round_with}
 -- a package that a bidder may hold where there are so many categories
 pub record IsHeld (categories : ℕ) (lots : List ℕ) : Type 0 where
   pub count : length lots ≡ categories
-  pub few : sum lots ≤ 40
+  pub few : sum lots ≤ MOST_LOTS
 
 -- a round of so many bidders and so many categories
 pub record IsRound (bidders categories : ℕ) (r : Round) : Type 0 where
   pub prices : length r.prices ≡ categories
-  pub most_price : All (λ p. p ≤ 2 ^ 36) r.prices
+  pub most_price : All (λ p. p ≤ MOST_PRICE) r.prices
   pub eligibility : length r.eligibility ≡ bidders
   pub held : length r.held ≡ bidders
   pub packages : All (IsHeld categories) r.held
@@ -32,19 +33,19 @@ bidders_in rounds = length (round_at rounds 1).held
 abbrev pub categories_in : List Round → ℕ
 categories_in rounds = length (round_at rounds 1).prices
 
--- what a history keeps: at most 300 rounds, all of as many bidders and categories
+-- what a history keeps: no more rounds than there may be, all of as many bidders and categories
 pub record IsHistory (rounds : List Round) : Type 0 where
-  pub few : length rounds ≤ 300
+  pub few : length rounds ≤ MOST_ROUNDS
   pub each : All (IsRound (bidders_in rounds) (categories_in rounds)) rounds
 
--- what a clock keeps: its rounds have as many bidders and categories as the posted one, which is at most the 300th
+-- what a clock keeps: its rounds have as many bidders and categories as the posted one, for which there is room
 pub record IsClock (clock : ClockState) : Type 0 where
-  pub few_bidders : length clock.posted.held ≤ 16
-  pub few_categories : length clock.posted.prices ≤ 6
+  pub few_bidders : length clock.posted.held ≤ MOST_BIDDERS
+  pub few_categories : length clock.posted.prices ≤ MOST_CATEGORIES
   pub posted : IsRound (length clock.posted.held) (length clock.posted.prices) clock.posted
   pub closed : All (IsRound (length clock.posted.held) (length clock.posted.prices)) clock.rounds
-  pub few : length clock.rounds ≤ 300
-  pub room : clock.running ≡ true → length clock.rounds < 300
+  pub few : length clock.rounds ≤ MOST_ROUNDS
+  pub room : clock.running ≡ true → length clock.rounds < MOST_ROUNDS
 
 -- the clock has the bidders and the categories of the award
 pub record IsFor (terms : Terms) (clock : ClockState) : Type 0 where

@@ -1,5 +1,6 @@
 // The reply to a clock bid.
 ghost use Rattle.std.specs.Prelude.{◌≡◌, ◌≤◌, ◌-◌, length, slice_index, sum};
+ghost use Rattle.limits.specs.declared.TheConstants.{MOST_LOTS};
 ghost use Rattle.auction_rules.specs.declared.Reply.{Reply};
 ghost use Rattle.auction_rules.specs.declared.Stage.{Stage};
 ghost use Rattle.auction_rules.specs.Replies.{bid_reply};
@@ -14,7 +15,7 @@ pub fn reply_to_bid(award: &Award, eligibility: &[u64], bidder: u16, package: &P
     requires bidders { length eligibility.now ≡ length award.now.bidders }
     requires categories { length «package».now ≡ length award.now.supply }
     ensures reply { result ≡ bid_reply award.now Stage.Clock (slice_index eligibility.now (bidder - 1)) bidder «package».now }
-    ensures few { result ≡ Reply.Ok → sum «package».now ≤ 40 }
+    ensures few { result ≡ Reply.Ok → sum «package».now ≤ MOST_LOTS }
 {
     if bidder == 0 || bidder as usize > award.bidders() {
         return Reply::Unknown;

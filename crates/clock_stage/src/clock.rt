@@ -3,7 +3,8 @@ ghost use Rattle.std.specs.Prelude.{◌≡◌, ◌≢◌, ◌⊎◌, ◌∷◌, 
 ghost use Rattle.auction_rules.specs.declared.Event.{Event};
 ghost use Rattle.auction_rules.specs.declared.Reply.{Reply};
 ghost use Rattle.auction_rules.specs.Replies.{reply_to};
-ghost use Rattle.auction_rules.specs.State.{listing, state_of};
+ghost use Rattle.auction_rules.specs.State.{state_of};
+ghost use Rattle.auction_rules.specs.Rounds.{listing};
 ghost use Rattle.auction_rules.specs.Terms.{entrant};
 ghost use Rattle.clock_stage.specs.ClockState.{after_bid, after_close, clock_of, clock_with, reply_to_bid, reply_to_close, round_number};
 ghost use Rattle.clock_stage.specs.Closings.{IsRefusal, Tells};

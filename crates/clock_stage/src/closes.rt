@@ -9,6 +9,7 @@ use crate::demand::{demand_of, first_above_top, is_met};
 use crate::rounds::{ClockRound, History, empty_packages, points_of};
 use crate::steps::raised_prices;
 use award_file::Award;
+use limits::MOST_ROUNDS;
 use lots::Package;
 use std::alloc::{AllocError, Global};
 
@@ -19,9 +20,9 @@ pub enum Closed {
     NextRound(u32),
     /// There was none, so the clock stage ends.
     StageEnds,
-    /// There was excess demand in the last round that there may be, which is the 300th.
+    /// There was excess demand in the last round that there may be.
     Full(u64),
-    /// There was excess demand, and the price of this category would rise to this, above 2^36; the first such category.
+    /// There was excess demand, and the price of this category would rise to this, above the greatest price; the first such category.
     PriceTop { category: u16, price: u64 },
     /// There was no memory.
     Memory,
@@ -37,9 +38,6 @@ pub enum Closing {
     /// The close is refused.
     Refused(Closed),
 }
-
-/// The most rounds of a clock.
-const MOST_ROUNDS: u32 = 300;
 
 /// The round that follows one in which these packages are held, at these prices.
 fn round_after(
@@ -74,8 +72,8 @@ pub fn closing_of(
     if is_met(&demand, supply.counts()) {
         return Ok(Closing::Ends(posted.copied(alloc)?));
     }
-    if history.rounds() + 1 >= MOST_ROUNDS {
-        return Ok(Closing::Refused(Closed::Full(MOST_ROUNDS as u64)));
+    if u64::from(history.rounds()) + 1 >= MOST_ROUNDS {
+        return Ok(Closing::Refused(Closed::Full(MOST_ROUNDS)));
     }
     let prices = raised_prices(
         alloc,

@@ -1,12 +1,15 @@
 // What all bidders ask for.
 ghost use Rattle.std.specs.Prelude.{◌≡◌, ◌≤◌, ◌+◌, ◌^◌, All, IfOk, List, [], ℕ, length, map, option_map, slice_index_or};
+ghost use Rattle.limits.specs.declared.TheConstants.{MOST_BIDDERS, MOST_CATEGORIES};
 ghost use Rattle.auction_model.specs.Package.{is_within, together};
 ghost use Rattle.auction_rules.specs.PackageTests.{first_over};
 ghost use Rattle.auction_rules.specs.Replies.{price_top};
 ghost use Rattle.auction_rules.specs.Rounds.{sum_of};
-ghost use Rattle.clock_stage.specs.ClockState.{asked_of, top_reply};
+ghost use Rattle.auction_rules.specs.State.{asked_of};
+ghost use Rattle.clock_stage.specs.ClockState.{top_reply};
 ghost use Rattle.clock_stage.specs.Kept.{IsHeld};
 
+use limits::MOST_PRICE;
 use lots::{Package, Supply};
 use std::alloc::{AllocError, Global};
 
@@ -24,7 +27,7 @@ fn add_package(sum: &mut [u64], package: &Package)
 
 /// The sum of the packages of all bidders, of which each has as many categories as the supply.
 pub fn demand_of(alloc: Global, supply: &Supply, held: &[Package]) -> Result<Vec<u64>, AllocError>
-    requires few { length held.now ≤ 16 }
+    requires few { length held.now ≤ MOST_BIDDERS }
     requires packages { All (IsHeld (length supply.now)) held.now }
     ensures demand { IfOk result (λ v. v.items ≡ asked_of supply.now held.now) }
     ensures categories { IfOk result (λ v. length v.items ≡ length supply.now) }
@@ -52,7 +55,7 @@ pub fn is_met(demand: &[u64], supply: &[u16]) -> bool
 /// The first category whose count is above the supply, counted from 1.
 pub fn first_over(counts: &[u16], supply: &[u16]) -> Option<u16>
     requires categories { length counts.now ≡ length supply.now }
-    requires few { length supply.now ≤ 6 }
+    requires few { length supply.now ≤ MOST_CATEGORIES }
     ensures { result ≡ first_over 1 counts.now supply.now }
 {
     for category in 0..counts.len() {
@@ -63,12 +66,9 @@ pub fn first_over(counts: &[u16], supply: &[u16]) -> Option<u16>
     None
 }
 
-/// The greatest price of a lot, 2^36.
-const MOST_PRICE: u64 = 1 << 36;
-
 /// The first category, counted from 1, whose price is above the greatest price, with its price.
 pub fn first_above_top(prices: &[u64]) -> Option<(u16, u64)>
-    requires { length prices.now ≤ 6 }
+    requires { length prices.now ≤ MOST_CATEGORIES }
     ensures { option_map top_reply result ≡ price_top 1 prices.now }
 {
     for (category, price) in prices.iter().enumerate() {

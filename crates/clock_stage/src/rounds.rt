@@ -1,5 +1,6 @@
 // Rounds, and the history of the closed ones.
-ghost use Rattle.std.specs.Prelude.{◌≡◌, ◌≤◌, ◌∷◌, ◌++◌, ◌^◌, [], All, IfOk, List, ℕ, OnErr, OnOk, length, map, replicate, slice_index, slice_index_or, ◌-◌};
+ghost use Rattle.std.specs.Prelude.{◌≡◌, ◌≤◌, ◌∷◌, ◌++◌, [], All, IfOk, List, ℕ, OnErr, OnOk, length, map, replicate, slice_index, slice_index_or, ◌-◌};
+ghost use Rattle.limits.specs.declared.TheConstants.{MOST_POINTS, MOST_PRICE};
 ghost use Rattle.auction_model.specs.Package.{cost_of};
 ghost use Rattle.clock_stage.specs.Kept.{IsHeld, IsHistory, IsRound, bidders_in, categories_in, round_at};
 ghost use Rattle.clock_stage.specs.Rounds.{round_value};
@@ -66,7 +67,7 @@ pub fn points_of(
     points: &[u32],
     packages: &[Package],
 ) -> Result<Vec<u64>, AllocError>
-    requires most { All (λ p. p ≤ 10000) points.now }
+    requires most { All (λ p. p ≤ MOST_POINTS) points.now }
     requires packages { All (IsHeld (length points.now)) packages.now }
     ensures { IfOk result (λ v. v.items ≡ map (cost_of points.now) packages.now) }
 {
@@ -77,7 +78,7 @@ pub fn points_of(
     Ok(sums)
 }
 
-/// The closed rounds of a clock, at most 300, the first one first. Rounds and bidders are numbered from 1.
+/// The closed rounds of a clock, the first one first. Rounds and bidders are numbered from 1.
 #[derive(Drop)]
 pub struct History {
     rounds: Vec<ClockRound>,
@@ -151,7 +152,7 @@ impl History {
         requires { (1 ≤ r) × (r ≤ length self.now) }
         ensures prices { result.now ≡ (round_at self.now r).prices }
         ensures categories { length result.now ≡ categories_in self.now }
-        ensures most { All (λ p. p ≤ 2 ^ 36) result.now }
+        ensures most { All (λ p. p ≤ MOST_PRICE) result.now }
     {
         &self.round(r).prices
     }

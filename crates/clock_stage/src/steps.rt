@@ -1,5 +1,6 @@
 // The price step.
 ghost use Rattle.std.specs.Prelude.{◌≡◌, ◌≤◌, ◌^◌, All, IfOk, length};
+ghost use Rattle.limits.specs.declared.TheConstants.{MOST_PRICE};
 ghost use Rattle.auction_rules.specs.Rounds.{raised_prices};
 ghost use Rattle.auction_rules.specs.Step.{permille_at, stepped};
 
@@ -25,7 +26,7 @@ fn permille_of(excess: u64, thresholds: &[(u64, u64)]) -> u64
 /// at least the thousandths of the price that the excess reaches in the table. (`auction_rules::raise_is_least` says that this
 /// is what `stepped` adds.)
 pub fn step(price: u64, excess: u64, table: &StepTable) -> u64
-    requires { price ≤ 2 ^ 36 }
+    requires { price ≤ MOST_PRICE }
     ensures price { result ≡ stepped table.now.tick table.now.thresholds price excess }
     ensures rises { price ≤ result }
     ensures top { result ≤ 2 ^ 38 }
@@ -47,7 +48,7 @@ pub fn raised_prices(
 ) -> Result<Vec<u64>, AllocError>
     requires demand { length demand.now ≡ length prices.now }
     requires supply { length supply.now ≡ length prices.now }
-    requires most { All (λ p. p ≤ 2 ^ 36) prices.now }
+    requires most { All (λ p. p ≤ MOST_PRICE) prices.now }
     ensures { IfOk result (λ v. v.items ≡ raised_prices table.now.tick table.now.thresholds prices.now demand.now supply.now) }
 {
     let mut next = Vec::with_capacity(alloc, prices.len())?;

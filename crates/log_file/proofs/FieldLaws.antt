@@ -12,7 +12,7 @@ use Rattle.std.proofs.lemmas.Str.Ascii.{IsAscii-from_all}
 use Rattle.wide_num.proofs.Decimal.{numeral_decimal, AreDigits}
 use Rattle.book_form.specs.BookForm.{IsName, IsNameByte}
 use Rattle.book_form.specs.BookLines.{numbers_text}
-use Rattle.bid_book.specs.Stops.{Stops}
+use Rattle.text_lines.specs.Fields.{FieldEnds}
 use Rattle.log_file.specs.LogForm.{AreCounts, counts_text}
 
 -- ---- names
@@ -45,7 +45,7 @@ abbrev pub NoSpace : List ℕ → Type 0
 NoSpace cs = AllByRecursion (λ c. c ≢ 32) cs
 
 -- a text falls apart at its first space in one way
-pub one_field : (a b x y : List ℕ) → NoSpace a → NoSpace b → Stops x → Stops y → a ++ x ≡ b ++ y → (a ≡ b) × (x ≡ y)
+pub one_field : (a b x y : List ℕ) → NoSpace a → NoSpace b → FieldEnds x → FieldEnds y → a ++ x ≡ b ++ y → (a ≡ b) × (x ≡ y)
 one_field [] [] x y na nb sx sy is = (refl, is)
 one_field [] (d ∷ b) [] y na nb sx sy is = absurd (cc is)
 one_field [] (d ∷ b) (c ∷ x) y na nb sx sy is = let e : c ≡ d = cc in absurd (nb.0 (sym e ∙ sx))
@@ -56,7 +56,7 @@ one_field (c ∷ a) (d ∷ b) x y na nb sx sy is =
     let tails : a ++ x ≡ b ++ y = cc in
     let rest = one_field a b x y na.1 nb.1 sx sy tails in (cc (heads, rest.0), rest.1)
 
-pub numbers_stops : (ns : List ℕ) → Stops (numbers_text ns)
+pub numbers_stops : (ns : List ℕ) → FieldEnds (numbers_text ns)
 numbers_stops [] = tt
 numbers_stops (n ∷ ns) = refl
 
@@ -77,7 +77,7 @@ pub record FirstCount (field more ns : List ℕ) : Type 0 where
   pub field_is : field ≡ decimal count
   pub more_is : more ≡ numbers_text later
 
-pub first_count : (categories : ℕ) (text field more ns : List ℕ) → 0 < categories → text ≡ field ++ more → NoSpace field → Stops more → AreCounts categories ns → text ≡ counts_text ns → FirstCount field more ns
+pub first_count : (categories : ℕ) (text field more ns : List ℕ) → 0 < categories → text ≡ field ++ more → NoSpace field → FieldEnds more → AreCounts categories ns → text ≡ counts_text ns → FirstCount field more ns
 first_count categories text field more [] some split own stops are is = absurd (omega (arith, some, are.0))
 first_count categories text field more (n ∷ ns) some split own stops are is =
     let parts = one_field field (decimal n) more (numbers_text ns) own (number_own n are.1.0) stops (numbers_stops ns) (sym split ∙ is) in
@@ -87,13 +87,13 @@ first_count categories text field more (n ∷ ns) some split own stops are is =
 pub record Splits (text field more : List ℕ) : Type 0 where
   pub split : text ≡ field ++ more
   pub own : NoSpace field
-  pub stops : Stops more
+  pub stops : FieldEnds more
 
-pub splits : (text field more : List ℕ) (n : ℕ) → field ≡ take n text → more ≡ drop n text → NoSpace (take n text) → Stops (drop n text) → Splits text field more
+pub splits : (text field more : List ℕ) (n : ℕ) → field ≡ take n text → more ≡ drop n text → NoSpace (take n text) → FieldEnds (drop n text) → Splits text field more
 splits text field more n front back own stops = record {
   split = sym (take-append-drop n text) ∙ ap (λ (l : List ℕ). l ++ drop n text) (sym front) ∙ ap (λ (l : List ℕ). field ++ l) (sym back);
   own = subst NoSpace (sym front) own;
-  stops = subst Stops (sym back) stops;
+  stops = subst FieldEnds (sym back) stops;
 }
 
 pub first_of : (categories : ℕ) (text field more ns : List ℕ) → 0 < categories → Splits text field more → AreCounts categories ns → text ≡ counts_text ns → FirstCount field more ns

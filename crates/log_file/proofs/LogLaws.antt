@@ -7,7 +7,8 @@ use Rattle.std.specs.Prelude.{Option, Some, None, Result, Err, IfErr}
 use Rattle.log_file.specs.declared.LogStop.{LogStop}
 use Rattle.log_file.specs.declared.LogStop.TheVariants.{Memory}
 use Rattle.log_file.specs.LogForm.{States, StatesNone, ReadsAs}
-use Rattle.log_file.specs.LogReading.{AllState, AreLog, AreTooMany, BeginWith, IsFirstFault, IsStop, max_records}
+use Rattle.log_file.specs.LogReading.{AllState, AreLog, AreTooMany, BeginWith, IsFirstFault, IsStop}
+use Rattle.limits.specs.declared.TheConstants.{MOST_RECORDS}
 
 abbrev pub Rows : Type 0
 Rows = List (List (List ℕ))
@@ -23,7 +24,7 @@ pub begin : (terms : Terms) (rows : Rows) → BeginWith terms rows [] rows
 begin terms rows = record { before = []; whole = refl; states = tt; few = omega arith }
 
 -- one record more
-pub begin_more : (terms : Terms) (rows : Rows) (events : List Event) (left : Rows) (r : List (List ℕ)) (later : Rows) (e : Event) → BeginWith terms rows events left → left ≡ r ∷ later → length events < max_records
+pub begin_more : (terms : Terms) (rows : Rows) (events : List Event) (left : Rows) (r : List (List ℕ)) (later : Rows) (e : Event) → BeginWith terms rows events left → left ≡ r ∷ later → length events < MOST_RECORDS
     → States terms r e → BeginWith terms rows (events ++ e ∷ []) later
 begin_more terms rows events left r later e had is few states = record {
   before = had.before ++ r ∷ [];
@@ -42,12 +43,12 @@ pub begin_at : (terms : Terms) (rows : Rows) (events : List Event) (left other :
 begin_at terms rows events left other had is = subst (BeginWith terms rows events) is had
 
 -- a record that states nothing is the first fault
-pub first_fault : (terms : Terms) (rows : Rows) (events : List Event) (left : Rows) (r : List (List ℕ)) (later : Rows) → BeginWith terms rows events left → left ≡ r ∷ later → length events < max_records
+pub first_fault : (terms : Terms) (rows : Rows) (events : List Event) (left : Rows) (r : List (List ℕ)) (later : Rows) → BeginWith terms rows events left → left ≡ r ∷ later → length events < MOST_RECORDS
     → StatesNone terms r → IsFirstFault terms rows (suc (length events))
 first_fault terms rows events left r later had is few none = (events, r, later, begin_at terms rows events left (r ∷ later) had is, none, few, refl)
 
 -- a record behind the greatest number of them
-pub too_many : (terms : Terms) (rows : Rows) (events : List Event) (left : Rows) (r : List (List ℕ)) (later : Rows) → BeginWith terms rows events left → left ≡ r ∷ later → length events ≡ max_records
+pub too_many : (terms : Terms) (rows : Rows) (events : List Event) (left : Rows) (r : List (List ℕ)) (later : Rows) → BeginWith terms rows events left → left ≡ r ∷ later → length events ≡ MOST_RECORDS
     → AreTooMany terms rows
 too_many terms rows events left r later had is many = (events, r, later, begin_at terms rows events left (r ∷ later) had is, many)
 

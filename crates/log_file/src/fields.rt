@@ -1,26 +1,26 @@
 // The fields of a record.
 ghost use Rattle.std.specs.Prelude.{◌≡◌, ◌≢◌, ℕ, ◌+◌, ◌≤◌, ◌<◌, ◌^◌, ◌++◌, List, true, false, length, take, drop, IfOk, IfNone, IfSome};
-ghost use Rattle.std.specs.List.{AllByRecursion};
+ghost use Rattle.limits.specs.declared.TheConstants.{MOST_CATEGORIES};
 ghost use Rattle.std.specs.Fmt.{decimal};
 ghost use Rattle.book_form.specs.BookForm.{IsName};
-ghost use Rattle.bid_book.specs.Stops.{Stops};
 ghost use Rattle.log_file.specs.LogForm.{AreCounts, IsNameOf, counts_text};
 
 use arrayvec::ArrayVec;
 use award_file::Award;
 use bid_book::is_name;
+use limits::MOST_CATEGORIES;
 use lots::Package;
 use std::alloc::{AllocError, Global};
-use wide_num::read_natural;
-
-/// The greatest count of a category in a text.
-const MOST_COUNT: u128 = 65_535;
+use text_lines::{field_len, read_at_most};
 
 /// The greatest amount in a text, 10^18.
-const MOST_AMOUNT: u128 = 1_000_000_000_000_000_000;
+const MOST_AMOUNT: u64 = 1_000_000_000_000_000_000;
 
-/// The counts of a package, which has at most six categories.
-type Counts = ArrayVec<u16, 6>;
+/// The greatest count of a category in a text.
+const MOST_COUNT: u64 = 65_535;
+
+/// The counts of a package.
+type Counts = ArrayVec<u16, MOST_CATEGORIES>;
 
 /// The number of the bidder that a field names, 0 for a stranger, and None where the field is no name.
 pub fn read_bidder(award: &Award, field: &[u8]) -> Option<u16>
@@ -49,10 +49,7 @@ pub fn read_amount(field: &[u8]) -> Option<u64>
     ensures found { IfSome result (λ n. (n ≤ 10 ^ 18) × (field.now ≡ decimal n)) }
     ensures none { IfNone result ((n : ℕ) → n ≤ 10 ^ 18 → field.now ≡ decimal n → ⊥) }
 {
-    match read_natural(field) {
-        Some(n) if n <= MOST_AMOUNT => Some(n as u64),
-        _ => None,
-    }
+    read_at_most(field, MOST_AMOUNT)
 }
 
 /// The package that a field spells, with a count for each category of the award, and None where it spells none. The only
@@ -79,7 +76,7 @@ pub fn read_package(
 fn categories(award: &Award) -> usize
     ensures count { result ≡ length award.now.supply }
     ensures some { 0 < result }
-    ensures few { result ≤ 6 }
+    ensures few { result ≤ MOST_CATEGORIES }
 {
     award.supply().counts().len()
 }
@@ -87,42 +84,17 @@ fn categories(award: &Award) -> usize
 /// Adds so many counts that a text spells, with one space between each two, and says whether it spells them.
 fn add_counts(counts: &mut Counts, categories: usize, text: &[u8]) -> bool
     requires some { 0 < categories }
-    requires room { length counts.old.items + categories ≤ 6 }
+    requires room { length counts.old.items + categories ≤ MOST_CATEGORIES }
     ensures added { result ≡ true → (ns : List ℕ) × AreCounts categories ns × (text.now ≡ counts_text ns) × (counts.new.items ≡ counts.old.items ++ ns) }
     ensures none { result ≡ false → (ns : List ℕ) → AreCounts categories ns → text.now ≡ counts_text ns → ⊥ }
 {
     let (field, more) = text.split_at(field_len(text));
-    let Some(count) = read_count(field) else {
+    let Some(count) = read_at_most(field, MOST_COUNT) else {
         return false;
     };
-    counts.push(count);
+    counts.push(count as u16);
     match more {
         [] => categories == 1,
         [_, behind @ ..] => categories > 1 && add_counts(counts, categories - 1, behind),
-    }
-}
-
-/// How many bytes stand before the first space.
-fn field_len(text: &[u8]) -> usize
-    ensures within { result ≤ length text.now }
-    ensures own { AllByRecursion (λ c. c ≢ 32) (take result text.now) }
-    ensures stops { Stops (drop result text.now) }
-{
-    for (i, c) in text.iter().enumerate() {
-        if *c == b' ' {
-            return i;
-        }
-    }
-    text.len()
-}
-
-/// The count that a field spells, and None where it spells none of at most 65,535.
-fn read_count(field: &[u8]) -> Option<u16>
-    ensures found { IfSome result (λ n. (n ≤ 65535) × (field.now ≡ decimal n)) }
-    ensures none { IfNone result ((n : ℕ) → n ≤ 65535 → field.now ≡ decimal n → ⊥) }
-{
-    match read_natural(field) {
-        Some(n) if n <= MOST_COUNT => Some(n as u16),
-        _ => None,
     }
 }

@@ -14,9 +14,9 @@ mod reply;
 mod tests;
 
 pub use auction_rules::{Event, Reply};
-pub use limits::LimitKind;
 pub use events::Events;
 pub use laws::one_reading;
+pub use limits::LimitKind;
 pub use read::read_log;
 pub use reply::reply_line;
 use std::alloc::{AllocError, AllocFailed};

@@ -9,10 +9,8 @@ use crate::record::read_event;
 use crate::{Events, LimitKind, LogStop};
 use award_file::Award;
 use csv::{ByteRecord, Error, ErrorKind, Reader, ReaderBuilder};
+use limits::MOST_RECORDS;
 use std::alloc::Global;
-
-/// The most records of a log.
-const MOST_RECORDS: usize = 100_000;
 
 /// Reads a log: records of comma-separated fields, each of which states an event by the names and the categories of the award.
 /// Records are counted from 1, and blank lines are none. The reader stops at the first record that states no event, at the
@@ -28,8 +26,8 @@ pub fn read_log(alloc: Global, bytes: &[u8], award: &Award) -> Result<Events, Lo
     let mut row = ByteRecord::new(alloc);
     let mut events = Events::new(alloc);
     while take_record(&mut reader, &mut row, number_behind(&events))? {
-        if events.items().len() == MOST_RECORDS {
-            return Err(LogStop::Limit(LimitKind::Records, 100_001));
+        if events.items().len() as u64 == MOST_RECORDS {
+            return Err(LogStop::Limit(LimitKind::Records, MOST_RECORDS + 1));
         }
         match read_event(alloc, award, &row)? {
             Some(event) => events.push(event)?,

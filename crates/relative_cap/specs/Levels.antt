@@ -1,6 +1,7 @@
 -- What is worked out once for a whole list: for each round the greatest eligibility from it on, and the highest amount for what was
 -- held in it. Places are counted from 0.
-use Rattle.std.specs.Prelude.{◌≡◌, ◌⊎◌, ℕ, ◌+◌, ◌-◌, ◌^◌, ◌≤◌, ◌<◌, max, List, [], ◌∷◌, length, drop, slice_index}
+use Rattle.std.specs.Prelude.{◌≡◌, ◌⊎◌, ℕ, ◌+◌, ◌-◌, ◌≤◌, ◌<◌, max, List, [], ◌∷◌, length, drop, slice_index}
+use Rattle.limits.specs.declared.TheConstants.{MOST_AMOUNT}
 use Rattle.auction_model.specs.Book.{BookBid}
 use Rattle.auction_rules.specs.Rounds.{OwnRound}
 use Rattle.auction_rules.specs.State.{Round}
@@ -26,7 +27,7 @@ ArePeaksFrom place history j peaks = (k : ℕ) → place ≤ k → k < length hi
 
 -- the highest amount for what bidder j held in the round at place k
 abbrev pub IsHigh : List Round → ℕ → List BookBid → ℕ → ℕ → Type 0
-IsHigh history j bids k high = (high ≡ highest (rounds_of j history) bids (own_in history j (k + 1)).held) × (high ≤ 2 ^ 42)
+IsHigh history j bids k high = (high ≡ highest (rounds_of j history) bids (own_in history j (k + 1)).held) × (high ≤ MOST_AMOUNT)
 
 -- the highest amounts from the place on, where they are needed
 abbrev pub AreHighsFrom : ℕ → List Round → ℕ → List BookBid → List ℕ → Type 0

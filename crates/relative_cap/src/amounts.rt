@@ -1,5 +1,6 @@
 // Greatest amounts.
-ghost use Rattle.std.specs.Prelude.{◌≡◌, ◌≤◌, ◌^◌, All, length, map};
+ghost use Rattle.std.specs.Prelude.{◌≡◌, ◌≤◌, All, length, map};
+ghost use Rattle.limits.specs.declared.TheConstants.{MOST_AMOUNT};
 ghost use Rattle.auction_rules.specs.Caps.{clock_bid, greatest, highest};
 ghost use Rattle.auction_rules.specs.PackageTests.{InOrder};
 ghost use Rattle.clock_stage.specs.Kept.{IsHeld, categories_in};
@@ -17,7 +18,7 @@ fn clock_amount(history: &History, j: u16, r: u32, package: &Package) -> u64
     requires round { (1 ≤ r) × (r ≤ length history.now) }
     requires categories { IsHeld (categories_in history.now) «package».now }
     ensures amount { result ≡ amount_for «package».now (clock_bid (own_in history.now j r)) }
-    ensures most { result ≤ 2 ^ 42 }
+    ensures most { result ≤ MOST_AMOUNT }
 {
     let held = history.package(r, j);
     if is_same(held, package) {
@@ -32,7 +33,7 @@ fn greatest_clock(history: &History, j: u16, package: &Package) -> u64
     requires bidder { IsBidderOf history.now j }
     requires categories { IsHeld (categories_in history.now) «package».now }
     ensures greatest { result ≡ greatest «package».now (map clock_bid (rounds_of j history.now)) }
-    ensures most { result ≤ 2 ^ 42 }
+    ensures most { result ≤ MOST_AMOUNT }
 {
     let mut best = 0;
     for r in 0..history.rounds() {
@@ -65,7 +66,7 @@ fn amount_listed(list: &[Bid], package: &Package) -> u64
     requires list { All (IsEntry (length «package».now)) list.now }
     requires order { InOrder (map entry_lots list.now) }
     ensures greatest { result ≡ greatest «package».now (map bid_value list.now) }
-    ensures most { result ≤ 2 ^ 42 }
+    ensures most { result ≤ MOST_AMOUNT }
 {
     let place = place_of(list, package);
     if place < list.len() && is_same(&list[place].package, package) {
@@ -84,7 +85,7 @@ pub fn highest(history: &History, j: u16, list: &[Bid], package: &Package) -> u6
     requires order { InOrder (map entry_lots list.now) }
     requires categories { IsHeld (categories_in history.now) «package».now }
     ensures highest { result ≡ highest (rounds_of j history.now) (map bid_value list.now) «package».now }
-    ensures most { result ≤ 2 ^ 42 }
+    ensures most { result ≤ MOST_AMOUNT }
 {
     if package.is_empty() {
         return 0;

@@ -1,5 +1,6 @@
 // Caps, and the first entry above its cap.
 ghost use Rattle.std.specs.Prelude.{◌≡◌, ◌≤◌, ◌<◌, ◌^◌, All, length, map, option_map};
+ghost use Rattle.limits.specs.declared.TheConstants.{MOST_AMOUNT};
 ghost use Rattle.auction_model.specs.Package.{cost_of};
 ghost use Rattle.auction_rules.specs.Caps.{cap_by, cap_of, excess_cap, list_fault};
 ghost use Rattle.auction_rules.specs.PackageTests.{InOrder};
@@ -10,11 +11,12 @@ ghost use Rattle.relative_cap.specs.Answer.{cap_value, excess_value};
 ghost use Rattle.relative_cap.specs.OwnRounds.{entry_lots, bid_value, cap_at, eligibility_in, own_in, rounds_of};
 
 use crate::amounts::highest;
-use crate::levels::{fill_levels, last_peak};
 use crate::answer::{Cap, OverCap};
+use crate::levels::{fill_levels, last_peak};
 use crate::packages::is_same;
 use crate::rounds::constraining_round;
 use clock_stage::History;
+use limits::MOST_ROUNDS;
 use lots::{Bid, Package};
 
 /// What the package may cost by round `r`: the highest amount for what bidder `j` held in it, which is given, and the price of the
@@ -24,7 +26,7 @@ fn cap_from(history: &History, j: u16, r: u32, high: u64, package: &Package) -> 
     requires round { (1 ≤ r) × (r ≤ length history.now) }
     requires categories { IsHeld (categories_in history.now) «package».now }
     requires least { cost_of (own_in history.now j r).prices (own_in history.now j r).held ≤ high }
-    requires most { high ≤ 2 ^ 42 }
+    requires most { high ≤ MOST_AMOUNT }
     ensures { result ≡ cap_at high (own_in history.now j r) «package».now }
 {
     let prices = history.prices(r);
@@ -157,7 +159,7 @@ fn first_fault(
 }
 
 /// How many rounds a history has at most.
-const MOST_ROUNDS: usize = 300;
+const ROUNDS: usize = MOST_ROUNDS as usize;
 
 /// The first entry of the list of bidder `j` whose amount is above its cap over the list, if there is one: its number, counted
 /// from 1, with its cap. The list is in the order of packages. It takes no memory, and works out once for the whole list what the
@@ -177,8 +179,8 @@ pub fn list_fault(
     requires few { length list.now < 2 ^ 32 }
     ensures { option_map excess_value result ≡ list_fault final_cap points.now (rounds_of j history.now) (map bid_value list.now) }
 {
-    let mut peaks = [0; MOST_ROUNDS];
-    let mut highs = [0; MOST_ROUNDS];
+    let mut peaks = [0; ROUNDS];
+    let mut highs = [0; ROUNDS];
     fill_levels(history, history.rounds(), j, list, &mut peaks, &mut highs);
     first_fault(history, points, final_cap, j, list, &peaks, &highs)
 }

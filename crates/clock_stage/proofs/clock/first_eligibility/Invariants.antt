@@ -1,6 +1,6 @@
 -- The eligibilities of the bidders so far.
 use Rattle.std.proofs.Common.{◌≡◌}
-use Rattle.auction_rules.specs.State.{listing}
+use Rattle.auction_rules.specs.Rounds.{listing}
 use Rattle.auction_rules.specs.Terms.{entrant}
 use Rattle.clock_stage.proofs.clock.first_eligibility.Given as goal
 
