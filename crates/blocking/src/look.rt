@@ -3,7 +3,7 @@ ghost use Rattle.std.specs.Prelude.{◌≡◌, ℕ, pos, ◌^◌, ◌≤◌, ◌
 ghost use Rattle.auction_model.specs.Lowered.{of_bidder};
 ghost use Rattle.auction_model.specs.Prices.{IsUnblocked, sum_over, everyone};
 ghost use Rattle.row_laws.specs.Surplus.{surpluses_of};
-ghost use Rattle.blocking.specs.Look.{CanLook, IfFree, IfBlocked, IsFound, IsBlock};
+ghost use Rattle.blocking.specs.Look.{CanLook, IfFree, IfBlocked, IsFound, IsBlock, payments};
 
 use crate::row::row_given;
 use crate::surplus::surpluses;
@@ -51,11 +51,11 @@ pub fn find_block<C: Chooser>(
     at: &[i128],
 ) -> Result<Looked<C::Table>, AllocError>
     requires { CanLook (C.market chooser.now) (C.chosen chooser.now) den at.now }
-    ensures free { IfOk result (λ l. IfFree l (λ f. IsUnblocked (C.market chooser.now) (C.chosen chooser.now) (record { den = den; at = at.now }))) }
+    ensures free { IfOk result (λ l. IfFree l (λ f. IsUnblocked (C.market chooser.now) (C.chosen chooser.now) (payments den at.now))) }
     ensures found { IfOk result (λ l. IfFree l (λ f. IsFound (C.market chooser.now) (C.chosen chooser.now) den at.now f.choice f.sum)) }
     ensures table { IfOk result (λ l. IfFree l (λ f. C.is_table chooser.now den (surpluses_of (C.market chooser.now) (C.chosen chooser.now) den at.now) f.table)) }
     ensures block { IfOk result (λ l. IfBlocked l (λ b. IsBlock (C.market chooser.now) (C.chosen chooser.now) den at.now b)) }
-    ensures blocks { IfOk result (λ l. IfBlocked l (λ b. ¬ IsUnblocked (C.market chooser.now) (C.chosen chooser.now) (record { den = den; at = at.now }))) }
+    ensures blocks { IfOk result (λ l. IfBlocked l (λ b. ¬ IsUnblocked (C.market chooser.now) (C.chosen chooser.now) (payments den at.now))) }
 {
     let found = best_choice(alloc, chooser, den, at)?;
     let paid = paid_by_all(at);

@@ -4,7 +4,7 @@ ghost use Rattle.auction_model.specs.Lowered.{of_bidder};
 ghost use Rattle.auction_model.specs.Prices.{paid, sum_over};
 ghost use Rattle.auction_model.specs.Blocks.{row_bound};
 ghost use Rattle.row_laws.specs.Winners.{idle_row, bits_after};
-ghost use Rattle.blocking.specs.Look.{CanLook, IsFound};
+ghost use Rattle.blocking.specs.Look.{CanLook, IsFound, payments};
 
 use choices::{Choice, Chooser};
 use far_num::Row;
@@ -19,9 +19,9 @@ pub(crate) fn row_given<C: Chooser>(
     excess: i128,
 ) -> Row
     requires look { CanLook (C.market chooser.now) (C.chosen chooser.now) den at.now }
-    requires found { IsFound (C.market chooser.now) (C.chosen chooser.now) den at.now choice.now (excess +ℤ paid (C.market chooser.now) (record { den = den; at = at.now })) }
-    ensures members { result.members ≡ bits_after (C.chosen chooser.now) (idle_row (C.market chooser.now) (C.chosen chooser.now) (record { den = den; at = at.now }) choice.now) 0 }
-    ensures bound { result.bound ≡ row_bound (C.market chooser.now) (C.chosen chooser.now) (idle_row (C.market chooser.now) (C.chosen chooser.now) (record { den = den; at = at.now }) choice.now) choice.now }
+    requires found { IsFound (C.market chooser.now) (C.chosen chooser.now) den at.now choice.now (excess +ℤ paid (C.market chooser.now) (payments den at.now)) }
+    ensures members { result.members ≡ bits_after (C.chosen chooser.now) (idle_row (C.market chooser.now) (C.chosen chooser.now) (payments den at.now) choice.now) 0 }
+    ensures bound { result.bound ≡ row_bound (C.market chooser.now) (C.chosen chooser.now) (idle_row (C.market chooser.now) (C.chosen chooser.now) (payments den at.now) choice.now) choice.now }
 {
     let members = row_members(chooser, den, at, choice);
     let paid = row_paid(chooser, den, at, choice);
@@ -33,7 +33,7 @@ pub(crate) fn row_given<C: Chooser>(
 fn row_members<C: Chooser>(chooser: &C, den: i128, at: &[i128], choice: &Choice) -> u16
     requires look { CanLook (C.market chooser.now) (C.chosen chooser.now) den at.now }
     requires choice { length choice.now ≡ (C.market chooser.now).bidders }
-    ensures { result ≡ bits_after (C.chosen chooser.now) (idle_row (C.market chooser.now) (C.chosen chooser.now) (record { den = den; at = at.now }) choice.now) 0 }
+    ensures { result ≡ bits_after (C.chosen chooser.now) (idle_row (C.market chooser.now) (C.chosen chooser.now) (payments den at.now) choice.now) 0 }
 {
     let mut members: u16 = 0;
     let mut k = at.len();
@@ -57,7 +57,7 @@ fn with_bit(members: u16, is_in: bool) -> u16
 fn row_paid<C: Chooser>(chooser: &C, den: i128, at: &[i128], choice: &Choice) -> i128
     requires look { CanLook (C.market chooser.now) (C.chosen chooser.now) den at.now }
     requires choice { length choice.now ≡ (C.market chooser.now).bidders }
-    ensures value { result ≡ sum_over (idle_row (C.market chooser.now) (C.chosen chooser.now) (record { den = den; at = at.now }) choice.now) (of_bidder at.now) (C.market chooser.now).bidders }
+    ensures value { result ≡ sum_over (idle_row (C.market chooser.now) (C.chosen chooser.now) (payments den at.now) choice.now) (of_bidder at.now) (C.market chooser.now).bidders }
     ensures small { (pos 0 ≤ℤ result) × (result <ℤ pos (2 ^ 120)) }
 {
     let mut sum: i128 = 0;
@@ -78,7 +78,7 @@ fn is_idle<C: Chooser>(chooser: &C, den: i128, at: &[i128], choice: &Choice, k: 
     requires look { CanLook (C.market chooser.now) (C.chosen chooser.now) den at.now }
     requires choice { length choice.now ≡ (C.market chooser.now).bidders }
     requires bidder { k < length at.now }
-    ensures { result ≡ idle_row (C.market chooser.now) (C.chosen chooser.now) (record { den = den; at = at.now }) choice.now (k + 1) }
+    ensures { result ≡ idle_row (C.market chooser.now) (C.chosen chooser.now) (payments den at.now) choice.now (k + 1) }
 {
     let j = k as u16 + 1;
     let wins = chooser.winners().number(j) != 0;

@@ -4,18 +4,7 @@ use Rattle.std.proofs.Common.{sym, ◌∙◌, ap, append_assoc}
 use Rattle.std.proofs.lemmas.List.{append-nil}
 use Rattle.std.specs.Fmt.{decimal}
 use Rattle.book_form.specs.BookLines.{numbers_text}
-use Rattle.book_form.specs.WinText.{winner_line}
 
 pub numbers-append : (ms ns : List ℕ) → numbers_text (ms ++ ns) ≡ numbers_text ms ++ numbers_text ns
 numbers-append [] ns = refl
 numbers-append (m ∷ ms) ns = ap (λ (l : List ℕ). 32 ∷ decimal m ++ l) (numbers-append ms ns) ∙ sym (append_assoc (32 ∷ decimal m) (numbers_text ms) (numbers_text ns))
-
-regroup : (t w n l a e : List ℕ) → ((((t ++ w) ++ n) ++ l) ++ a) ++ e ≡ t ++ (((w ++ n) ++ (l ++ a)) ++ e)
-regroup t w n l a e = simp append_assoc
-
--- the line of a winner behind a text
-pub winner-added : (text name lots : List ℕ) (amount : ℕ)
-    → ((((text ++ codes "winner ") ++ name) ++ numbers_text lots) ++ 32 ∷ decimal amount) ++ 10 ∷ [] ≡ text ++ winner_line name (record { lots = lots; amount = amount })
-winner-added text name lots amount =
-    let numbers : numbers_text (lots ++ amount ∷ []) ≡ numbers_text lots ++ 32 ∷ decimal amount = numbers-append lots (amount ∷ []) ∙ ap (λ (l : List ℕ). numbers_text lots ++ l) (append-nil (32 ∷ decimal amount)) in
-    regroup text (codes "winner ") name (numbers_text lots) (32 ∷ decimal amount) (10 ∷ []) ∙ ap (λ (l : List ℕ). text ++ (((codes "winner " ++ name) ++ l) ++ 10 ∷ [])) (sym numbers)

@@ -1,3 +1,2 @@
 pub mod BookForm
 pub mod BookLines
-pub mod WinText

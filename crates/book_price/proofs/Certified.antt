@@ -29,6 +29,7 @@ use Rattle.cert_text.specs.declared.certificate.WithoutPart.{WithoutPart}
 use Rattle.choices.specs.declared.chooser.Single.{Single}
 use Rattle.choices.specs.Lines.{width_of}
 use Rattle.choices.specs.Singles.{winners_after}
+use Rattle.core_price.specs.Priced.{IsPriced}
 use Rattle.core_price.specs.declared.priced.Priced.{Priced}
 use Rattle.row_laws.proofs.Sizes.{worth-nonneg}
 use Rattle.row_laws.specs.Winners.{for_bidders}
@@ -64,8 +65,12 @@ module _ (book : Book) (z : List ℕ) (whole : TableValue) (alone : VickreyValue
   pub long : length z ≡ bidders_of book
   long = winners-count book z found.winning
 
+  -- what pricing promises
+  own : IsPriced (market_of book) z weights alone.singles priced
+  own = found.priced_is
+
   core : IsCorePoint (market_of book) z (cert_point (cert_found book z whole alone priced))
-  core = found.outcome.core
+  core = own.prices.outcome.core
 
   table : IsExactTable (menu_of book) (net_of book) book.supply whole.lines
   table = table_of-all book whole found.table found.plain
@@ -105,7 +110,7 @@ module _ (book : Book) (z : List ℕ) (whole : TableValue) (alone : VickreyValue
       omega (arith, ints, most, is)
 
   passes-1 : (place : ℕ) → C1 (cert_found book z whole alone priced) place
-  passes-1 place = record { den = λ is. core.den_positive; value = λ is. least; size = λ is. found.range }
+  passes-1 place = record { den = λ is. core.den_positive; value = λ is. least; size = λ is. own.prices.range }
 
   passes-2 : (place : ℕ) → C2 book (cert_found book z whole alone priced) place
   passes-2 place = record {
@@ -141,7 +146,7 @@ module _ (book : Book) (z : List ℕ) (whole : TableValue) (alone : VickreyValue
   passes-4 place = record { part = λ some inside used. part-passes place (part_of (parts_from alone.singles alone.tables) place) some (best-part place some inside used) }
 
   passes-9 : (place : ℕ) → C9 book (cert_found book z whole alone priced) place
-  passes-9 = lowered_passes book (cert_found book z whole alone priced) core (table_of-lowered book priced.den _ priced.last.table found.lowered) lawful priced.last.choice found.found.first
+  passes-9 = lowered_passes book (cert_found book z whole alone priced) core (table_of-lowered book priced.den _ priced.last.table found.lowered) lawful priced.last.choice own.last.first
 
   -- the certificate is one that pricing writes
   pub priced_passes : IsPricedCert book (weight_of weights) (cert_found book z whole alone priced)
@@ -154,15 +159,15 @@ module _ (book : Book) (z : List ℕ) (whole : TableValue) (alone : VickreyValue
           c3 = passes-3;
           c4 = passes-4;
           c5 = kept_payments book z value whole.lines alone.singles alone.tables priced.den priced.at priced.rows priced.last.table.lines core;
-          c6 = kept_rows book z long value whole.lines alone.singles alone.tables priced.den priced.at priced.rows priced.last.table.lines found.kept;
-          c7 = kept_firsts book z long weights value whole.lines alone.singles alone.tables priced.den priced.at priced.rows priced.last.table.lines found.first found.first_sums;
-          c8 = kept_seconds book z long weights value whole.lines alone.singles alone.tables priced.den priced.at priced.rows priced.last.table.lines refl found.singles count found.first found.second;
+          c6 = kept_rows book z long value whole.lines alone.singles alone.tables priced.den priced.at priced.rows priced.last.table.lines own.shown.kept;
+          c7 = kept_firsts book z long weights value whole.lines alone.singles alone.tables priced.den priced.at priced.rows priced.last.table.lines own.shown.first own.shown.first_sums;
+          c8 = kept_seconds book z long weights value whole.lines alone.singles alone.tables priced.den priced.at priced.rows priced.last.table.lines refl found.singles count own.shown.first own.shown.second;
           c9 = passes-9;
         };
         winning = found.winning;
         table = table;
         parts = best-part;
-        outcome = found.outcome;
+        outcome = own.prices.outcome;
         table_lowered = table_of-lowered book priced.den _ priced.last.table found.lowered;
       }
 
@@ -175,16 +180,16 @@ module _ (book : Book) (z : List ℕ) (whole : TableValue) (alone : VickreyValue
   -- it has the shape that a certificate keeps
   pub priced_shape : IsCertificate (bidders_of book) (states book) (cert_found book z whole alone priced)
   priced_shape =
-      let numbers = numbers_shape priced.den (value_of (market_of book) z) core.den_positive least found.range in
+      let numbers = numbers_shape priced.den (value_of (market_of book) z) core.den_positive least own.prices.range in
       record {
         den = numbers.0;
         value = numbers.1;
         choice = choices z found.winning.passed;
         table = shape_of-all book whole found.table;
         withouts = withouts_shape book z long choices alone.singles alone.tables found.singles count others-shape;
-        pay = pay_shape book z long priced.at found.small;
-        few = rows_few z priced.rows found.few_rows found.few.0;
-        rows = rows_shape book z long choices priced.den priced.at priced.rows found.kept found.first found.first_sums numbers.0 found.small_seconds;
+        pay = pay_shape book z long priced.at own.prices.small;
+        few = rows_few z priced.rows own.shown.few found.few.0;
+        rows = rows_shape book z long choices priced.den priced.at priced.rows own.shown.kept own.shown.first own.shown.first_sums numbers.0 own.shown.small_seconds;
         lowered = shape_of-all book priced.last.table found.lowered.exact;
       }
 

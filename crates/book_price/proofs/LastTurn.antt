@@ -5,7 +5,7 @@ use Rattle.cert_form.specs.Certificate.{CertValue}
 use Rattle.cert_laws.specs.Sound.{cert_point}
 use Rattle.core_price.specs.Turns.{EndsWith, last_turn, point_of, turns_of}
 use Rattle.core_price.specs.declared.priced.Turn.{Turn}
-use Rattle.print_form.specs.Rounds.{IsLastPoint}
+use Rattle.row_laws.specs.Turns.{IsLastPoint}
 
 last-of : (z : List ℕ) (den : ℤ) (at : List ℤ) (past : List Turn) → IsLastPoint (turns_of z (past ++ last_turn den at ∷ [])) (point_of z den at)
 last-of z den at [] = refl

@@ -10,5 +10,6 @@ mod First
 mod LastTurn
 mod Lowered
 mod Tables
-mod WinnerCount
 mod Worths
+mod Lowest
+mod FoundLaws

@@ -6,7 +6,7 @@ use native.Mathlib.Nat.{pow-suc}
 use Rattle.auction_model.specs.Market.{uses}
 use Rattle.cert_form.specs.Certificate.{is_member}
 use Rattle.cert_form.specs.CertText.{AreMembers}
-use Rattle.print_form.specs.Rounds.{members_of}
+use Rattle.row_laws.specs.Winners.{members_of}
 use Rattle.row_laws.specs.Winners.{has_bit, winners_in}
 
 or_none : (b : Bool) → b ≡ (b || false)

@@ -1,4 +1,4 @@
 pub mod Found
-pub mod Lowest
 pub mod Made
+pub mod Reduced
 pub mod Stops

@@ -3,7 +3,7 @@ use Rattle.std.specs.Prelude.{ℕ, List, [], ◌∷◌, length, map, ℤ}
 use Rattle.choices.specs.declared.chooser.Single.{Single}
 use Rattle.cert_form.specs.Certificate.{CertValue, WithoutValue, RowValue}
 use Rattle.core_price.specs.declared.priced.PricedRow.{PricedRow}
-use Rattle.print_form.specs.Rounds.{members_of}
+use Rattle.row_laws.specs.Winners.{members_of}
 use Rattle.row_laws.specs.Winners.{for_bidders, row_of}
 
 -- a kept row; its bits are those of winners in order, its members the bidders, rising

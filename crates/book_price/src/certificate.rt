@@ -9,14 +9,14 @@ ghost use Rattle.cert_text.specs.CertValues.{IsFor, cert_value};
 use crate::bidder_rows::all_rows;
 use crate::lines::shared;
 use crate::parts::all_parts;
-use crate::pay::all_payments;
 use bid_book::BidBook;
 use cert_text::Certificate;
 use choices::Choice;
-use core_price::Priced;
+use core_price::{Priced, for_bidders};
 use std::alloc::{AllocError, Global};
 use value_table::ValueTable;
 use vickrey::Vickrey;
+use wide_num::NumList;
 
 /// The certificate of what was found by some weights. It shares the lines of all tables.
 pub(crate) fn certificate(
@@ -38,7 +38,7 @@ pub(crate) fn certificate(
     let table = shared(alloc, whole.grid())?;
     let withouts = all_parts(alloc, alone)?;
     let at = priced.at.items();
-    let pay = all_payments(alloc, &winners, at)?;
+    let pay = NumList::from_vec(for_bidders(alloc, &winners, at)?);
     let kept = priced.rows.items();
     let rows = all_rows(alloc, &winners, kept)?;
     let lowered = shared(alloc, priced.last.table.grid())?;

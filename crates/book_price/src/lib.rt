@@ -5,13 +5,17 @@
 #![tactic(auto)]
 
 mod bidder_rows;
+#[cfg(test)]
+mod cert_tests;
 mod certificate;
+mod laws;
 mod lines;
+#[cfg(test)]
+mod look_tests;
 mod parts;
-mod pay;
 mod pricing;
 #[cfg(test)]
 mod tests;
-mod winners;
 
+pub use laws::books_can_be_priced;
 pub use pricing::{PricedBook, price_book};

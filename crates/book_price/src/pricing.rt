@@ -12,16 +12,16 @@ ghost use Rattle.auction_model.specs.Prices.{weight_of};
 ghost use Rattle.cert_laws.specs.Weights.{IsWeighing};
 ghost use Rattle.core_price.specs.Turns.{IsPointOfTurn, turns_of};
 ghost use Rattle.core_price.specs.Weights.{FewWin};
-ghost use Rattle.print_form.specs.Rounds.{IsLastPoint};
+ghost use Rattle.row_laws.specs.Turns.{IsLastPoint};
 ghost use Rattle.value_table.specs.TableValue.{IsPlain, IsTableOf};
+ghost use Rattle.book_price.specs.Reduced.{IsReduced};
 ghost use Rattle.book_price.specs.Stops.{IsBookStop};
 
 use crate::certificate::certificate;
-use crate::winners::{count_winners, winning_choice};
 use bid_book::BidBook;
 use cert_text::Certificate;
 use choices::Choice;
-use core_price::{PriceStop, TurnList, many_win, price};
+use core_price::{PriceStop, TurnList, count_winners, many_win, price};
 use std::alloc::Global;
 use value_table::{BookChooser, ValueTable, plain_table};
 use vickrey::vickrey_from;
@@ -37,8 +37,8 @@ pub struct PricedBook {
 
 /// The core-selecting prices of the winners of a book, with the certificate that shows them.
 ///
-/// All nine tests of a certificate hold for it, its choices are the first of the greatest, and its tables are exact. The rows and
-/// their multipliers are the ones that pricing kept; no clause but the tests binds them.
+/// All nine tests of a certificate hold for it, its choices are the first of the greatest, and its tables are exact. It is in
+/// lowest terms, and has at most one row for each winner, each with multipliers that aren't both 0.
 ///
 /// `weights` has one weight of 1 to 20 for each bidder.
 ///
@@ -48,6 +48,7 @@ pub fn price_book(alloc: Global, book: &BidBook, weights: &[u32]) -> Result<Pric
     requires { IsWeighing book.now weights.now }
     ensures shape { IfOk result (λ p. IsFor (bidders_of book.now) (states book.now) p.cert) }
     ensures cert { IfOk result (λ p. IsPricedCert book.now (weight_of weights.now) (cert_value p.cert)) }
+    ensures reduced { IfOk result (λ p. IsReduced (cert_value p.cert)) }
     ensures few { IfOk result (λ p. FewWin p.cert.choice weights.now) }
     ensures run { IfOk result (λ p. IsPricingRun (market_of book.now) (weight_of weights.now) p.cert.choice (turns_of p.cert.choice p.turns)) }
     ensures each_turn { IfOk result (λ p. AllByRecursion (IsPointOfTurn p.cert.choice weights.now) p.turns) }
@@ -55,7 +56,7 @@ pub fn price_book(alloc: Global, book: &BidBook, weights: &[u32]) -> Result<Pric
     ensures stops { IfErr result (IsBookStop book.now weights.now) }
 {
     let whole = plain_table(alloc, book)?;
-    let winners = winning_choice(alloc, book, &whole)?;
+    let winners = whole.trace(alloc, book)?;
     let count = count_winners(&winners);
     if many_win(count, &winners, weights) {
         return Err(PriceStop::Winners(count as u64));
@@ -78,6 +79,7 @@ fn priced_book(
     requires plain { IsPlain whole.now }
     ensures shape { IfOk result (λ p. IsFor (bidders_of book.now) (states book.now) p.cert) }
     ensures cert { IfOk result (λ p. IsPricedCert book.now (weight_of weights.now) (cert_value p.cert)) }
+    ensures reduced { IfOk result (λ p. IsReduced (cert_value p.cert)) }
     ensures few { IfOk result (λ p. FewWin p.cert.choice weights.now) }
     ensures run { IfOk result (λ p. IsPricingRun (market_of book.now) (weight_of weights.now) p.cert.choice (turns_of p.cert.choice p.turns)) }
     ensures each_turn { IfOk result (λ p. AllByRecursion (IsPointOfTurn p.cert.choice weights.now) p.turns) }

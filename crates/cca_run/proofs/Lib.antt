@@ -8,4 +8,3 @@ mod Ones
 mod Printed
 mod Products
 mod Runs
-mod Winners

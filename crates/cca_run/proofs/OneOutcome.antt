@@ -11,14 +11,14 @@ use Rattle.auction_model.specs.Prices.{Point, AreVickreyPrices, AreWeights, IsCo
 use Rattle.auction_model.specs.PricingRun.{Turn, IsPricingRun}
 use Rattle.book_form.specs.BookForm.{IsBook}
 use Rattle.book_form.specs.BookLines.{Excess, lines}
-use Rattle.book_form.specs.WinText.{win_text}
+use Rattle.print_form.specs.WinText.{win_text}
 use Rattle.bid_book.proofs.Within.{kept}
 use Rattle.cert_form.specs.Certificate.{CertValue}
 use Rattle.cert_form.specs.Says.{CertSays, cert_text}
 use Rattle.cert_laws.specs.Sound.{IsSound, cert_point, cert_prices}
 use Rattle.cert_laws.specs.Tests.{FailsFirst, Holds, bidders_of, states}
 use Rattle.print_form.specs.Prices.{IsPriceText}
-use Rattle.print_form.specs.Rounds.{AreTurnLines}
+use Rattle.print_form.specs.Turns.{AreTurnLines}
 use Rattle.row_laws.specs.Winners.{winners_in}
 use Rattle.core_price.specs.Weights.{FewWin}
 use Rattle.cca_run.proofs.Ones.{not_few_and_many, ones-weigh}

@@ -24,9 +24,9 @@ use Rattle.core_price.specs.declared.priced.PriceStop.{PriceStop}
 use Rattle.core_price.specs.declared.priced.PriceStop.TheVariants.{Winners as TooMany, Memory as NoSpace}
 use Rattle.core_price.specs.declared.priced.Turn.{Turn}
 use Rattle.outcome.specs.Payments.{ArePayments}
-use Rattle.outcome.specs.Rounds.{CanPrintTurn}
+use Rattle.outcome.specs.Turns.{CanPrintTurn}
 use Rattle.print_form.specs.Prices.{IsPriceText}
-use Rattle.print_form.specs.Rounds.{IsLastPoint}
+use Rattle.row_laws.specs.Turns.{IsLastPoint}
 use Rattle.row_laws.specs.Winners.{winners_in}
 use Rattle.wide_num.specs.Range.{InRange}
 use Rattle.cca_run.specs.Command.{Command, win, price, check, book_of, input_as}

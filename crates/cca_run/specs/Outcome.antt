@@ -6,7 +6,7 @@ use Rattle.auction_model.specs.Book.{market_of, Book as BookValue}
 use Rattle.auction_model.specs.PricingRun.{Turn, IsPricingRun}
 use Rattle.book_form.specs.BookForm.{IsBook}
 use Rattle.book_form.specs.BookLines.{Excess, lines}
-use Rattle.book_form.specs.WinText.{win_text}
+use Rattle.print_form.specs.WinText.{win_text}
 use Rattle.limits.specs.declared.LimitKind.TheVariants.{Bytes, Winners}
 use Rattle.cert_form.specs.Certificate.{CertValue}
 use Rattle.cert_form.specs.CertText.{IsCertificate}
@@ -15,7 +15,8 @@ use Rattle.cert_laws.specs.Priced.{IsPricedCert}
 use Rattle.cert_laws.specs.Sound.{IsSound, cert_point, cert_prices}
 use Rattle.cert_laws.specs.Tests.{FailsFirst, Holds, bidders_of, states}
 use Rattle.print_form.specs.Prices.{IsPriceText}
-use Rattle.print_form.specs.Rounds.{AreTurnLines, IsLastPoint}
+use Rattle.print_form.specs.Turns.{AreTurnLines}
+use Rattle.row_laws.specs.Turns.{IsLastPoint}
 use Rattle.auction_model.specs.Prices.{weight_of}
 use Rattle.core_price.specs.Weights.{FewWin, ManyWin}
 use Rattle.row_laws.specs.Winners.{winners_in}

@@ -1,5 +1,5 @@
 // From a command to what it prints and appends.
-ghost use Rattle.std.specs.Prelude.{◌≡◌, ◌⊎◌, [], ℕ, List, Option, Some, IfOk, IsTrue, Err};
+ghost use Rattle.std.specs.Prelude.{◌≡◌, ◌⊎◌, ◌<◌, ◌^◌, [], ℕ, List, Option, Some, IfOk, IsTrue, Err, length};
 ghost use Rattle.std.specs.List.{AllByRecursion};
 ghost use Rattle.limits.specs.declared.LimitKind.{LimitKind};
 ghost use Rattle.cca_base.specs.Faults.{Rose};
@@ -9,7 +9,7 @@ ghost use Rattle.cert_laws.specs.Weights.{IsWeighing};
 ghost use Rattle.cert_text.specs.CertValues.{cert_value, IsFor};
 ghost use Rattle.core_price.specs.Turns.{turns_of};
 ghost use Rattle.core_price.specs.declared.priced.PriceStop.{PriceStop};
-ghost use Rattle.outcome.specs.Rounds.{CanPrintTurn};
+ghost use Rattle.outcome.specs.Turns.{CanPrintTurn};
 ghost use Rattle.cca_run.specs.Command.{inputs_of, win};
 ghost use Rattle.cca_run.specs.Ends.{CountsAmong, FailsOnCert, IsStop, KnowsFiles, StopsBy};
 ghost use Rattle.cca_run.specs.Outcome.{AreRounds, CertFileGives, CommandGives, CommandOf, IsYesText, PriceGives, VerdictGives, done, ones, stopped};
@@ -66,7 +66,8 @@ fn rounds_part(
     turns: &[Turn],
     rounds: bool,
 ) -> Result<Text, AllocError>
-    requires { AllByRecursion (CanPrintTurn winners.now) turns.now }
+    requires turns { AllByRecursion (CanPrintTurn winners.now) turns.now }
+    requires few { length winners.now < 2 ^ 16 }
     ensures { IfOk result (λ text. AreRounds rounds winners.now (turns_of winners.now turns.now) text) }
 {
     if rounds {
@@ -93,6 +94,7 @@ fn priced_product(
     ensures done { IfOk result (λ p. PriceGives book.now weights.now rounds (done p.printed p.appended)) }
     ensures stop { (n : ℕ) → result ≡ Err (PriceStop.Winners n) → PriceGives book.now weights.now rounds (stopped (Status.Limit LimitKind.Winners n)) }
 {
+    let _bidders = book.bidders();
     let priced = price_book(alloc, book, weights)?;
     let cert = &priced.cert;
     let mut printed = rounds_part(alloc, &cert.choice, priced.turns.items(), rounds)?;

@@ -5,7 +5,7 @@ mod Divisors
 mod KeptCount
 mod KeptLaws
 mod KeptSums
-mod LookLaws
+pub mod LookLaws
 mod OutcomeLaws
 mod Places
 mod Points
@@ -20,3 +20,5 @@ mod StopLaws
 mod TurnLaws
 mod VickreyLaws
 pub mod WeightLaws
+mod MemberLaws
+mod WinnerCount

@@ -187,7 +187,8 @@ module _ (m : Market) (lawful : IsMarket m) (z : List ℕ) (win : IsWinning m z)
     winners = answer.long_at ∙ can.long;
     not_negative = at-nonneg;
     small = answer.small_at;
-    excess = excess-range b block;
+    excess = (excess-range b block).0;
+    small_excess = (excess-range b block).1;
   }
 
   -- one turn more
@@ -239,7 +240,7 @@ module _ (m : Market) (lawful : IsMarket m) (z : List ℕ) (win : IsWinning m z)
     answer = answer;
     not_negative = at-nonneg;
     lowest = lowest;
-    each = all-push (IsPointOfTurn z weights) past (last_turn den at) far.each (record { den_positive = den-positive; den_small = answer.small_den; den_of_ones = of-ones; winners = answer.long_at ∙ can.long; not_negative = at-nonneg; small = answer.small_at; excess = tt });
+    each = all-push (IsPointOfTurn z weights) past (last_turn den at) far.each (record { den_positive = den-positive; den_small = answer.small_den; den_of_ones = of-ones; winners = answer.long_at ∙ can.long; not_negative = at-nonneg; small = answer.small_at; excess = tt; small_excess = tt });
     few_turns = let l = length-append past (last_turn den at ∷ []) in let t = turns-few m z weights rows choices past far in omega arith;
     last = (past, refl);
     free = free;

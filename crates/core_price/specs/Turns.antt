@@ -38,4 +38,5 @@ pub record IsPointOfTurn (z weights : List ℕ) (t : Turn) : Type 0 where
   pub winners : length t.at ≡ winners_in z
   pub not_negative : (i : ℕ) → i < winners_in z → pos 0 ≤ℤ nth t.at i
   pub small : AreBelow (2 ^ 109) t.at
-  pub excess : IfSome t.block (λ b. (pos 0 ≤ℤ b.excess) × (b.excess ≤ℤ pos (2 ^ 80)))
+  pub excess : IfSome t.block (λ b. pos 0 ≤ℤ b.excess)
+  pub small_excess : IfSome t.block (λ b. b.excess ≤ℤ pos (2 ^ 80))

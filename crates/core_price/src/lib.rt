@@ -14,6 +14,7 @@ ghost use Rattle.std.specs.Prelude.{IfErr, IfOk, length, pos, ◌*◌, ◌^◌, 
 use choices::{Chooser, Single};
 use std::alloc::{AllocError, Global};
 
+mod bidders;
 mod kept;
 mod lists;
 mod priced;
@@ -22,11 +23,11 @@ mod start;
 mod turns;
 mod weights;
 
+pub use bidders::{count_winners, for_bidders, members_of};
 use kept::kept_rows;
 pub use lists::{RowList, TurnList};
 pub use priced::{PriceStop, Priced, PricedRow, Turn};
 use start::{first_rows, prices_of};
-pub use turns::for_bidders;
 use turns::{Ended, take_turns};
 pub use weights::many_win;
 

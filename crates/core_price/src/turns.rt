@@ -9,15 +9,15 @@ ghost use Rattle.core_price.specs.Rows.{block_choices, block_rows};
 ghost use Rattle.core_price.specs.SoFar.{CanTurn, HasEnded, IsSoFar};
 ghost use Rattle.row_laws.specs.Surplus.{surpluses_of};
 ghost use Rattle.row_laws.specs.Winners;
-ghost use Rattle.row_laws.specs.Winners.{winners_in};
-ghost use Rattle.std.specs.Prelude.{IfOk, [], length, ◌≡◌, ◌++◌};
+ghost use Rattle.std.specs.Prelude.{IfOk, [], ◌≡◌, ◌++◌};
 
+use crate::bidders::for_bidders;
 use crate::reduce::reduced;
 use crate::start::Asked;
 use crate::weights::winner_weights;
 use crate::{Turn, TurnList};
 use blocking::{Looked, find_block};
-use choices::{Choice, Chooser, Found};
+use choices::{Chooser, Found};
 use far_num::Row;
 use nearest_point::{Nearest, nearest};
 use std::alloc::{AllocError, Global};
@@ -107,25 +107,6 @@ fn turn_point(
     }
     let near = nearest(alloc, prices, weights, rows)?;
     reduced(alloc, near)
-}
-
-/// A number for each bidder from one for each winner in order: 0 for losers. The only error is want of memory.
-pub fn for_bidders(alloc: Global, winners: &Choice, at: &[i128]) -> Result<Vec<i128>, AllocError>
-    requires { length at.now ≡ winners_in winners.now }
-    ensures { IfOk result (λ v. v.items ≡ Winners.for_bidders winners.now at.now) }
-{
-    let numbers = winners.numbers();
-    let mut list = Vec::new(alloc);
-    let mut winner = 0;
-    for number in numbers {
-        if *number == 0 {
-            list.push(0)?;
-        } else {
-            list.push(at[winner])?;
-            winner += 1;
-        }
-    }
-    Ok(list)
 }
 
 fn copied(alloc: Global, numbers: &[i128]) -> Result<NumList, AllocError>

@@ -8,4 +8,5 @@ mod Printable
 mod Ranges
 mod Vickrey
 mod Revenue
-mod RoundLaws
+mod TurnLaws
+mod WinLines

@@ -7,7 +7,7 @@ use Rattle.auction_model.specs.Market.{number_of, value_of}
 use Rattle.auction_model.specs.Menu.{is_known_after}
 use Rattle.auction_model.specs.Prices.{Point, sum_over, everyone}
 use Rattle.auction_model.proofs.ChoiceLaws.{known-length}
-use Rattle.book_form.specs.WinText.{net_line}
+use Rattle.print_form.specs.WinText.{net_line}
 use Rattle.choices.specs.Singles.{winners_after}
 use Rattle.print_form.specs.Prices.{reserve_of, revenue_of, IsPriceText}
 use Rattle.row_laws.proofs.Sums.{over-is, choice-is}

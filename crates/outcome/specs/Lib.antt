@@ -2,4 +2,4 @@ pub mod Certified
 pub mod Fractions
 pub mod Payments
 pub mod Prices
-pub mod Rounds
+pub mod Turns

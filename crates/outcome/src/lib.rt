@@ -1,4 +1,4 @@
-//! The printed texts of an auction that is priced: its winners with their prices, and the turns that led to them.
+//! The printed texts of an auction: its winners, and where it is priced their prices and the turns that led to them.
 //!
 //! Prices are kept net of reserve and are printed gross: the reserve of a winner's package is added.
 #![tactic(auto)]
@@ -8,12 +8,14 @@ mod fraction;
 mod lines;
 mod numbers;
 mod prices;
-mod rounds;
+mod turns;
+mod win;
 
 pub use certified::outcome_text;
-pub use fraction::{Fraction, add_fraction};
-pub use numbers::{add_net, add_number, add_numbers};
-pub use rounds::{add_turn, rounds_text};
+use fraction::{Fraction, add_fraction};
+use numbers::{add_net, add_number, add_numbers};
+pub use turns::rounds_text;
+pub use win::win_text;
 
 #[cfg(test)]
 mod tests;

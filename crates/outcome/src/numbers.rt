@@ -2,7 +2,7 @@
 ghost use Rattle.std.specs.Prelude.{◌≡◌, ◌∷◌, ◌++◌, OnOk};
 ghost use Rattle.std.specs.Fmt.{decimal, signed_decimal};
 ghost use Rattle.book_form.specs.BookLines.{numbers_text};
-ghost use Rattle.book_form.specs.WinText.{net_line};
+ghost use Rattle.print_form.specs.WinText.{net_line};
 
 use itoa::Buffer;
 use std::alloc::AllocError;

@@ -6,3 +6,4 @@ mod RunTextLaws
 mod SameTurns
 mod Sums
 mod WorkedCases
+pub mod WinTextLaws

@@ -5,7 +5,7 @@ use Rattle.auction_model.specs.Book.{Book, bidder_of, bid_of, market_of}
 use Rattle.auction_model.specs.Lowered.{of_bidder}
 use Rattle.auction_model.specs.Market.{value_of}
 use Rattle.auction_model.specs.Prices.{Point, SamePoint, everyone}
-use Rattle.book_form.specs.WinText.{net_line}
+use Rattle.print_form.specs.WinText.{net_line}
 use Rattle.wide_num.proofs.Ints.{lin, mul-add, swap_mul}
 use Rattle.print_form.specs.Prices.{reserve_of, gross_of, priced_line, ArePricedLines, IsPriceText}
 use Rattle.print_form.proofs.FractionLaws.{one-text}

@@ -8,7 +8,9 @@ use Rattle.auction_model.specs.Market.{Market}
 use Rattle.auction_model.specs.Prices.{Point, SamePoint, AreVickreyPrices}
 use Rattle.auction_model.specs.PricingRun.{Block, Turn, IsPricingRun, single_rows}
 use Rattle.book_form.specs.BookLines.{numbers_text}
-use Rattle.print_form.specs.Rounds.{members_of, ArePoints, IsTurnEnd, IsTurnLine, AreTurnLines, IsLastPoint}
+use Rattle.print_form.specs.Turns.{ArePoints, IsTurnEnd, IsTurnLine, AreTurnLines}
+use Rattle.row_laws.specs.Turns.{IsLastPoint}
+use Rattle.row_laws.specs.Winners.{members_of}
 use Rattle.print_form.proofs.AlikeBlocks.{IsSameEnd}
 use Rattle.print_form.proofs.AlikePoints.{all-own}
 use Rattle.print_form.proofs.FractionLaws.{one-text}

@@ -6,7 +6,7 @@ use Rattle.auction_model.specs.Prices.{Point}
 use Rattle.auction_model.specs.PricingRun.{Turn}
 use Rattle.print_form.specs.Fractions.{IsFractionText, parts_text}
 use Rattle.print_form.specs.Prices.{IsPriceText}
-use Rattle.print_form.specs.Rounds.{ArePoints, AreTurnLines}
+use Rattle.print_form.specs.Turns.{ArePoints, AreTurnLines}
 
 one-left : (g b : ℕ) → 1 ≡ g * b → g ≡ 1
 one-left g b e = grind arith

@@ -1,3 +1,4 @@
 pub mod Fractions
 pub mod Prices
-pub mod Rounds
+pub mod Turns
+pub mod WinText

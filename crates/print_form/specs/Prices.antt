@@ -8,7 +8,7 @@ use Rattle.auction_model.specs.Market.{value_of, number_of}
 use Rattle.auction_model.specs.Lowered.{of_bidder}
 use Rattle.auction_model.specs.Prices.{Point, sum_over, everyone}
 use Rattle.book_form.specs.BookLines.{numbers_text}
-use Rattle.book_form.specs.WinText.{net_line}
+use Rattle.print_form.specs.WinText.{net_line}
 use Rattle.print_form.specs.Fractions.{IsFractionText}
 
 -- the reserve of the package that bid i of bidder j asks for

@@ -12,7 +12,8 @@ ghost use Rattle.auction_model.specs.Prices.{Point, SamePoint};
 ghost use Rattle.auction_model.specs.PricingRun.{Turn, IsPricingRun};
 ghost use Rattle.print_form.specs.Fractions.{IsFractionText};
 ghost use Rattle.print_form.specs.Prices.{IsPriceText};
-ghost use Rattle.print_form.specs.Rounds.{AreTurnLines, IsLastPoint};
+ghost use Rattle.print_form.specs.Turns.{AreTurnLines};
+ghost use Rattle.row_laws.specs.Turns.{IsLastPoint};
 
 use auction_model::vickrey_prices;
 

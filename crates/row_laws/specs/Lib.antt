@@ -1,3 +1,4 @@
 pub mod Winners
 pub mod Surplus
 pub mod Rows
+pub mod Turns

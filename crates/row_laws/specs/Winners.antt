@@ -1,5 +1,5 @@
 -- The winners of a choice in order, lists with a number for each winner, and sets of winners as bits.
-use Rattle.std.specs.Prelude.{ℕ, zero, suc, ◌+◌, ◌-◌, ◌*◌, ◌/◌, ◌%◌, ◌==◌, if◌then◌else◌, Bool, false, ◌&&◌, not, List, [], ◌∷◌, ℤ, pos, ◌*ℤ◌, int_le}
+use Rattle.std.specs.Prelude.{ℕ, zero, suc, ◌+◌, ◌-◌, ◌*◌, ◌/◌, ◌%◌, ◌==◌, if◌then◌else◌, Bool, false, ◌&&◌, not, List, [], ◌∷◌, ◌++◌, ℤ, pos, ◌*ℤ◌, int_le}
 use Rattle.auction_model.specs.Market.{Market, uses, worth_in}
 use Rattle.auction_model.specs.Lowered.{of_bidder}
 use Rattle.auction_model.specs.Prices.{Point}
@@ -36,6 +36,11 @@ has_bit (suc i ∷ z) bits (suc k) = has_bit z (bits / 2) k
 -- the bidders of a set of bits
 abbrev pub row_of : List ℕ → ℕ → ℕ → Bool
 row_of z bits j = has_bit z bits (j - 1)
+
+-- the members among the bidders 1 to n, rising
+abbrev pub members_of : (ℕ → Bool) → ℕ → List ℕ
+members_of members zero = []
+members_of members (suc n) = if members (suc n) then members_of members n ++ suc n ∷ [] else members_of members n
 
 -- the bits of a set of bidders, k bidders being passed
 abbrev pub bits_after : List ℕ → (ℕ → Bool) → ℕ → ℕ

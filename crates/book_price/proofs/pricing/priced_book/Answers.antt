@@ -1,8 +1,17 @@
-use Rattle.std.proofs.Common.{◌≡◌, ◌∙◌, ap, refl, subst, sym}
+use Rattle.std.proofs.Common.{◌≡◌, ◌∙◌, List, ap, map, refl, subst, sym, ℕ}
+use Rattle.std.specs.List.{AllByRecursion}
+use Rattle.auction_model.specs.Book.{market_of}
+use Rattle.auction_model.specs.Prices.{weight_of}
+use Rattle.auction_model.specs.PricingRun.{IsPricingRun}
 use Rattle.cert_form.specs.Certificate.{CertValue}
+use Rattle.core_price.specs.Priced.{IsPriced}
+use Rattle.core_price.specs.Turns.{IsPointOfTurn, turns_of}
 use Rattle.core_price.specs.Weights.{FewWin}
 use Rattle.book_price.specs.Found.{AreFound, cert_found}
+use Rattle.book_price.specs.Reduced.{IsReduced}
+use Rattle.book_price.proofs.FoundLaws.{found-by}
 use Rattle.book_price.proofs.LastTurn.{point-is_last}
+use Rattle.book_price.proofs.Lowest.{reduced_cert}
 use Rattle.book_price.proofs.Worths.{value-most}
 use Rattle.book_price.proofs.pricing.priced_book.Goals as goal
 
@@ -15,61 +24,52 @@ pub price-requires-clause-weights : goal.price-requires-clause-weights
 price-requires-clause-weights c = rw c.new-chooser.ensures.book (c.requires.weights.long, c.requires.weights.each)
 
 pub certificate-requires : goal.certificate-requires
-certificate-requires c =
-    let same : c.new-chooser.result.winners ≡ c.args.winners = c.new-chooser.ensures.winners ∙ c.in_ok-copied.ensures in
-    let found : AreFound c.args.book.now c.args.winners c.args.whole.now c.in_ok-alone.alone c.args.weights.now c.in_ok-priced.priced = record {
-      winning = c.requires.winners;
-      table = c.requires.whole;
-      plain = c.requires.plain;
-      singles = c.in_ok-alone.ensures.singles;
-      tables = c.in_ok-alone.ensures.tables;
-      few = c.requires.few;
-      weighing = c.requires.weights;
-      lengths = rw same at c.in_ok-priced.ensures.lengths;
-      small = c.in_ok-priced.ensures.small;
-      outcome = rw (c.new-chooser.ensures.book, same) at c.in_ok-priced.ensures.outcome;
-      range = rw (c.new-chooser.ensures.book, same) at c.in_ok-priced.ensures.range;
-      kept = rw (c.new-chooser.ensures.book, same) at c.in_ok-priced.ensures.rows;
-      few_rows = rw same at c.in_ok-priced.ensures.few_rows;
-      first = rw same at c.in_ok-priced.ensures.first;
-      first_sums = rw same at c.in_ok-priced.ensures.first_sums;
-      second = rw (same, c.singles.ensures) at c.in_ok-priced.ensures.second;
-      small_seconds = c.in_ok-priced.ensures.small_seconds;
-      found = rw (c.new-chooser.ensures.book, same) at c.in_ok-priced.ensures.found;
-      lowered = rw (c.new-chooser.ensures.book, same) at c.in_ok-priced.ensures.table;
-    } in
-    (c.args.weights.now, found)
+certificate-requires c = (
+  c.args.weights.now,
+  (found-by c.args.book.now c.new-chooser.result.book.now c.args.winners c.new-chooser.result.winners c.args.whole.now c.in_ok-alone.alone c.args.weights.now c.singles.result.now c.in_ok-priced.priced
+      c.new-chooser.ensures.book (c.new-chooser.ensures.winners ∙ c.in_ok-copied.ensures) c.singles.ensures c.requires.winners c.requires.whole c.requires.plain c.in_ok-alone.ensures.singles c.in_ok-alone.ensures.tables
+      c.requires.few c.requires.weights c.in_ok-priced.ensures.priced c.in_ok-priced.ensures.table),
+)
 
 pub returns-clause-cert : goal.returns-clause-cert
-returns-clause-cert c =
-    let same : c.new-chooser.result.winners ≡ c.args.winners = c.new-chooser.ensures.winners ∙ c.in_ok-copied.ensures in
-    let found : AreFound c.args.book.now c.args.winners c.args.whole.now c.in_ok-alone.alone c.args.weights.now c.in_ok-priced.priced = record {
-      winning = c.requires.winners;
-      table = c.requires.whole;
-      plain = c.requires.plain;
-      singles = c.in_ok-alone.ensures.singles;
-      tables = c.in_ok-alone.ensures.tables;
-      few = c.requires.few;
-      weighing = c.requires.weights;
-      lengths = rw same at c.in_ok-priced.ensures.lengths;
-      small = c.in_ok-priced.ensures.small;
-      outcome = rw (c.new-chooser.ensures.book, same) at c.in_ok-priced.ensures.outcome;
-      range = rw (c.new-chooser.ensures.book, same) at c.in_ok-priced.ensures.range;
-      kept = rw (c.new-chooser.ensures.book, same) at c.in_ok-priced.ensures.rows;
-      few_rows = rw same at c.in_ok-priced.ensures.few_rows;
-      first = rw same at c.in_ok-priced.ensures.first;
-      first_sums = rw same at c.in_ok-priced.ensures.first_sums;
-      second = rw (same, c.singles.ensures) at c.in_ok-priced.ensures.second;
-      small_seconds = c.in_ok-priced.ensures.small_seconds;
-      found = rw (c.new-chooser.ensures.book, same) at c.in_ok-priced.ensures.found;
-      lowered = rw (c.new-chooser.ensures.book, same) at c.in_ok-priced.ensures.table;
-    } in
-    c.in_ok-cert.ensures.priced c.args.weights.now found
+returns-clause-cert c = c.in_ok-cert.ensures.priced c.args.weights.now (found-by c.args.book.now c.new-chooser.result.book.now c.args.winners c.new-chooser.result.winners c.args.whole.now c.in_ok-alone.alone c.args.weights.now c.singles.result.now c.in_ok-priced.priced
+    c.new-chooser.ensures.book (c.new-chooser.ensures.winners ∙ c.in_ok-copied.ensures) c.singles.ensures c.requires.winners c.requires.whole c.requires.plain c.in_ok-alone.ensures.singles c.in_ok-alone.ensures.tables
+    c.requires.few c.requires.weights c.in_ok-priced.ensures.priced c.in_ok-priced.ensures.table)
+
+pub returns-clause-reduced : goal.returns-clause-reduced
+returns-clause-reduced c =
+    let found =
+    found-by c.args.book.now c.new-chooser.result.book.now c.args.winners c.new-chooser.result.winners c.args.whole.now c.in_ok-alone.alone c.args.weights.now c.singles.result.now c.in_ok-priced.priced
+    c.new-chooser.ensures.book (c.new-chooser.ensures.winners ∙ c.in_ok-copied.ensures) c.singles.ensures c.requires.winners c.requires.whole c.requires.plain c.in_ok-alone.ensures.singles c.in_ok-alone.ensures.tables
+    c.requires.few c.requires.weights c.in_ok-priced.ensures.priced c.in_ok-priced.ensures.table in
+    subst IsReduced (sym c.in_ok-cert.ensures.value) (reduced_cert c.args.book.now c.args.winners c.args.whole.now c.in_ok-alone.alone c.args.weights.now c.in_ok-priced.priced found)
 
 pub returns-clause-few : goal.returns-clause-few
 returns-clause-few c = subst (λ z. FewWin z c.args.weights.now) (sym (ap (λ (v : CertValue). v.choice) c.in_ok-cert.ensures.value)) c.requires.few
 
+pub returns-clause-run : goal.returns-clause-run
+returns-clause-run c =
+    let found =
+    found-by c.args.book.now c.new-chooser.result.book.now c.args.winners c.new-chooser.result.winners c.args.whole.now c.in_ok-alone.alone c.args.weights.now c.singles.result.now c.in_ok-priced.priced
+    c.new-chooser.ensures.book (c.new-chooser.ensures.winners ∙ c.in_ok-copied.ensures) c.singles.ensures c.requires.winners c.requires.whole c.requires.plain c.in_ok-alone.ensures.singles c.in_ok-alone.ensures.tables
+    c.requires.few c.requires.weights c.in_ok-priced.ensures.priced c.in_ok-priced.ensures.table in
+    let own = found.priced_is in
+    subst (λ (z : List ℕ). IsPricingRun (market_of c.args.book.now) (weight_of c.args.weights.now) z (turns_of z c.in_ok-priced.priced.turns)) (sym (ap (λ (v : CertValue). v.choice) c.in_ok-cert.ensures.value)) own.turns.run
+
+pub returns-clause-each_turn : goal.returns-clause-each_turn
+returns-clause-each_turn c =
+    let found =
+    found-by c.args.book.now c.new-chooser.result.book.now c.args.winners c.new-chooser.result.winners c.args.whole.now c.in_ok-alone.alone c.args.weights.now c.singles.result.now c.in_ok-priced.priced
+    c.new-chooser.ensures.book (c.new-chooser.ensures.winners ∙ c.in_ok-copied.ensures) c.singles.ensures c.requires.winners c.requires.whole c.requires.plain c.in_ok-alone.ensures.singles c.in_ok-alone.ensures.tables
+    c.requires.few c.requires.weights c.in_ok-priced.ensures.priced c.in_ok-priced.ensures.table in
+    let own = found.priced_is in
+    subst (λ (z : List ℕ). AllByRecursion (IsPointOfTurn z c.args.weights.now) c.in_ok-priced.priced.turns) (sym (ap (λ (v : CertValue). v.choice) c.in_ok-cert.ensures.value)) own.turns.each
+
 pub returns-clause-last_turn : goal.returns-clause-last_turn
 returns-clause-last_turn c =
     let p = c.in_ok-priced.priced in
-    point-is_last c.args.winners p.den p.at p.turns _ (cert_found c.args.book.now c.args.winners c.args.whole.now c.in_ok-alone.alone p) c.in_ok-priced.ensures.last_turn refl refl c.in_ok-cert.ensures.value
+    let found =
+    found-by c.args.book.now c.new-chooser.result.book.now c.args.winners c.new-chooser.result.winners c.args.whole.now c.in_ok-alone.alone c.args.weights.now c.singles.result.now c.in_ok-priced.priced
+    c.new-chooser.ensures.book (c.new-chooser.ensures.winners ∙ c.in_ok-copied.ensures) c.singles.ensures c.requires.winners c.requires.whole c.requires.plain c.in_ok-alone.ensures.singles c.in_ok-alone.ensures.tables
+    c.requires.few c.requires.weights c.in_ok-priced.ensures.priced c.in_ok-priced.ensures.table in
+    point-is_last c.args.winners p.den p.at p.turns _ (cert_found c.args.book.now c.args.winners c.args.whole.now c.in_ok-alone.alone p) found.priced_is.turns.last refl refl c.in_ok-cert.ensures.value

@@ -1,6 +1,9 @@
-use Rattle.std.proofs.Common.{◌∙◌, ap, ◌++◌}
+use Rattle.std.proofs.Common.{◌∙◌, ap, arith, ◌++◌}
 use Rattle.cca_run.proofs.Products.{priced}
 use Rattle.cca_run.proofs.product.priced_product.Goals as goal
+
+pub rounds_part-requires-clause-few : goal.rounds_part-requires-clause-few
+rounds_part-requires-clause-few c = let kept = c.bidders-bidders.ensures.kept in let shape = c.in_ok-priced.ensures.shape in omega (arith, kept.bidders, shape.bidders_are)
 
 pub returns-clause-done : goal.returns-clause-done
 returns-clause-done c =

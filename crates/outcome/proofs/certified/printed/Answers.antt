@@ -4,7 +4,7 @@ use Rattle.std.proofs.lemmas.Int.{to_z-of_z}
 use Rattle.std.specs.List.{AllByRecursion}
 use Rattle.auction_model.specs.Book.{market_of}
 use Rattle.auction_model.specs.Market.{value_of}
-use Rattle.book_form.specs.WinText.{net_line}
+use Rattle.print_form.specs.WinText.{net_line}
 use Rattle.cert_laws.specs.Sound.{cert_point}
 use Rattle.cert_text.specs.CertValues.{cert_value}
 use Rattle.wide_num.specs.Range.{InRange}

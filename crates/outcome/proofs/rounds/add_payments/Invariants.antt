@@ -1,6 +1,0 @@
-use Rattle.std.proofs.Common.{ℕ, List, ◌++◌, drop}
-use Rattle.outcome.specs.Rounds.{AreFractions, Grows}
-use Rattle.outcome.proofs.rounds.add_payments.Given as goal
-
-abbrev pub invariant-loop-paid : goal.invariant-loop-paid
-invariant-loop-paid l = (rest : List ℕ) → AreFractions l.den (drop l.paid-index l.at) rest → Grows l.initial.text (l.text ++ rest) (AreFractions l.den l.at)
