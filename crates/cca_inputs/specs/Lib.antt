@@ -6,3 +6,4 @@ pub mod Words
 pub mod Outcome
 pub mod Answers
 pub mod Stops
+pub mod Reading

@@ -2,14 +2,10 @@
 use Rattle.std.specs.Prelude.{◌≡◌, ◌≤◌, ◌<◌, ◌+◌, ℕ, Option, Some, None, List, [], ◌++◌, length}
 use Rattle.limits.specs.declared.LimitKind.TheVariants.{Bytes}
 use Rattle.cca_inputs.specs.StatusLine.{status_line}
+use Rattle.cca_inputs.specs.declared.file_text.FileText.{FileText}
 use Rattle.cca_inputs.specs.declared.status.FileKind.{FileKind}
 use Rattle.cca_inputs.specs.declared.status.Status.{Status}
 use Rattle.cca_inputs.specs.declared.status.Status.TheVariants.{Done, ReadFault, Limit}
-
--- a text that is appended to the command's file of a kind
-pub record FileText : Type 0 where
-  pub kind : FileKind
-  pub text : List ℕ
 
 pub record Outcome : Type 0 where
   pub status : Status

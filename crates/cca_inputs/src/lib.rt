@@ -1,11 +1,20 @@
 //! From the words and the files of a run to a command and the values of its inputs: the commands and their files, the statuses and
-//! their lines.
+//! their lines, and one way from a file to what its bytes state.
 #![tactic(auto)]
 
+mod book_input;
+mod cert_input;
+mod file_text;
+mod input;
 mod line;
 mod status;
+mod stops;
 mod words;
 
+pub use book_input::BookInput;
+pub use cert_input::CertInput;
+pub use file_text::FileText;
+pub use input::{Input, read_input};
 pub use line::{Line, line_of};
 pub use status::{FileKind, Status};
 pub use words::{Command, read_command};

@@ -5,8 +5,8 @@ ghost use Rattle.cca_inputs.specs.StatusLine.{status_line, file_text, limit_text
 
 use crate::{FileKind, Status};
 use arrayvec::ArrayVec;
-use limits::LimitKind;
 use itoa::Buffer;
+use limits::LimitKind;
 
 // No line is longer.
 const ROOM: usize = 80;

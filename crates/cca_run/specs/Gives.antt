@@ -19,7 +19,8 @@ use Rattle.print_form.specs.Rounds.{AreTurnLines, IsLastPoint}
 use Rattle.row_laws.specs.Winners.{winners_in}
 use Rattle.cca_inputs.specs.Answers.{BookAnswers, CertAnswers}
 use Rattle.cca_inputs.specs.Command.{CommandValue, win, price, check, command_of, contents_of}
-use Rattle.cca_inputs.specs.Outcome.{FileText, InputGives, Outcome, done, stopped}
+use Rattle.cca_inputs.specs.Outcome.{InputGives, Outcome, done, stopped}
+use Rattle.cca_inputs.specs.declared.file_text.FileText.{FileText}
 use Rattle.cca_inputs.specs.declared.status.FileKind.{FileKind}
 use Rattle.cca_inputs.specs.declared.status.FileKind.TheVariants.{Book, Cert}
 use Rattle.cca_inputs.specs.declared.status.Status.TheVariants.{No, Words, Limit}

@@ -4,8 +4,9 @@ use Rattle.cca_base.specs.Faults.{Rose}
 use Rattle.cca_base.specs.Files.{Folder, KeepsFiles, Adds}
 use Rattle.cca_base.specs.Sink.{Output, Puts}
 use Rattle.cca_inputs.specs.Command.{CommandValue, command_of, contents_of, input_as, inputs_of, missing, output_as, outputs_of}
-use Rattle.cca_inputs.specs.Outcome.{FileText, Outcome, stopped}
+use Rattle.cca_inputs.specs.Outcome.{Outcome, stopped}
 use Rattle.cca_inputs.specs.StatusLine.{status_line}
+use Rattle.cca_inputs.specs.declared.file_text.FileText.{FileText}
 use Rattle.cca_inputs.specs.declared.status.FileKind.{FileKind}
 use Rattle.cca_inputs.specs.declared.status.FileKind.TheVariants.{Award, Log, Book, Cert, Out}
 use Rattle.cca_inputs.specs.declared.status.Status.{Status}

@@ -1,0 +1,10 @@
+// Texts that are appended.
+use crate::FileKind;
+use wide_num::Text;
+
+/// A text that is appended to the command's file of a kind.
+#[derive(Drop)]
+pub struct FileText {
+    pub kind: FileKind,
+    pub text: Text,
+}

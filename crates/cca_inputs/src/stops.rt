@@ -1,0 +1,77 @@
+// The statuses of the stops of the readers.
+ghost use Rattle.std.specs.Prelude.{◌≡◌, ◌<◌, ◌^◌};
+ghost use Rattle.cca_inputs.specs.Stops.{book_status, cert_status, read_status};
+ghost use Rattle.cca_inputs.specs.declared.status.Status.TheVariants.{Memory};
+
+use crate::{FileKind, Status};
+use bid_book::BookStop;
+use cca_base::ReadStop;
+use cert_text::CertStop;
+use limits::LimitKind;
+use std::alloc::{AllocError, AllocFailed};
+
+/// The status of a stop of reading a file of this kind, which has at most so many bytes.
+pub fn status_of_read(file: FileKind, most: u64, stop: ReadStop) -> Status
+    requires { most < 2 ^ 40 }
+    ensures { result ≡ read_status file most stop }
+{
+    match stop {
+        ReadStop::Fault => Status::ReadFault { file },
+        ReadStop::TooLong => Status::Limit {
+            which: LimitKind::Bytes,
+            count: most + 1,
+        },
+        ReadStop::Memory => Status::Memory,
+    }
+}
+
+impl From<AllocError> for Status {
+    ghost from_gives = { λ _ status. status ≡ Memory };
+
+    fn from(_error: AllocError) -> Status {
+        Status::Memory
+    }
+}
+
+impl<T: Drop> From<AllocFailed<T>> for Status {
+    ghost from_gives = { λ _ status. status ≡ Memory };
+
+    fn from(_error: AllocFailed<T>) -> Status {
+        Status::Memory
+    }
+}
+
+impl From<BookStop> for Status {
+    ghost from_gives = { λ stop status. status ≡ book_status stop };
+
+    fn from(stop: BookStop) -> Status {
+        match stop {
+            BookStop::Form(place) => refused(FileKind::Book, place),
+            BookStop::Limit(which, count) => Status::Limit { which, count },
+            BookStop::Memory => Status::Memory,
+        }
+    }
+}
+
+// A number out of range refuses a certificate as a faulty line does.
+impl From<CertStop> for Status {
+    ghost from_gives = { λ stop status. status ≡ cert_status stop };
+
+    fn from(stop: CertStop) -> Status {
+        match stop {
+            CertStop::Form(place) => refused(FileKind::Cert, place),
+            CertStop::Range(place) => refused(FileKind::Cert, place),
+            CertStop::Memory => Status::Memory,
+        }
+    }
+}
+
+fn refused(file: FileKind, place: u64) -> Status
+    ensures { result ≡ Status.Refused file place 0 }
+{
+    Status::Refused {
+        file,
+        place,
+        entry: 0,
+    }
+}
