@@ -47,12 +47,12 @@ pub supply_within : (supply : List ℕ) → IsSupply supply → supply_excess su
 supply_within supply is = none_exceeds (length supply) (sum supply) (states_of supply) is.categories is.lots is.states
 
 -- no count is 0
-
-no_zero : (supply : List ℕ) → AllByRecursion (λ n. (1 ≤ n) × (n ≤ 999)) supply → position_or_len (λ n. n == 0) supply ≡ length supply
+pub no_zero : (supply : List ℕ) → AllByRecursion (λ n. (1 ≤ n) × (n ≤ 999)) supply → position_or_len (λ n. n == 0) supply ≡ length supply
 no_zero [] all = refl
 no_zero (n ∷ ns) all = grind (arith, nat_tests, no_zero ns all.1, all.0)
 
-zero_none : (supply : List ℕ) → IsOffer supply → zero_stop supply ≡ None
+-- an offer has a lot in each category
+pub zero_none : (supply : List ℕ) → IsOffer supply → zero_stop supply ≡ None
 zero_none supply offer = grind (arith, nat_tests, no_zero supply offer.each)
 
 all_there : (ns : List ℕ) → length ns ≤ position_or_len (λ n. n == 0) ns → sum ns ≤ 40 → AllByRecursion (λ n. (1 ≤ n) × (n ≤ 999)) ns

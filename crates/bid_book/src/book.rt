@@ -166,6 +166,7 @@ impl BidBook {
         requires { (0 < j) × (j ≤ length self.now.bidders) }
         ensures bids { result ≡ length (bids_of self.now j) }
         ensures most { result ≤ MOST_BIDS }
+        ensures kept { IsBidBook self.now }
     {
         let bidder = &self.bidders[j as usize - 1];
         bidder.bids.len() as u16
@@ -178,6 +179,7 @@ impl BidBook {
         ensures lots { result.now.package ≡ lots_of self.now j i }
         ensures amount { result.now.amount ≡ (bid_of self.now j i).amount }
         ensures categories { length result.now.package ≡ length self.now.supply }
+        ensures kept { IsBidBook self.now }
     {
         let bidder = &self.bidders[j as usize - 1];
         let chosen = &bidder.bids[i as usize - 1];

@@ -57,8 +57,8 @@ fn take_bidder(alloc: Global, book: &mut BidBook, name: &[u8]) -> Result<(), Lin
     Ok(())
 }
 
-/// The text of the bytes, where they are a name.
-fn name_text(name: &[u8]) -> Option<&str>
+/// The text of the bytes, where they are a name: 1 to 20 bytes of `a` to `z`, `0` to `9` and `_`, a letter first.
+pub fn name_text(name: &[u8]) -> Option<&str>
     ensures some { IfSome result (λ text. (text.now ≡ name.now) × IsName name.now) }
     ensures none { IfNone result (IsName name.now → ⊥) }
 {

@@ -1,5 +1,5 @@
 // The fields of a line.
-ghost use Rattle.std.specs.Prelude.{IfNone, IfOk, IfSome, IsTrue, List, drop, length, take, ℕ, ◌++◌, ◌∷◌, ◌↔◌, ◌≡◌, ◌≢◌, ◌≤◌};
+ghost use Rattle.std.specs.Prelude.{IfErr, IfNone, IfOk, IfSome, IsTrue, List, drop, length, take, ℕ, ◌++◌, ◌∷◌, ◌↔◌, ◌≡◌, ◌≢◌, ◌≤◌, ◌<◌};
 ghost use Rattle.std.specs.List.{AllByRecursion};
 ghost use Rattle.std.specs.Fmt.{decimal};
 ghost use Rattle.book_form.specs.BookForm.{IsName, IsNameByte};
@@ -8,7 +8,7 @@ ghost use Rattle.bid_book.specs.Stops.{AreNumbers, IsField, Stops};
 ghost use Rattle.limits.specs.declared.TheConstants.{MOST_AMOUNT, MOST_COUNT};
 
 use crate::LimitKind;
-use crate::stop::LineStop;
+use crate::stop::{LineStop, NoNumber};
 use limits::{MOST_AMOUNT, MOST_COUNT, MOST_NAME_BYTES};
 use std::alloc::Global;
 use wide_num::read_natural;
@@ -33,17 +33,28 @@ fn read_numbers(alloc: Global, text: &[u8]) -> Result<Vec<u64>, LineStop>
 {
     let mut numbers = Vec::new(alloc);
     let mut rest = text;
-    while let Some((field, more)) = first_field(rest) {
-        let Some(number) = read_number(field) else {
-            return Err(LineStop::Form);
-        };
+    while !rest.is_empty() {
+        let (number, more) = first_number(rest)?;
         numbers.push(number)?;
         rest = more;
     }
-    if !rest.is_empty() {
-        return Err(LineStop::Form);
-    }
     Ok(numbers)
+}
+
+/// The number that stands behind the first byte, which has to be a space, and what follows it. So whether a line states numbers
+/// doesn't depend on memory.
+fn first_number(text: &[u8]) -> Result<(u64, &[u8]), NoNumber>
+    requires { 0 < length text.now }
+    ensures found { IfOk result (λ p. (p.0 ≤ MOST_AMOUNT) × IsField text.now (decimal p.0) p.1.now) }
+    ensures none { IfErr result (λ _. (ns : List ℕ) → AreNumbers ns → text.now ≢ numbers_text ns) }
+{
+    let Some((field, more)) = first_field(text) else {
+        return Err(NoNumber);
+    };
+    match read_number(field) {
+        Some(number) => Ok((number, more)),
+        None => Err(NoNumber),
+    }
 }
 
 /// The first field of a text, which has to stand behind a space, and what follows it.

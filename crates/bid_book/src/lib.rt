@@ -18,6 +18,7 @@ mod write;
 
 pub use bidders::{BidderBids, Bidders};
 pub use book::BidBook;
+pub use entries::name_text;
 pub use fields::is_name;
 pub use laws::{one_book, one_text};
 pub use limits::LimitKind;

@@ -1,7 +1,7 @@
 // Why a line is not taken.
 ghost use Rattle.std.specs.Prelude.{◌≡◌};
 ghost use Rattle.bid_book.specs.Stops.{book_stop, line_stop};
-ghost use Rattle.bid_book.specs.declared.stop.LineStop.TheVariants.{Memory};
+ghost use Rattle.bid_book.specs.declared.stop.LineStop.TheVariants.{Form, Memory};
 
 use crate::{BookStop, LimitKind};
 use lots::LotStop;
@@ -28,6 +28,18 @@ impl LineStop {
             LineStop::Limit(kind, count) => BookStop::Limit(kind, count),
             LineStop::Memory => BookStop::Memory,
         }
+    }
+}
+
+/// A text has no number at its front. It is a fault of form.
+#[derive(Clone, Copy, Debug, PartialEq, Eq)]
+pub struct NoNumber;
+
+impl From<NoNumber> for LineStop {
+    ghost from_gives = { λ _ stop. stop ≡ Form };
+
+    fn from(_error: NoNumber) -> LineStop {
+        LineStop::Form
     }
 }
 

@@ -37,7 +37,7 @@ fn takes_the_greatest_numbers(rt: HostRuntime) -> Result<(), Fail> {
     assert_eq!(rt; stop_at(rt.alloc(), FRONT, rest)?, None);
     let most = "book 1\nsupply 40\nreserve 68719476736\nend\n";
     assert_eq!(rt; stop_at(rt.alloc(), most, "")?, None);
-    let states = "book 1\nsupply 7 7 7 7\nreserve 0 0 0 0\nend\n";
+    let states = "book 1\nsupply 3 3 3 3 7 7\nreserve 0 0 0 0 0 0\nend\n";
     assert_eq!(rt; stop_at(rt.alloc(), states, "")?, None);
     Ok(())
 }
@@ -53,6 +53,7 @@ fn names_the_first_faulty_line_of_the_head(rt: HostRuntime) -> Result<(), Fail> 
         ("book 1\n", 7),
         ("book 1\nsupply\nreserve\nend\n", 7),
         ("book 1\nsupply \nreserve 0\nend\n", 7),
+        ("book 1\nsupply,1 2\nreserve 0 0\nend\n", 7),
         ("book 1\nsupply 1 0\nreserve 0 0\nend\n", 7),
         ("book 1\nsupply 1000\nreserve 0\nend\n", 7),
         ("book 1\nsupply 41 0\nreserve 0 0\nend\n", 7),

@@ -4,12 +4,12 @@ use Rattle.bid_book.specs.Stops.{AreNumbers}
 use Rattle.bid_book.proofs.FieldReads.{GoesOn}
 use Rattle.bid_book.proofs.fields.read_numbers.Given as goal
 
-abbrev pub invariant-loop-field : goal.invariant-loop-field
-invariant-loop-field l = record {
+abbrev pub invariant-loop-rest : goal.invariant-loop-rest
+invariant-loop-rest l = record {
   small : AreNumbers l.numbers.items;
   spelled : l.text ≡ numbers_text l.numbers.items ++ l.rest;
   on : (ns : List ℕ) → AreNumbers ns → l.text ≡ numbers_text ns → GoesOn l.numbers.items l.rest ns;
 }
 
-abbrev pub decreases-loop-field : goal.decreases-loop-field
-decreases-loop-field l = length l.rest
+abbrev pub decreases-loop-rest : goal.decreases-loop-rest
+decreases-loop-rest l = length l.rest
