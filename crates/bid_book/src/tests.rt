@@ -1,4 +1,12 @@
-use crate::{BookStop, LimitKind, Name, read_book};
+// What the reader takes and where it stops, and a book of three lots with its text.
+ghost use Rattle.std.specs.Prelude.{◌≡◌, ◌∷◌, [], IfOk};
+ghost use Rattle.bid_book.specs.Lists.{bid_of};
+
+use crate::{
+    BidBook, BidList, BidderBids, Bidders, BookStop, LimitKind, Name, Reserves, read_book,
+    write_book,
+};
+use lots::{Bid, LotStop, Package, Supply};
 use std::alloc::{AllocError, Global};
 use std::test::Fail;
 
@@ -181,5 +189,66 @@ fn stops_at_the_bid_of_number_601(rt: HostRuntime) -> Result<(), Fail> {
 fn keeps_the_text_of_a_name(rt: HostRuntime) -> Result<(), Fail> {
     let name = Name::new(rt.alloc(), "east")?;
     assert_eq!(rt; name.text(), "east");
+    Ok(())
+}
+
+// The bid of so many lots of one category.
+fn bid(alloc: Global, count: u16, amount: u64) -> Result<Bid, LotStop>
+    ensures { IfOk result (λ b. bid_of b ≡ record { lots = count ∷ []; amount = amount }) }
+{
+    let package = Package::new(alloc, &[count])?;
+    Ok(Bid { package, amount })
+}
+
+// The bids of east: 20 for one lot and 44 for three.
+fn bids_of_east(alloc: Global) -> Result<BidList, LotStop>
+    ensures { IfOk result (λ list. list ≡ record { lots = 1 ∷ []; amount = 20 } ∷ record { lots = 3 ∷ []; amount = 44 } ∷ []) }
+{
+    let mut bids = BidList::new(alloc);
+    bids.push(bid(alloc, 1, 20)?)?;
+    bids.push(bid(alloc, 3, 44)?)?;
+    Ok(bids)
+}
+
+// The only bid of west: 24 for two lots.
+fn bids_of_west(alloc: Global) -> Result<BidList, LotStop>
+    ensures { IfOk result (λ list. list ≡ record { lots = 2 ∷ []; amount = 24 } ∷ []) }
+{
+    let mut bids = BidList::new(alloc);
+    bids.push(bid(alloc, 2, 24)?)?;
+    Ok(bids)
+}
+
+// The book of three lots of one category at a reserve of 10, with the bids of east and west.
+fn small_book(alloc: Global) -> Result<BidBook, LotStop> {
+    let supply = Supply::new(alloc, &[3])?;
+    let mut reserves = Reserves::new(alloc);
+    reserves.push(10)?;
+    let mut bidders = Bidders::new(alloc);
+    bidders.push(BidderBids {
+        name: Name::new(alloc, "east")?,
+        bids: bids_of_east(alloc)?,
+    })?;
+    bidders.push(BidderBids {
+        name: Name::new(alloc, "west")?,
+        bids: bids_of_west(alloc)?,
+    })?;
+    let book = BidBook::from_lists(alloc, supply, reserves, bidders)?;
+    Ok(book)
+}
+
+#[test]
+fn writes_a_book_of_lists_and_reads_it_back(rt: HostRuntime) -> Result<(), LotStop> {
+    let book = small_book(rt.alloc())?;
+    let text = write_book(rt.alloc(), &book)?;
+    let lines =
+        "book 1\nsupply 3\nreserve 10\nbidder east\nbid 1 20\nbid 3 44\nbidder west\nbid 2 24\nend\n";
+    assert_eq!(rt; lines.len(), 82);
+    assert_eq!(rt; text.items(), lines.as_bytes());
+    let Ok(again) = read_book(rt.alloc(), text.items()) else {
+        panic!(rt; "this is a book");
+    };
+    let other = write_book(rt.alloc(), &again)?;
+    assert_eq!(rt; other.items(), lines.as_bytes());
     Ok(())
 }
