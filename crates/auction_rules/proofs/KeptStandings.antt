@@ -17,13 +17,13 @@ use Rattle.auction_rules.specs.Lines.{is_close, is_submit, closes, held_in, in_o
 use Rattle.auction_rules.specs.Replies.{Standing, is_clock, is_closed, is_ok_reply, first_reply, when, has_entry, price_top, has_excess, own_reply, reply_after, admitted, standing}
 use Rattle.auction_rules.specs.View.{posted}
 use Rattle.auction_rules.specs.BookOfLog.{bid_lots, pairs_of, bids_in_book}
-use Rattle.auction_rules.specs.Lawful.{HasCategories, NeverRises, IsDraft, AreDrafts}
+use Rattle.auction_rules.specs.Lawful.{HasCategories, NeverRises, AreDrafts}
 use Rattle.auction_rules.proofs.PackageLaws.{is_same-true, is_same-refl, is_before-not_same}
 use Rattle.auction_rules.proofs.Drafts.{AllAfter-trans, InOrder-in_order}
 use Rattle.auction_rules.proofs.Standings.{after_own, after_close, own_now, standing-own, standing-other, standing-close}
 use Rattle.auction_rules.proofs.Views.{a_close, an_own, another, cases_line, with_line-ok, with_line-refused, reply_after-own, is_of-parts}
-use Rattle.auction_rules.proofs.Sound.{stopped-no_clock, IsSound, IsSound-standing}
-use Rattle.auction_rules.proofs.LawfulBids.{DraftOk, draft-parts, posts-excess, admitted-lawful, drafts-lawful, submitted-lawful}
+use Rattle.auction_rules.proofs.Sound.{stopped-no_clock, IsSound-standing}
+use Rattle.auction_rules.proofs.LawfulBids.{draft-parts, posts-excess, admitted-lawful, drafts-lawful, submitted-lawful}
 use Rattle.auction_rules.proofs.BookPairs.{best_bids-few}
 
 -- ---- the order of lists

@@ -12,11 +12,11 @@ use Rattle.auction_rules.specs.declared.Event.{Event}
 use Rattle.auction_rules.specs.declared.Event.TheVariants.{Bid, Draft, Drop, Submit, Close}
 use Rattle.auction_rules.specs.declared.Reply.TheVariants as reply
 use Rattle.auction_rules.specs.PackageTests.{is_empty, first_over, is_same, is_before}
-use Rattle.auction_rules.specs.Terms.{Terms, no_lots, entrant, broken_rule}
+use Rattle.auction_rules.specs.Terms.{Terms, no_lots, entrant, broken_cap}
 use Rattle.auction_rules.specs.Rounds.{OwnRound, demand, prices_after, final_round, stage_by, stage_after, closed_after, own_round, own_rounds}
 use Rattle.auction_rules.specs.Caps.{clock_bid, greatest}
 use Rattle.auction_rules.specs.Lines.{is_close, line_bidder, bid_by, is_submit, closes, held_in, placed, in_order, priced, draft_list, submitted_list, with_entry, without_entry, drafts_after}
-use Rattle.auction_rules.specs.Replies.{Standing, is_of, is_clock, is_sealed, is_closed, is_ok_reply, first_reply, when, supply_reply, rule_reply, has_entry, price_top, has_excess, own_reply, close_reply, reply_after, admitted, standing}
+use Rattle.auction_rules.specs.Replies.{Standing, is_of, is_clock, is_sealed, is_closed, is_ok_reply, first_reply, when, supply_reply, spectrum_reply, has_entry, price_top, has_excess, own_reply, close_reply, reply_after, admitted, standing}
 use Rattle.auction_rules.specs.View.{posted}
 use Rattle.auction_rules.specs.BookOfLog.{bid_lots, best_bids, bids_in_book}
 use Rattle.auction_rules.specs.Lawful.{AreBelowTop, AreLimited, HasCategories, IsLawfulBid, IsDraft}
@@ -58,7 +58,7 @@ IsLawfulLine terms Close = Unit {0}
 
 -- where the reply is Ok, no condition holds
 bid-within : (out strange : Bool) (over : Option ℕ) (rule : Option (ℕ × ℕ)) (short : Bool) (e : ℕ)
-    → is_ok_reply (first_reply (when out reply.Stage ∷ when strange reply.Unknown ∷ supply_reply over ∷ rule_reply rule ∷ when short (reply.Points e) ∷ [])) ≡ true → over ≡ None
+    → is_ok_reply (first_reply (when out reply.Stage ∷ when strange reply.Unknown ∷ supply_reply over ∷ spectrum_reply rule ∷ when short (reply.Points e) ∷ [])) ≡ true → over ≡ None
 bid-within true strange over rule short e ok = cc
 bid-within false true over rule short e ok = cc
 bid-within false false (Some c) rule short e ok = cc
@@ -73,7 +73,7 @@ pub record DraftOk (over : Option ℕ) (short empty low full above : Bool) : Typ
   pub top_kept : above ≡ false
 
 pub draft-ok : (out strange : Bool) (over : Option ℕ) (rule : Option (ℕ × ℕ)) (short : Bool) (e : ℕ) (empty low : Bool) (r : ℕ) (below : Bool) (c : ℕ) (full above : Bool) (t : ℕ)
-    → is_ok_reply (first_reply (when out reply.Stage ∷ when strange reply.Unknown ∷ supply_reply over ∷ rule_reply rule ∷ when short (reply.Points e) ∷ when empty reply.Empty
+    → is_ok_reply (first_reply (when out reply.Stage ∷ when strange reply.Unknown ∷ supply_reply over ∷ spectrum_reply rule ∷ when short (reply.Points e) ∷ when empty reply.Empty
     ∷ when low (reply.BelowReserve r) ∷ when below (reply.BelowClock c) ∷ when full (reply.Full 300) ∷ when above (reply.AmountTop t) ∷ [])) ≡ true
     → DraftOk over short empty low full above
 draft-ok true strange over rule short e empty low r below c full above t ok = cc
@@ -103,14 +103,14 @@ pub draft-parts : (terms : Terms) (j k : ℕ) (s : Standing) (lots : List ℕ) (
     → DraftOk (first_over 1 lots terms.supply) (nat_lt (entrant terms j).eligibility (cost_of terms.points lots)) (is_empty lots) (nat_lt amount (cost_of terms.reserves lots))
     (not (has_entry lots s.drafts) && nat_le 300 (length s.drafts)) (nat_lt (2 ^ 42) amount)
 draft-parts terms j k s lots amount ok =
-    draft-ok (not (is_sealed s.stage)) (not (nat_lt 0 j && nat_le j (length terms.bidders))) (first_over 1 lots terms.supply) (broken_rule terms j lots)
+    draft-ok (not (is_sealed s.stage)) (not (nat_lt 0 j && nat_le j (length terms.bidders))) (first_over 1 lots terms.supply) (broken_cap terms j lots)
     (nat_lt (entrant terms j).eligibility (cost_of terms.points lots)) (entrant terms j).eligibility (is_empty lots) (nat_lt amount (cost_of terms.reserves lots)) (cost_of terms.reserves lots)
     (nat_lt amount (greatest lots (map clock_bid s.rounds))) (greatest lots (map clock_bid s.rounds)) (not (has_entry lots s.drafts) && nat_le 300 (length s.drafts)) (nat_lt (2 ^ 42) amount) (2 ^ 42) ok
 
 own-lawful : (terms : Terms) (s : Standing) (e : Event) → is_ok_reply (own_reply terms (line_bidder e) s e) ≡ true → HasCategories terms e → IsLawfulLine terms e
 own-lawful terms s (Bid j lots) ok same =
     let none : first_over 1 lots terms.supply ≡ None = bid-within (not (is_clock s.stage)) (not (nat_lt 0 j && nat_le j (length terms.bidders))) (first_over 1 lots terms.supply)
-    (broken_rule terms j lots) (nat_lt s.eligibility (cost_of terms.points lots)) s.eligibility ok in
+    (broken_cap terms j lots) (nat_lt s.eligibility (cost_of terms.points lots)) s.eligibility ok in
     record { categories = same; within = first_over-within 1 lots terms.supply none }
 own-lawful terms s (Draft j lots amount) ok same =
     let parts = draft-parts terms j j s lots amount ok in

@@ -9,7 +9,7 @@ use Rattle.auction_rules.specs.PackageTests.{first_over}
 use Rattle.auction_rules.specs.declared.Event.{Event}
 use Rattle.auction_rules.specs.declared.Stage.{Stage}
 use Rattle.auction_rules.specs.declared.Stage.TheVariants.{Clock, Sealed, Closed}
-use Rattle.auction_rules.specs.Terms.{Terms, final_cap, broken_rule}
+use Rattle.auction_rules.specs.Terms.{Terms, final_cap, broken_cap}
 use Rattle.auction_rules.specs.Step.{stepped}
 use Rattle.auction_rules.specs.Rounds.{OwnRound, raised_prices, demand, prices_after, own_round, own_rounds}
 use Rattle.auction_rules.specs.declared.Event.TheVariants.{Bid, Draft, Drop, Submit, Close}
@@ -17,7 +17,7 @@ use Rattle.auction_rules.specs.declared.Reply.TheVariants as reply
 use Rattle.auction_rules.specs.Rounds.{closed_after, final_round, stage_by, stage_after}
 use Rattle.auction_rules.specs.Caps.{list_fault}
 use Rattle.auction_rules.specs.Lines.{is_close, is_submit, closes, held_in}
-use Rattle.auction_rules.specs.Replies.{Standing, is_clock, is_sealed, is_ok_reply, first_reply, when, supply_reply, rule_reply, cap_reply, own_reply, reply_after, admitted, standing}
+use Rattle.auction_rules.specs.Replies.{Standing, is_clock, is_sealed, is_ok_reply, first_reply, when, supply_reply, spectrum_reply, cap_reply, own_reply, reply_after, admitted, standing}
 use Rattle.auction_rules.specs.View.{posted}
 use Rattle.auction_rules.specs.BookOfLog.{bids_in_book}
 use Rattle.auction_rules.proofs.Standings.{after_own, after_close, own_now, stage_stopped, standing-own, standing-other, standing-close}
@@ -92,7 +92,7 @@ pub record IsSound (terms : Terms) (s : Standing) : Type 0 where
 
 -- where the reply is Ok, no condition holds
 bid-ok : (out strange : Bool) (over : Option ℕ) (rule : Option (ℕ × ℕ)) (short : Bool) (e : ℕ)
-    → is_ok_reply (first_reply (when out reply.Stage ∷ when strange reply.Unknown ∷ supply_reply over ∷ rule_reply rule ∷ when short (reply.Points e) ∷ [])) ≡ true → short ≡ false
+    → is_ok_reply (first_reply (when out reply.Stage ∷ when strange reply.Unknown ∷ supply_reply over ∷ spectrum_reply rule ∷ when short (reply.Points e) ∷ [])) ≡ true → short ≡ false
 bid-ok true strange over rule short e ok = cc
 bid-ok false true over rule short e ok = cc
 bid-ok false false (Some c) rule short e ok = cc
@@ -130,7 +130,7 @@ held_bid false mine lots held points eligibility new old = old
 IsSound-own : (terms : Terms) (j : ℕ) (s : Standing) (e : Event) → is_ok_reply (own_reply terms j s e) ≡ true → is_close e ≡ false → IsSound terms s → IsSound terms (after_own j s e)
 IsSound-own terms j s (Bid k lots) ok c sound =
     let within : cost_of terms.points lots ≤ s.eligibility = ltb-false s.eligibility (cost_of terms.points lots)
-    (bid-ok (not (is_clock s.stage)) (not (nat_lt 0 j && nat_le j (length terms.bidders))) (first_over 1 lots terms.supply) (broken_rule terms j lots)
+    (bid-ok (not (is_clock s.stage)) (not (nat_lt 0 j && nat_le j (length terms.bidders))) (first_over 1 lots terms.supply) (broken_cap terms j lots)
     (nat_lt s.eligibility (cost_of terms.points lots)) s.eligibility ok) in
     record { eligible = sound.eligible; now = held_bid (is_clock s.stage) (k == j) lots s.held terms.points s.eligibility within sound.now; valid = sound.valid; unsubmitted = sound.unsubmitted }
 IsSound-own terms j s (Draft k lots amount) ok c sound =

@@ -21,7 +21,7 @@ sample = record {
   reserves = 10 ∷ [];
   tick = 1;
   thresholds = (1, 200) ∷ [];
-  rules = [];
+  caps = [];
   bidders = record { name = []; eligibility = 3; holding = 0 ∷ [] } ∷ record { name = []; eligibility = 2; holding = 0 ∷ [] } ∷ [];
 }
 
@@ -97,7 +97,7 @@ refuses_an_amount_above_the_top = refl
 
 -- a spectrum cap of four, each lot weighing two
 abbrev capped : Terms
-capped = record sample { rules = record { weights = 2 ∷ []; limit = 4 } ∷ [] }
+capped = record sample { caps = record { weights = 2 ∷ []; limit = 4 } ∷ [] }
 
 refuses_more_than_a_spectrum_cap : reply_to capped [] (Bid 1 (3 ∷ [])) ≡ reply.SpectrumCap 1 4
 unfolding reply_to
@@ -178,7 +178,7 @@ slow = record {
   reserves = 10 ∷ [];
   tick = 1;
   thresholds = [];
-  rules = [];
+  caps = [];
   bidders = record { name = []; eligibility = 3; holding = 0 ∷ [] } ∷ record { name = []; eligibility = 2; holding = 0 ∷ [] } ∷ [];
 }
 
@@ -215,7 +215,7 @@ moving version = record {
   reserves = 10 ∷ 10 ∷ [];
   tick = 1;
   thresholds = (1, 1000) ∷ [];
-  rules = [];
+  caps = [];
   bidders = record { name = []; eligibility = 3; holding = 0 ∷ 0 ∷ [] } ∷ record { name = []; eligibility = 1; holding = 0 ∷ 0 ∷ [] } ∷ [];
 }
 

@@ -11,7 +11,7 @@ use Rattle.auction_rules.specs.declared.Stage.TheVariants.{Clock, Sealed, Closed
 use Rattle.auction_model.specs.Book.{BookBid}
 use Rattle.auction_model.specs.Package.{is_within, cost_of}
 use Rattle.auction_rules.specs.PackageTests.{first_over, is_empty, is_same}
-use Rattle.auction_rules.specs.Terms.{Terms, final_cap, entrant, broken_rule}
+use Rattle.auction_rules.specs.Terms.{Terms, final_cap, entrant, broken_cap}
 use Rattle.auction_rules.specs.Rounds.{OwnRound, prices_after, eligibility_after, stage_after, round_after, closed_after, own_rounds, demand}
 use Rattle.auction_rules.specs.Caps.{clock_bid, greatest, list_fault}
 use Rattle.auction_rules.specs.Lines.{is_close, line_bidder, closes, held_in, draft_list, submitted_list}
@@ -80,9 +80,9 @@ abbrev pub supply_reply : Option ℕ → Option Reply
 supply_reply None = None
 supply_reply (Some category) = Some (reply.Supply category)
 
-abbrev pub rule_reply : Option (ℕ × ℕ) → Option Reply
-rule_reply None = None
-rule_reply (Some r) = Some (reply.SpectrumCap r.0 r.1)
+abbrev pub spectrum_reply : Option (ℕ × ℕ) → Option Reply
+spectrum_reply None = None
+spectrum_reply (Some r) = Some (reply.SpectrumCap r.0 r.1)
 
 abbrev pub points_above : Terms → List ℕ → ℕ → Option Reply
 points_above terms lots eligibility = when (nat_lt eligibility (cost_of terms.points lots)) (reply.Points eligibility)
@@ -118,7 +118,7 @@ bid_reply terms stage eligibility j lots = first_reply (
     when (not (is_clock stage)) reply.Stage
     ∷ unknown terms j
     ∷ supply_reply (first_over 1 lots terms.supply)
-    ∷ rule_reply (broken_rule terms j lots)
+    ∷ spectrum_reply (broken_cap terms j lots)
     ∷ points_above terms lots eligibility
     ∷ [])
 
@@ -129,7 +129,7 @@ own_reply terms j s (Draft k lots amount) = first_reply (
     when (not (is_sealed s.stage)) reply.Stage
     ∷ unknown terms j
     ∷ supply_reply (first_over 1 lots terms.supply)
-    ∷ rule_reply (broken_rule terms j lots)
+    ∷ spectrum_reply (broken_cap terms j lots)
     ∷ points_above terms lots (entrant terms j).eligibility
     ∷ when (is_empty lots) reply.Empty
     ∷ below_reserve terms lots amount

@@ -1,5 +1,5 @@
 -- The state of a desk, which takes the lines of a log one by one: what it keeps for all bidders at once.
-use Rattle.std.specs.Prelude.{ℕ, zero, suc, ◌-◌, Bool, not, ◌&&◌, List, [], ◌∷◌, ◌++◌, None, map, length, slice_index, slice_index_or, slice_set, nat_le, if◌then◌else◌}
+use Rattle.std.specs.Prelude.{ℕ, suc, ◌-◌, Bool, not, ◌&&◌, List, [], ◌∷◌, ◌++◌, map, length, slice_index, slice_index_or, slice_set, if◌then◌else◌}
 use Rattle.auction_rules.specs.declared.Event.{Event}
 use Rattle.auction_rules.specs.declared.Event.TheVariants.{Bid, Draft, Drop, Submit, Close}
 use Rattle.auction_rules.specs.declared.Reply.{Reply}
@@ -9,7 +9,6 @@ use Rattle.auction_rules.specs.declared.Stage.TheVariants.{Clock, Sealed, Closed
 use Rattle.auction_model.specs.Package.{is_within, cost_of}
 use Rattle.auction_rules.specs.Terms.{Terms, no_lots}
 use Rattle.auction_rules.specs.Rounds.{OwnRound, listing, sum_of, raised_prices, prices_after, eligibility_after, stage_after, round_after, closed_after}
-use Rattle.auction_rules.specs.declared.Reply.TheVariants as reply
 use Rattle.auction_rules.specs.Lines.{is_close, line_bidder, with_entry, without_entry, closes, held_in, draft_list, submitted_list}
 use Rattle.auction_rules.specs.Replies.{Standing, is_clock, is_closed, is_ok_reply, closing_reply, own_reply, admitted}
 

@@ -3,7 +3,7 @@ use Rattle.std.specs.Prelude.{ℕ, suc, ◌-◌, Bool, ◌==◌, List, [], ◌�
 use Rattle.auction_model.specs.Package.{together, cost_of}
 
 -- the weighted lots of a bidder, with its holding, are at most the limit
-pub record SpectrumRule : Type 0 where
+pub record SpectrumCap : Type 0 where
   pub weights : List ℕ
   pub limit : ℕ
 
@@ -21,7 +21,7 @@ pub record Terms : Type 0 where
   pub tick : ℕ
   -- each an excess, and the thousandths by which a price rises from this excess on
   pub thresholds : List (ℕ × ℕ)
-  pub rules : List SpectrumRule
+  pub caps : List SpectrumCap
   pub bidders : List Entrant
 
 -- the caps of sealed bids count the final cap too: in version 2
@@ -32,14 +32,14 @@ final_cap terms = terms.version == 2
 abbrev pub entrant : Terms → ℕ → Entrant
 entrant terms j = slice_index_or terms.bidders (j - 1) (record { name = []; eligibility = 0; holding = [] })
 
--- the number and the limit of the first rule that the lots are above, where the first of these rules has the given number
-abbrev pub first_broken : ℕ → List SpectrumRule → List ℕ → Option (ℕ × ℕ)
+-- the number and the limit of the first cap that the lots are above, where the first of these caps has the given number
+abbrev pub first_broken : ℕ → List SpectrumCap → List ℕ → Option (ℕ × ℕ)
 first_broken number [] lots = None
-first_broken number (r ∷ rules) lots = if nat_le (cost_of r.weights lots) r.limit then first_broken (suc number) rules lots else Some (number, r.limit)
+first_broken number (c ∷ caps) lots = if nat_le (cost_of c.weights lots) c.limit then first_broken (suc number) caps lots else Some (number, c.limit)
 
--- the rule that the package breaks with the bidder's holding
-abbrev pub broken_rule : Terms → ℕ → List ℕ → Option (ℕ × ℕ)
-broken_rule terms j lots = first_broken 1 terms.rules (together lots (entrant terms j).holding)
+-- the spectrum cap that the package is above, with the bidder's holding
+abbrev pub broken_cap : Terms → ℕ → List ℕ → Option (ℕ × ℕ)
+broken_cap terms j lots = first_broken 1 terms.caps (together lots (entrant terms j).holding)
 
 -- the empty package of the award: no lot of each category
 abbrev pub no_lots : Terms → List ℕ

@@ -12,7 +12,7 @@ use Rattle.book_form.specs.BookForm.{IsOffer}
 use Rattle.auction_rules.specs.Step.{last_or}
 use Rattle.auction_rules.specs.Terms.{Terms}
 use Rattle.lots.specs.Limits.{IsSupply}
-use Rattle.award_file.specs.Award.{IsAward, IsSteps, IsEntrant, IsRule, AreThresholds, RiseAbove, AreNamedApart, steps_of}
+use Rattle.award_file.specs.Award.{IsAward, IsSteps, IsEntrant, IsCap, AreThresholds, RiseAbove, AreNamedApart, steps_of}
 use Rattle.award_file.specs.Reading.{IsStated}
 use Rattle.award_file.specs.Stated.{has_other, name_at, list_of}
 use Rattle.award_file.specs.Walk as walk
@@ -109,13 +109,13 @@ bidder-is categories before t h =
       most_held = All-from_recursion (λ n. n ≤ 999) (walk.entrant_of categories t).holding holding.1;
     }
 
-cap-is : (categories : ℕ) (before : List ℕ) (t : Members) → walk.cap_fault categories before t ≡ None → IsRule categories (walk.rule_of categories t)
+cap-is : (categories : ℕ) (before : List ℕ) (t : Members) → walk.cap_fault categories before t ≡ None → IsCap categories (walk.cap_of categories t)
 cap-is categories before t h =
     let all = three-hold (is_some (walk.weights_at categories t)) (is_some (walk.limit_at t)) (not (has_other walk.cap_keys t)) 16 17 18 (entry_behind (length before)) h in
     let weights = row-at categories 1000 (get_member (codes "weight") t) all.0 in
     record {
       weights = weights.0;
-      most_weight = All-from_recursion (λ w. w ≤ 1000) (walk.rule_of categories t).weights weights.1;
+      most_weight = All-from_recursion (λ w. w ≤ 1000) (walk.cap_of categories t).weights weights.1;
       limit = (number-in 0 1000000 (codes "limit") t all.1).1;
     }
 
@@ -172,17 +172,17 @@ bidders-of t h =
     All-from_recursion (IsEntrant n) (walk.entrants_of n t) (made (λ b. IsEntrant n (walk.entrant_of n b)) (IsEntrant n) (walk.entrant_of n) (λ b is. is) tables
     (each (walk.bidder_fault n) walk.name_or_none (λ b. IsEntrant n (walk.entrant_of n b)) (bidder-is n) [] tables list.1))
 
-caps-of : (t : Members) → walk.award_fault t ≡ None → (length (walk.terms_of t).rules ≤ 20) × All (IsRule (walk.category_count t)) (walk.terms_of t).rules
+caps-of : (t : Members) → walk.award_fault t ≡ None → (length (walk.terms_of t).caps ≤ 20) × All (IsCap (walk.category_count t)) (walk.terms_of t).caps
 caps-of t h =
     let n = walk.category_count t in
     let list = list-passes 15 (tables_fault (walk.cap_fault n) walk.limit_or_none []) (walk.caps_at t) (parts-pass t h).5 in
     let tables = unwrap_or (walk.caps_at t) [] in
     let allowed : nat_le (length tables) 20 ≡ true = list-count (λ m. nat_le m 20) (list_of (get_member (codes "cap") t)) list.0 in
     let few : length tables ≤ 20 = grind (arith, nat_tests) in
-    let count = length-map tables (walk.rule_of n) in (
+    let count = length-map tables (walk.cap_of n) in (
       omega (arith, count, few),
-      All-from_recursion (IsRule n) (walk.rules_of n t) (made (λ b. IsRule n (walk.rule_of n b)) (IsRule n) (walk.rule_of n) (λ b is. is) tables
-          (each (walk.cap_fault n) walk.limit_or_none (λ b. IsRule n (walk.rule_of n b)) (cap-is n) [] tables list.1)),
+      All-from_recursion (IsCap n) (walk.caps_of n t) (made (λ b. IsCap n (walk.cap_of n b)) (IsCap n) (walk.cap_of n) (λ b is. is) tables
+          (each (walk.cap_fault n) walk.limit_or_none (λ b. IsCap n (walk.cap_of n b)) (cap-is n) [] tables list.1)),
     )
 
 award-of : (t : Members) → walk.award_fault t ≡ None → IsSupply (walk.terms_of t).supply → length (walk.terms_of t).bidders ≤ 16 → AreNamedApart (walk.terms_of t).bidders → IsAward (walk.terms_of t)
@@ -201,8 +201,8 @@ award-of t h supply few apart =
       few_bidders = few;
       bidders = subst (λ n. All (IsEntrant n) (walk.terms_of t).bidders) (sym count) (bidders-of t h);
       apart = apart;
-      few_rules = caps.0;
-      rules = subst (λ n. All (IsRule n) (walk.terms_of t).rules) (sym count) caps.1;
+      few_caps = caps.0;
+      caps = subst (λ n. All (IsCap n) (walk.terms_of t).caps) (sym count) caps.1;
     }
 
 pub offer-stated : (terms : Terms) → IsStated terms → IsOffer terms.supply

@@ -4,10 +4,10 @@ use Rattle.std.specs.List.{All}
 use Rattle.std.proofs.lemmas.List.{drop_more, get_or-map, length-map}
 use Rattle.std.proofs.lemmas.Bool.{le-leb, lt-leb}
 use Rattle.auction_model.specs.Package.{together, cost_of}
-use Rattle.auction_rules.specs.Terms.{SpectrumRule, first_broken}
-use Rattle.award_file.specs.declared.caps.SpectrumCap.{SpectrumCap}
-use Rattle.award_file.specs.Award.{IsRule}
-use Rattle.award_file.specs.Fields.{rule_value, rule_values}
+use Rattle.auction_rules.specs.Terms.{SpectrumCap, first_broken}
+use Rattle.award_file.specs.declared.caps.SpectrumCap.{SpectrumCap as KeptCap}
+use Rattle.award_file.specs.Award.{IsCap}
+use Rattle.award_file.specs.Fields.{cap_value, cap_values}
 
 pub weight-step : (weights counts holding : List ℕ) (i sum : ℕ) → i < length counts → length weights ≡ length counts → length holding ≡ length counts
     → sum + cost_of (drop i weights) (together (drop i counts) (drop i holding))
@@ -18,16 +18,16 @@ weight-step weights counts holding i sum inside w h =
     rw (drop_more weights i 0 in_weights, drop_more counts i 0 inside, drop_more holding i 0 in_holding) (omega arith)
 
 -- a rule that is broken is the first of those that are left
-pub broken-here : (number : ℕ) (r : SpectrumRule) (rules : List SpectrumRule) (lots : List ℕ) → r.limit < cost_of r.weights lots → first_broken number (r ∷ rules) lots ≡ Some (number, r.limit)
-broken-here number r rules lots above = rw (lt-leb (cost_of r.weights lots) r.limit above) refl
+pub broken-here : (number : ℕ) (r : SpectrumCap) (caps : List SpectrumCap) (lots : List ℕ) → r.limit < cost_of r.weights lots → first_broken number (r ∷ caps) lots ≡ Some (number, r.limit)
+broken-here number r caps lots above = rw (lt-leb (cost_of r.weights lots) r.limit above) refl
 
 -- a rule that holds is passed
-pub broken-later : (number : ℕ) (r : SpectrumRule) (rules : List SpectrumRule) (lots : List ℕ) → cost_of r.weights lots ≤ r.limit → first_broken number (r ∷ rules) lots ≡ first_broken (suc number) rules lots
-broken-later number r rules lots below = rw (le-leb (cost_of r.weights lots) r.limit below) refl
+pub broken-later : (number : ℕ) (r : SpectrumCap) (caps : List SpectrumCap) (lots : List ℕ) → cost_of r.weights lots ≤ r.limit → first_broken number (r ∷ caps) lots ≡ first_broken (suc number) caps lots
+broken-later number r caps lots below = rw (le-leb (cost_of r.weights lots) r.limit below) refl
 
 -- a cap of the list is a rule
-pub rule-at : (categories : ℕ) (caps : List SpectrumCap) (i : ℕ) (cap : SpectrumCap) → All (IsRule categories) (rule_values caps) → i < length caps → cap ≡ get_or caps i cap → IsRule categories (rule_value cap)
-rule-at categories caps i cap all inside is =
-    let known : i < length (rule_values caps) = rw length-map inside in
-    let read : get_or (rule_values caps) i (rule_value cap) ≡ rule_value cap = get_or-map rule_value caps i cap (rule_value cap) inside ∙ ap rule_value (sym is) in
-    subst (IsRule categories) read (all i (rule_value cap) known)
+pub cap-at : (categories : ℕ) (caps : List KeptCap) (i : ℕ) (cap : KeptCap) → All (IsCap categories) (cap_values caps) → i < length caps → cap ≡ get_or caps i cap → IsCap categories (cap_value cap)
+cap-at categories caps i cap all inside is =
+    let known : i < length (cap_values caps) = rw length-map inside in
+    let read : get_or (cap_values caps) i (cap_value cap) ≡ cap_value cap = get_or-map cap_value caps i cap (cap_value cap) inside ∙ ap cap_value (sym is) in
+    subst (IsCap categories) read (all i (cap_value cap) known)

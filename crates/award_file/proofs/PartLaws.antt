@@ -4,14 +4,14 @@ use Rattle.std.specs.Option.{option_or}
 use Rattle.std.proofs.lemmas.Bool.Decides.{nat_tests}
 use Rattle.book_form.specs.BookLines.{Excess}
 use Rattle.limits.specs.declared.LimitKind.TheVariants.{Bidders}
-use Rattle.auction_rules.specs.Terms.{Entrant, SpectrumRule}
+use Rattle.auction_rules.specs.Terms.{Entrant, SpectrumCap}
 use Rattle.award_file.specs.Walk.{Category, terms_from}
 use Rattle.award_file.specs.declared.read.AwardStop.{AwardStop}
 use Rattle.award_file.specs.declared.read.AwardStop.TheVariants.{Text, Field, Limit, Memory}
 use Rattle.award_file.specs.declared.read.Parts.{Parts}
 use Rattle.award_file.specs.declared.read.categories.Category.{Category as Read}
 use Rattle.award_file.specs.Award.{Steps, steps_with, terms_with}
-use Rattle.award_file.specs.Fields.{rule_values}
+use Rattle.award_file.specs.Fields.{cap_values}
 use Rattle.award_file.specs.Parts.{category_values, counts, terms_value}
 use Rattle.award_file.specs.Reading.{IsLimit, bidders_excess}
 
@@ -30,12 +30,12 @@ reserves-are (c ∷ cs) = ap (λ (ns : List ℕ). c.reserve ∷ ns) (reserves-ar
 -- the award of the parts has their terms
 pub parts-make : (p : Parts) (supply points reserves : List ℕ) (steps : Steps) → supply ≡ counts p.categories.items → points ≡ map (λ c. c.points) p.categories.items
     → reserves ≡ map (λ c. c.reserve) p.categories.items → steps ≡ steps_with p.tick p.thresholds.items
-    → terms_with p.version supply points reserves steps p.bidders (rule_values p.caps.items) ≡ terms_value p
+    → terms_with p.version supply points reserves steps p.bidders (cap_values p.caps.items) ≡ terms_value p
 parts-make p supply points reserves steps a b c d =
     rw (a ∙ sym (counts-are p.categories.items), b ∙ sym (points-are p.categories.items), c ∙ sym (reserves-are p.categories.items), d) refl
 
 -- the same parts make the same terms
-pub terms-same : (v w m n : ℕ) (cs ds : List Category) (ts us : List (ℕ × ℕ)) (rs ss : List SpectrumRule) (bs es : List Entrant) → v ≡ w → m ≡ n → cs ≡ ds → ts ≡ us → rs ≡ ss → bs ≡ es
+pub terms-same : (v w m n : ℕ) (cs ds : List Category) (ts us : List (ℕ × ℕ)) (rs ss : List SpectrumCap) (bs es : List Entrant) → v ≡ w → m ≡ n → cs ≡ ds → ts ≡ us → rs ≡ ss → bs ≡ es
     → terms_from v m cs ts rs bs ≡ terms_from w n ds us ss es
 terms-same v w m n cs ds ts us rs ss bs es a b c d e f = rw (a, b, c, d, e, f) refl
 

@@ -3,7 +3,7 @@ use Rattle.std.specs.Prelude.{◌≡◌, ℕ, ◌+◌, ◌-◌, ◌≤◌, ◌<�
 use Rattle.std.specs.List.{All, IsDistinct, list_any}
 use Rattle.std.specs.Str.{bytes_eq}
 use Rattle.limits.specs.declared.TheConstants.{MOST_BIDDERS, MOST_COUNT, MOST_POINTS, MOST_PRICE}
-use Rattle.auction_rules.specs.Terms.{SpectrumRule, Entrant, Terms}
+use Rattle.auction_rules.specs.Terms.{SpectrumCap, Entrant, Terms}
 use Rattle.book_form.specs.BookForm.{IsName}
 use Rattle.lots.specs.Limits.{IsSupply}
 
@@ -43,7 +43,7 @@ pub record IsEntrant (categories : ℕ) (e : Entrant) : Type 0 where
   pub most_held : All (λ n. n ≤ MOST_COUNT) e.holding
 
 -- a spectrum cap of an award with so many categories
-pub record IsRule (categories : ℕ) (r : SpectrumRule) : Type 0 where
+pub record IsCap (categories : ℕ) (r : SpectrumCap) : Type 0 where
   pub weights : length r.weights ≡ categories
   pub most_weight : All (λ w. w ≤ 1000) r.weights
   pub limit : r.limit ≤ 1000000
@@ -70,22 +70,22 @@ pub record IsAward (terms : Terms) : Type 0 where
   pub few_bidders : length terms.bidders ≤ MOST_BIDDERS
   pub bidders : All (IsEntrant (length terms.supply)) terms.bidders
   pub apart : AreNamedApart terms.bidders
-  pub few_rules : length terms.rules ≤ 20
-  pub rules : All (IsRule (length terms.supply)) terms.rules
+  pub few_caps : length terms.caps ≤ 20
+  pub caps : All (IsCap (length terms.supply)) terms.caps
 
 abbrev pub entrant_with : List ℕ → ℕ → List ℕ → Entrant
 entrant_with name eligibility holding = record { name = name; eligibility = eligibility; holding = holding }
 
 -- the award of these parts
-abbrev pub terms_with : ℕ → List ℕ → List ℕ → List ℕ → Steps → List Entrant → List SpectrumRule → Terms
-terms_with version supply points reserves steps bidders rules = record {
+abbrev pub terms_with : ℕ → List ℕ → List ℕ → List ℕ → Steps → List Entrant → List SpectrumCap → Terms
+terms_with version supply points reserves steps bidders caps = record {
   version = version;
   supply = supply;
   points = points;
   reserves = reserves;
   tick = steps.tick;
   thresholds = steps.thresholds;
-  rules = rules;
+  caps = caps;
   bidders = bidders;
 }
 

@@ -3,7 +3,7 @@ use Rattle.std.specs.Prelude.{ℕ, List, map, string_bytes}
 use Rattle.award_file.specs.declared.caps.SpectrumCap.{SpectrumCap}
 use Rattle.award_file.specs.declared.read.categories.Category.{Category as Read}
 use Rattle.award_file.specs.declared.read.Parts.{Parts}
-use Rattle.award_file.specs.Fields.{rule_values}
+use Rattle.award_file.specs.Fields.{cap_values}
 use Rattle.award_file.specs.Walk.{Category, terms_from}
 use Rattle.auction_rules.specs.Terms.{Terms}
 
@@ -33,4 +33,4 @@ counts categories = map (λ c. c.supply) categories
 
 -- the terms of these parts
 abbrev pub terms_value : Parts → Terms
-terms_value p = terms_from p.version p.tick (category_values p.categories.items) p.thresholds.items (rule_values p.caps.items) p.bidders
+terms_value p = terms_from p.version p.tick (category_values p.categories.items) p.thresholds.items (cap_values p.caps.items) p.bidders

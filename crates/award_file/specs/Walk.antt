@@ -4,7 +4,7 @@ use Rattle.std.specs.Option.{option_or}
 use Rattle.limits.specs.declared.TheConstants.{MOST_COUNT, MOST_POINTS, MOST_PRICE}
 use Rattle.toml.specs.Data.{Data, Members, get_member}
 use Rattle.auction_rules.specs.Step.{last_or}
-use Rattle.auction_rules.specs.Terms.{Terms, Entrant, SpectrumRule}
+use Rattle.auction_rules.specs.Terms.{Terms, Entrant, SpectrumCap}
 use Rattle.award_file.specs.Award.{is_stranger}
 use Rattle.award_file.specs.Stated.{number_at, row_of, name_at, tables_at, has_other}
 
@@ -246,34 +246,34 @@ abbrev pub threshold_of : Members → ℕ × ℕ
 threshold_of t = (excess_or_none t, unwrap_or (permille_at t) 0)
 
 -- the spectrum cap that a table states
-abbrev pub rule_of : ℕ → Members → SpectrumRule
-rule_of categories t = record { weights = unwrap_or (weights_at categories t) []; limit = limit_or_none t }
+abbrev pub cap_of : ℕ → Members → SpectrumCap
+cap_of categories t = record { weights = unwrap_or (weights_at categories t) []; limit = limit_or_none t }
 
 -- the thresholds of an award
 abbrev pub thresholds_of : Members → List (ℕ × ℕ)
 thresholds_of t = map threshold_of (unwrap_or (steps_at t) [])
 
 -- the spectrum caps of an award
-abbrev pub rules_of : ℕ → Members → List SpectrumRule
-rules_of categories t = map (rule_of categories) (unwrap_or (caps_at t) [])
+abbrev pub caps_of : ℕ → Members → List SpectrumCap
+caps_of categories t = map (cap_of categories) (unwrap_or (caps_at t) [])
 
 -- the bidders of an award
 abbrev pub entrants_of : ℕ → Members → List Entrant
 entrants_of categories t = map (entrant_of categories) (unwrap_or (bidders_at t) [])
 
 -- the terms of these parts
-abbrev pub terms_from : ℕ → ℕ → List Category → List (ℕ × ℕ) → List SpectrumRule → List Entrant → Terms
-terms_from version tick categories thresholds rules bidders = record {
+abbrev pub terms_from : ℕ → ℕ → List Category → List (ℕ × ℕ) → List SpectrumCap → List Entrant → Terms
+terms_from version tick categories thresholds caps bidders = record {
   version = version;
   supply = map (λ c. c.supply) categories;
   points = map (λ c. c.points) categories;
   reserves = map (λ c. c.reserve) categories;
   tick = tick;
   thresholds = thresholds;
-  rules = rules;
+  caps = caps;
   bidders = bidders;
 }
 
 -- the terms of an award; the names of its categories have no part in them
 abbrev pub terms_of : Members → Terms
-terms_of t = terms_from (unwrap_or (version_at t) 0) (unwrap_or (tick_at t) 0) (categories_of t) (thresholds_of t) (rules_of (category_count t) t) (entrants_of (category_count t) t)
+terms_of t = terms_from (unwrap_or (version_at t) 0) (unwrap_or (tick_at t) 0) (categories_of t) (thresholds_of t) (caps_of (category_count t) t) (entrants_of (category_count t) t)

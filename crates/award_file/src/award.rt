@@ -1,9 +1,9 @@
 // Awards, and the calls that read them.
 ghost use Rattle.std.specs.Prelude.{◌≡◌, ℕ, ◌≤◌, ◌<◌, length, option_map};
 ghost use Rattle.limits.specs.declared.TheConstants.{MOST_BIDDERS};
-ghost use Rattle.auction_rules.specs.Terms.{broken_rule, entrant, final_cap};
+ghost use Rattle.auction_rules.specs.Terms.{broken_cap, entrant, final_cap};
 ghost use Rattle.award_file.specs.Award.{IsAward, number_of, steps_of, terms_with};
-ghost use Rattle.award_file.specs.Fields.{fault_value, rule_values};
+ghost use Rattle.award_file.specs.Fields.{fault_value, cap_values};
 
 use crate::caps::{CapFault, SpectrumCap, first_exceeded};
 use crate::entrants::Entrants;
@@ -46,8 +46,8 @@ impl Award {
         bidders: Entrants,
         caps: Vec<SpectrumCap>,
     ) -> Award
-        requires { IsAward (terms_with version supply points.items reserves.items steps bidders (rule_values caps.items)) }
-        ensures { result ≡ terms_with version supply points.items reserves.items steps bidders (rule_values caps.items) }
+        requires { IsAward (terms_with version supply points.items reserves.items steps bidders (cap_values caps.items)) }
+        ensures { result ≡ terms_with version supply points.items reserves.items steps bidders (cap_values caps.items) }
     {
         Award {
             version,
@@ -156,7 +156,7 @@ impl Award {
     pub fn cap_fault(&self, j: u16, package: &Package) -> Option<CapFault>
         requires bidder { (1 ≤ j) × (j ≤ length self.now.bidders) }
         requires categories { length «package».now ≡ length self.now.supply }
-        ensures { option_map fault_value result ≡ broken_rule self.now j «package».now }
+        ensures { option_map fault_value result ≡ broken_cap self.now j «package».now }
     {
         first_exceeded(&self.caps, package.counts(), self.bidders.holding(j))
     }

@@ -3,8 +3,8 @@ ghost use Rattle.std.specs.Prelude.{◌≡◌, ◌≤◌, length, All, option_ma
 ghost use Rattle.limits.specs.declared.TheConstants.{MOST_CATEGORIES};
 ghost use Rattle.auction_model.specs.Package.{together, cost_of};
 ghost use Rattle.auction_rules.specs.Terms.{first_broken};
-ghost use Rattle.award_file.specs.Award.{IsRule};
-ghost use Rattle.award_file.specs.Fields.{fault_value, rule_values};
+ghost use Rattle.award_file.specs.Award.{IsCap};
+ghost use Rattle.award_file.specs.Fields.{fault_value, cap_values};
 
 /// The weighted lots of a bidder, with those that it holds already, are at most the limit.
 #[derive(Drop)]
@@ -44,8 +44,8 @@ pub fn first_exceeded(caps: &[SpectrumCap], counts: &[u16], holding: &[u16]) -> 
     requires few { length caps.now ≤ 20 }
     requires categories { length counts.now ≤ MOST_CATEGORIES }
     requires holding { length holding.now ≡ length counts.now }
-    requires rules { All (IsRule (length counts.now)) (rule_values caps.now) }
-    ensures { option_map fault_value result ≡ first_broken 1 (rule_values caps.now) (together counts.now holding.now) }
+    requires each { All (IsCap (length counts.now)) (cap_values caps.now) }
+    ensures { option_map fault_value result ≡ first_broken 1 (cap_values caps.now) (together counts.now holding.now) }
 {
     for (i, cap) in caps.iter().enumerate() {
         if weight_of(&cap.weights, counts, holding) > cap.limit {

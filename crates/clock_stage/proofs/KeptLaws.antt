@@ -9,9 +9,9 @@ use Rattle.auction_model.specs.Package.{is_within, cost_of}
 use Rattle.auction_rules.specs.declared.Reply.{Reply}
 use Rattle.auction_rules.specs.declared.Reply.TheVariants as reply
 use Rattle.auction_rules.specs.declared.Stage.TheVariants.{Clock}
-use Rattle.auction_rules.specs.Terms.{Terms, no_lots, broken_rule}
+use Rattle.auction_rules.specs.Terms.{Terms, no_lots, broken_cap}
 use Rattle.auction_rules.specs.Rounds.{raised_prices}
-use Rattle.auction_rules.specs.Replies.{first_reply, when, bid_reply, supply_reply, rule_reply, points_above, price_top}
+use Rattle.auction_rules.specs.Replies.{first_reply, when, bid_reply, supply_reply, spectrum_reply, points_above, price_top}
 use Rattle.auction_rules.specs.PackageTests.{first_over}
 use Rattle.auction_rules.specs.State.{asked}
 use Rattle.auction_rules.proofs.PackageLaws.{first_over-within}
@@ -31,7 +31,7 @@ supply_passed (Some category) rest ok = cc
 
 -- what is tested behind the supply
 behind_supply : Terms → ℕ → ℕ → List ℕ → List (Option Reply)
-behind_supply terms eligibility j lots = rule_reply (broken_rule terms j lots) ∷ points_above terms lots eligibility ∷ []
+behind_supply terms eligibility j lots = spectrum_reply (broken_cap terms j lots) ∷ points_above terms lots eligibility ∷ []
 
 -- a package that is bid is within the supply
 bid-within : (terms : Terms) (eligibility j : ℕ) (lots : List ℕ) → bid_reply terms Clock eligibility j lots ≡ reply.Ok → is_within lots terms.supply ≡ true

@@ -1,7 +1,7 @@
 // The spectrum caps of an award.
 ghost use Rattle.std.specs.Prelude.{◌≡◌, [], IfErr, IfOk, None, map, option_map};
 ghost use Rattle.toml.specs.View.{items_view, table_view};
-ghost use Rattle.award_file.specs.Fields.{rule_value, rule_values};
+ghost use Rattle.award_file.specs.Fields.{cap_value, cap_values};
 ghost use Rattle.award_file.specs.Parts.{limits};
 ghost use Rattle.award_file.specs.Reading.{IsFault};
 ghost use Rattle.award_file.specs.Stated as stated;
@@ -32,7 +32,7 @@ pub fn read_caps(
     table: &Table,
     categories: usize,
 ) -> Result<Vec<SpectrumCap>, AwardStop>
-    ensures ok { IfOk result (λ v. (walk.caps_fault categories (table_view table.now) ≡ None) × (rule_values v.items ≡ walk.rules_of categories (table_view table.now))) }
+    ensures ok { IfOk result (λ v. (walk.caps_fault categories (table_view table.now) ≡ None) × (cap_values v.items ≡ walk.caps_of categories (table_view table.now))) }
     ensures err { IfErr result (IsFault (walk.caps_fault categories (table_view table.now))) }
 {
     let Some(tables) = list_at(table, "cap") else {
@@ -51,7 +51,7 @@ fn read_listed(
     categories: usize,
 ) -> Result<Vec<SpectrumCap>, AwardStop>
     ensures ok { IfOk result (λ v. (walk.tables_fault (walk.cap_fault categories) walk.limit_or_none [] (stated.tables_of (items_view tables.now)) ≡ None)
-        × (rule_values v.items ≡ map (walk.rule_of categories) (stated.tables_of (items_view tables.now)))) }
+        × (cap_values v.items ≡ map (walk.cap_of categories) (stated.tables_of (items_view tables.now)))) }
     ensures err { IfErr result (IsFault (walk.tables_fault (walk.cap_fault categories) walk.limit_or_none [] (stated.tables_of (items_view tables.now)))) }
 {
     let mut caps = Vec::new(alloc);
@@ -72,7 +72,7 @@ fn read_cap(
     categories: usize,
     before: &[SpectrumCap],
 ) -> Result<SpectrumCap, AwardStop>
-    ensures ok { IfOk result (λ c. (walk.cap_fault categories (limits before.now) (table_view table.now) ≡ None) × (rule_value c ≡ walk.rule_of categories (table_view table.now))) }
+    ensures ok { IfOk result (λ c. (walk.cap_fault categories (limits before.now) (table_view table.now) ≡ None) × (cap_value c ≡ walk.cap_of categories (table_view table.now))) }
     ensures err { IfErr result (IsFault (walk.cap_fault categories (limits before.now) (table_view table.now))) }
 {
     let Some(weights) = weights_at(alloc, table, categories)? else {

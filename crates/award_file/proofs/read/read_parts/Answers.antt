@@ -4,7 +4,7 @@ use Rattle.std.proofs.lemmas.Result.{err_from_is_err_and}
 use Rattle.toml.specs.View.{table_view}
 use Rattle.award_file.specs.Reading.{IsFault}
 use Rattle.award_file.specs.Stated.{has_other}
-use Rattle.award_file.specs.Walk.{category_count, version_at, tick_at, categories_fault, bidders_fault, steps_fault, caps_fault, top_keys, entrants_of, rules_of, unless}
+use Rattle.award_file.specs.Walk.{category_count, version_at, tick_at, categories_fault, bidders_fault, steps_fault, caps_fault, top_keys, entrants_of, caps_of, unless}
 use Rattle.award_file.proofs.PartLaws.{terms-same}
 use Rattle.award_file.proofs.ReadingLaws.{third-stops, fourth-stops, last-decides, count-is}
 use Rattle.award_file.proofs.read.read_parts.Goals as goal
@@ -65,5 +65,5 @@ returns-clause-ok c =
     let version_is : unwrap_or (version_at t) 0 ≡ c.in-Some.version = ap (λ (o : Option ℕ). unwrap_or o 0) (sym c.in-Some.ensures.number) in
     let tick_is : unwrap_or (tick_at t) 0 ≡ c.in-Some-number_at.tick = ap (λ (o : Option ℕ). unwrap_or o 0) (sym c.in-Some-number_at.ensures.number) in
     let bidders_are = c.in_ok-bidders.ensures.ok.1 ∙ ap (λ n. entrants_of n t) count in
-    let caps_are = c.in_ok-caps.ensures.ok.1 ∙ ap (λ n. rules_of n t) count-2 in
+    let caps_are = c.in_ok-caps.ensures.ok.1 ∙ ap (λ n. caps_of n t) count-2 in
     (none, terms-same _ _ _ _ _ _ _ _ _ _ _ _ version_is tick_is (sym c.in_ok-categories.ensures.ok.1) (sym c.in_ok-thresholds.ensures.ok.1) (sym caps_are) (sym bidders_are))
