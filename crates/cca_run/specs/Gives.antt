@@ -4,7 +4,7 @@ use Rattle.auction_model.specs.Greatest.{IsWinning}
 use Rattle.auction_model.specs.Book.{market_of, Book as BookValue}
 use Rattle.auction_model.specs.Prices.{weight_of}
 use Rattle.auction_model.specs.PricingRun.{Turn, IsPricingRun}
-use Rattle.book_form.specs.WinText.{win_text}
+use Rattle.print_form.specs.WinText.{win_text}
 use Rattle.cert_form.specs.Certificate.{CertValue}
 use Rattle.cert_form.specs.CertText.{IsCertificate}
 use Rattle.cert_form.specs.Says.{cert_text}
@@ -15,7 +15,8 @@ use Rattle.core_price.specs.Weights.{FewWin, ManyWin}
 use Rattle.limits.specs.declared.LimitKind.TheVariants.{Winners}
 use Rattle.limits.specs.declared.TheConstants.{BOOK_BYTES, CERT_BYTES}
 use Rattle.print_form.specs.Prices.{IsPriceText}
-use Rattle.print_form.specs.Rounds.{AreTurnLines, IsLastPoint}
+use Rattle.print_form.specs.Turns.{AreTurnLines}
+use Rattle.row_laws.specs.Turns.{IsLastPoint}
 use Rattle.row_laws.specs.Winners.{winners_in}
 use Rattle.cca_inputs.specs.Answers.{BookAnswers, CertAnswers}
 use Rattle.cca_inputs.specs.Command.{CommandValue, win, price, check, command_of, contents_of}

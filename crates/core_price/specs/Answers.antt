@@ -1,6 +1,7 @@
 -- What the search for the point of a turn is given, and what it answers.
 use Rattle.std.specs.Prelude.{◌≡◌, ◌⊎◌, ℕ, ◌^◌, ◌≤◌, List, length, ℤ, pos, ◌≤ℤ◌, ◌<ℤ◌}
 use Rattle.far_num.specs.declared.Row.{Row}
+use Rattle.limits.specs.declared.TheConstants.{MOST_WINNERS}
 use Rattle.nearest_point.specs.Numbers.{AreBelow, pairs_used}
 use Rattle.nearest_point.specs.Problem.{AreBounds, AreOnes, AreTargets, AreWeights, HasMembers, HasSingles, IsNarrow, bounds, coefficients, weight_at}
 use Rattle.point_laws.specs.Multipliers.{AreFirst, AreSecond, SumsTo}
@@ -9,7 +10,7 @@ use Rattle.wide_num.specs.Sums.{nth}
 
 -- the conditions of the search, which may have no coordinate
 pub record CanSolve (prices : List ℤ) (weights : List ℕ) (rows : List Row) : Type 0 where
-  pub few : length prices ≤ 6
+  pub few : length prices ≤ MOST_WINNERS
   pub weighed : AreWeights (length prices) weights
   pub members : HasMembers (length prices) rows
   pub singles : HasSingles (length prices) rows

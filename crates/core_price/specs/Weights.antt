@@ -1,6 +1,7 @@
 -- The weights of the winners, and how many winners can be priced with them.
 use Rattle.std.specs.Prelude.{◌≡◌, ℕ, zero, suc, ◌<◌, ◌≤◌, ◌⊎◌, List, [], ◌∷◌, length}
 use Rattle.auction_model.specs.Market.{Market}
+use Rattle.limits.specs.declared.TheConstants.{MOST_WEIGHTED_WINNERS, MOST_WINNERS}
 use Rattle.nearest_point.specs.Problem.{AreOnes, AreWeights}
 use Rattle.row_laws.specs.Winners.{winners_in}
 
@@ -21,10 +22,10 @@ pub record CanWeigh (m : Market) (z weights : List ℕ) : Type 0 where
 abbrev pub WeighAlike : List ℕ → List ℕ → Type 0
 WeighAlike z weights = AreOnes (winners_in z) (weights_in z weights)
 
--- at most six winners, and at most four where they don't all weigh 1
+-- no more winners than the limit (six), and no more than that by weights (four) where they don't all weigh 1
 abbrev pub FewWin : List ℕ → List ℕ → Type 0
-FewWin z weights = (winners_in z ≤ 6) × (WeighAlike z weights ⊎ (winners_in z ≤ 4))
+FewWin z weights = (winners_in z ≤ MOST_WINNERS) × (WeighAlike z weights ⊎ (winners_in z ≤ MOST_WEIGHTED_WINNERS))
 
--- more than six winners, or more than four that don't all weigh 1
+-- more winners than one of these limits
 abbrev pub ManyWin : List ℕ → List ℕ → Type 0
-ManyWin z weights = (6 < winners_in z) ⊎ ((4 < winners_in z) × (WeighAlike z weights → ⊥))
+ManyWin z weights = (MOST_WINNERS < winners_in z) ⊎ ((MOST_WEIGHTED_WINNERS < winners_in z) × (WeighAlike z weights → ⊥))

@@ -36,14 +36,17 @@ pub use weights::many_win;
 ///
 /// The rows start with each winner alone, in order, with its Vickrey price as bound. In each turn the point of least sum
 /// that meets all rows, and of these the nearest to the Vickrey prices, is tested for a coalition that blocks it. If one
-/// does, its row is added; if none does, the point is the answer. With `m` winners there are at most `2^m` turns.
+/// does, its row is added; if none does, the point is the answer. No row comes twice, so with `m` winners there are at most `2^m`
+/// turns.
 ///
 /// `singles` are all winners in order, each with its Vickrey price and its best choice. `weights` has one weight of 1 to 20
 /// for each bidder; distances are by squares, each divided by the bidder's weight. There are at most 64 bidders, and the
 /// winning choice is worth at most 2^42 times the number of winners.
 ///
-/// Errors: `Winners` exactly where more than six win, or more than four that don't all weigh 1, with their number;
-/// `Memory` for want of memory.
+/// # Errors
+///
+/// `Winners` exactly where more than six win, or more than four that don't all weigh 1, with their number; `Memory` for want of
+/// memory.
 ///
 /// The rule is that of Day and Cramton (Quadratic core-selecting payment rules for combinatorial auctions, Operations
 /// Research 60, 2012), the turns are those of Day and Raghavan (Fair payments for efficient allocations in public sector

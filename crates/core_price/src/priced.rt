@@ -37,7 +37,7 @@ pub struct Turn {
 /// The prices of the winners, with all that shows that they are right.
 #[derive(Drop)]
 pub struct Priced<T> {
-    /// The denominator, at least 1. No number but 1 divides it, all payments and all multipliers.
+    /// The denominator, at least 1. With all payments and all multipliers it is in lowest terms.
     pub den: i128,
     /// One net payment for each winner in order, times the denominator.
     pub at: NumList,

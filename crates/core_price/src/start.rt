@@ -1,6 +1,7 @@
 // The rows of the first turn.
 ghost use Rattle.core_price.specs.Rows;
 ghost use Rattle.core_price.specs.Rows.{single_bits};
+ghost use Rattle.limits.specs.declared.TheConstants.{MOST_WINNERS};
 ghost use Rattle.std.specs.Prelude.{IfOk, length, map, ◌≡◌, ◌≤◌};
 
 use choices::{Choice, Single};
@@ -27,7 +28,7 @@ pub(crate) fn prices_of(alloc: Global, singles: &[Single]) -> Result<Vec<i128>, 
 
 /// Each winner alone, with its Vickrey price as bound.
 pub(crate) fn first_rows(alloc: Global, singles: &[Single]) -> Result<Asked, AllocError>
-    requires { length singles.now ≤ 6 }
+    requires { length singles.now ≤ MOST_WINNERS }
     ensures rows { IfOk result (λ a. a.rows.items ≡ single_bits 0 singles.now) }
     ensures choices { IfOk result (λ a. a.choices.items ≡ map (λ s. s.choice) singles.now) }
 {

@@ -4,13 +4,8 @@ ghost use Rattle.row_laws.specs.Winners.{winners_in};
 ghost use Rattle.std.specs.Prelude.{IfOk, IsTrue, length, not, ◌≡◌};
 
 use choices::Choice;
+use limits::{MOST_WEIGHTED_WINNERS, MOST_WINNERS};
 use std::alloc::{AllocError, Global};
-
-/// No more winners than this are priced.
-const MOST_WINNERS: usize = 6;
-
-/// No more than this where they don't all weigh 1.
-const MOST_WEIGHED: usize = 4;
 
 /// The weights of the winners in order, from one for each bidder.
 pub(crate) fn winner_weights(
@@ -41,7 +36,7 @@ pub fn many_win(count: usize, winners: &Choice, weights: &[u32]) -> bool
     if count > MOST_WINNERS {
         return true;
     }
-    if count <= MOST_WEIGHED {
+    if count <= MOST_WEIGHTED_WINNERS {
         return false;
     }
     !weigh_alike(winners, weights)

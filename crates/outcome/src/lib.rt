@@ -13,7 +13,7 @@ mod win;
 
 pub use certified::outcome_text;
 use fraction::{Fraction, add_fraction};
-use numbers::{add_net, add_number, add_numbers};
+use numbers::{add_net, add_numbers};
 pub use turns::rounds_text;
 pub use win::win_text;
 

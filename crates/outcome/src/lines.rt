@@ -6,11 +6,11 @@ ghost use Rattle.wide_num.specs.Range.{InRange};
 ghost use Rattle.outcome.specs.Fractions.{IsFractionOf, fraction_text};
 ghost use Rattle.outcome.specs.Prices.{line_of, lines_of, reserves_of, HasBid};
 
-use crate::numbers::{add_decimal, add_signed};
 use crate::prices::WinnerPrice;
 use crate::{Fraction, add_fraction, add_numbers};
 use bid_book::BidBook;
 use std::alloc::AllocError;
+use text_lines::{add_decimal, add_signed};
 use wide_num::Text;
 
 /// Adds the line of each winner.

@@ -9,11 +9,12 @@ ghost use Rattle.wide_num.specs.Range.{InRange};
 ghost use Rattle.wide_num.specs.Sums.{nth};
 ghost use Rattle.outcome.specs.Turns.{AreFractions, CanPrintTurn, Grows};
 
-use crate::{Fraction, add_fraction, add_number, add_numbers};
+use crate::{Fraction, add_fraction, add_numbers};
 use blocking::Block;
 use choices::Choice;
 use core_price::{Turn, members_of};
 use std::alloc::{AllocError, Global};
+use text_lines::add_number;
 use wide_num::Text;
 
 /// The lines of the turns of a pricing run: for each its point, and what blocks it.

@@ -5,11 +5,12 @@ ghost use Rattle.auction_model.specs.Book.{menu_of};
 ghost use Rattle.print_form.specs.WinText;
 ghost use Rattle.print_form.specs.WinText.{winner_line, winner_lines};
 
-use crate::{add_net, add_number, add_numbers};
+use crate::{add_net, add_numbers};
 use bid_book::BidBook;
 use choices::{Choice, value};
 use lots::Bid;
 use std::alloc::{AllocError, Global};
+use text_lines::add_number;
 use wide_num::Text;
 
 /// The lines of the winners of a choice, in order, and the line of their net value. The book knows the choice. The only error is
