@@ -1,7 +1,7 @@
 -- The small book of the tests keeps the rules of a book.
-use Rattle.std.proofs.Common.{inl, inr, ◌≡◌, ◌≢◌, ℕ, ◌≤◌, List, [], ◌∷◌, ◌++◌, ap, refl, get_or, arith, codes}
+use Rattle.std.proofs.Common.{inl, ◌≡◌, ◌≢◌, ℕ, ◌≤◌, List, [], ◌∷◌, ◌++◌, ap, refl, get_or, arith, codes}
 use Rattle.auction_model.specs.Book.{BookBid, Bidder}
-use Rattle.book_form.specs.BookForm.{IsBid, IsName, IsNameByte}
+use Rattle.book_form.specs.BookForm.{IsName, IsNameByte}
 use Rattle.book_form.specs.BookLines.{IsBookWithinLimits}
 use Rattle.bid_book.specs.Lists.{book_of}
 

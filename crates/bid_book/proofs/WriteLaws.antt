@@ -1,12 +1,12 @@
 -- How a text grows line by line to that of a book.
-use Rattle.std.specs.Prelude.{◌≡◌, ℕ, zero, suc, ◌+◌, ◌≤◌, ◌<◌, List, [], ◌∷◌, ◌++◌, None, codes, drop, get_or, length}
+use Rattle.std.specs.Prelude.{◌≡◌, ℕ, suc, ◌+◌, ◌≤◌, ◌<◌, List, [], ◌∷◌, ◌++◌, None, codes, drop, get_or, length}
 use Rattle.std.specs.Fmt.{decimal}
-use Rattle.std.proofs.Common.{refl, sym, ap, subst, ◌∙◌, arith, append_assoc}
+use Rattle.std.proofs.Common.{refl, sym, ap, ◌∙◌, arith, append_assoc}
 use Rattle.std.proofs.lemmas.List.{append-nil, at_drop_more, drop_all}
 use Rattle.line_text.specs.LineText.{text_of, Says, stated}
 use Rattle.auction_model.specs.Book.{Book, BookBid, Bidder, no_bid, no_bidder, bidder_of, bids_of, bid_of, lots_of}
 use Rattle.book_form.specs.BookForm.{IsBook}
-use Rattle.book_form.specs.BookLines.{Line, IsBookWithinLimits, bid_line, bid_lines, bidder_line, bidder_lines, head_lines, lines, numbers_text, reserve_line, supply_line}
+use Rattle.book_form.specs.BookLines.{Line, bid_line, bid_lines, bidder_line, bidder_lines, lines, numbers_text}
 use Rattle.lots.specs.declared.package.Bid.{Bid}
 use Rattle.bid_book.specs.Kept.{IsBidBook}
 use Rattle.bid_book.specs.Lists as given

@@ -1,11 +1,11 @@
-use Rattle.std.proofs.Common.{◌≡◌, List, ap, sym, subst, ◌∙◌, rules}
+use Rattle.std.proofs.Common.{◌≡◌, List, ap, sym, subst, rules}
 use Rattle.std.specs.List.{AllByRecursion}
 use Rattle.std.specs.Vec.Iter.{into_iter_items, into_iter_len}
 use Rattle.auction_model.specs.Book.{BookBid}
 use Rattle.bid_book.specs.declared.book.Entry.{Entry}
 use Rattle.bid_book.specs.Gathered.{AreEntries}
 use Rattle.bid_book.specs.Sound.{IsSoundBid}
-use Rattle.bid_book.proofs.TakenLaws.{AreHeld, all_held, fewer_left, next_sound, none_held, none_left, one_held}
+use Rattle.bid_book.proofs.TakenLaws.{all_held, fewer_left, next_sound, none_held, none_left, one_held}
 use Rattle.bid_book.proofs.gather.book_bidders.Goals as goal
 
 pub loop-bidder-init : goal.loop-bidder-init

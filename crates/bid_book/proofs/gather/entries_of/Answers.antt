@@ -1,10 +1,9 @@
-use Rattle.std.proofs.Common.{◌≡◌, ◌∙◌, sym, subst, rules}
-use Rattle.std.specs.List.{AllByRecursion}
+use Rattle.std.proofs.Common.{◌∙◌, sym, rules}
 use Rattle.std.specs.Vec.Iter.{into_iter_items, into_iter_len}
 use Rattle.bid_book.specs.Better.{BeatsAmong}
 use Rattle.bid_book.specs.declared.book.Entry.{Entry}
 use Rattle.bid_book.proofs.BetterLaws.{beats-as}
-use Rattle.bid_book.proofs.TakenLaws.{AreTaken, all_taken, fewer_left, next_bid, none_left, none_taken, one_taken}
+use Rattle.bid_book.proofs.TakenLaws.{all_taken, fewer_left, next_bid, none_left, none_taken, one_taken}
 use Rattle.bid_book.proofs.gather.entries_of.Goals as goal
 
 pub loop-bid-init : goal.loop-bid-init

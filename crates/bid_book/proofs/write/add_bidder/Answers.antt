@@ -1,6 +1,6 @@
-use Rattle.std.proofs.Common.{◌≡◌, ◌++◌, ◌+◌, ◌<◌, List, ℕ, length, get_or, ap, sym, refl, ◌∙◌, arith, rules}
+use Rattle.std.proofs.Common.{◌≡◌, ◌++◌, ◌<◌, List, ℕ, length, get_or, ap, refl, ◌∙◌, arith}
 use Rattle.line_text.specs.LineText.{text_of}
-use Rattle.auction_model.specs.Book.{BookBid, bidder_of, bids_of, bid_of, no_bid}
+use Rattle.auction_model.specs.Book.{BookBid, bidder_of, bids_of, no_bid}
 use Rattle.book_form.specs.BookLines.{bid_lines}
 use Rattle.bid_book.specs.Lists as lists
 use Rattle.bid_book.specs.Written.{bid_text}

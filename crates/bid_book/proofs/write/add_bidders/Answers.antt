@@ -1,5 +1,5 @@
-use Rattle.std.proofs.Common.{◌≡◌, ◌++◌, ◌+◌, ◌<◌, length, get_or, ap, sym, refl, ◌∙◌, arith, rules}
-use Rattle.auction_model.specs.Book.{Bidder, bidder_of, no_bidder}
+use Rattle.std.proofs.Common.{◌++◌, ap, refl, ◌∙◌, arith}
+use Rattle.auction_model.specs.Book.{Bidder}
 use Rattle.bid_book.specs.Written.{bidder_text, bidders_text}
 use Rattle.bid_book.proofs.WriteLaws.{all_added, bidder_is, next_bidder}
 use Rattle.bid_book.proofs.write.add_bidders.Goals as goal
