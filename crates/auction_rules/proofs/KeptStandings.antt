@@ -12,7 +12,7 @@ use Rattle.auction_rules.specs.declared.Reply.TheVariants as reply
 use Rattle.auction_rules.specs.PackageTests.{is_same, is_before, AllAfter, InOrder}
 use Rattle.auction_rules.specs.Terms.{Terms, entrant}
 use Rattle.auction_rules.specs.Rounds.{OwnRound, demand, prices_after, final_round, stage_by, stage_after, closed_by, closed_after, own_round, own_rounds}
-use Rattle.auction_rules.specs.Caps.{clock_bid}
+use Rattle.auction_rules.specs.Caps.{clock_bid, no_round, round_at}
 use Rattle.auction_rules.specs.Lines.{is_close, is_submit, closes, held_in, in_order, entry_before, priced, draft_of, drafted, draft_list, submitted_list, with_entry, without_entry, drafts_after}
 use Rattle.auction_rules.specs.Replies.{Standing, is_clock, is_closed, is_ok_reply, first_reply, when, has_entry, price_top, has_excess, own_reply, reply_after, admitted, standing}
 use Rattle.auction_rules.specs.View.{posted}
@@ -20,7 +20,8 @@ use Rattle.auction_rules.specs.BookOfLog.{bid_lots, pairs_of, bids_in_book}
 use Rattle.auction_rules.specs.Lawful.{HasCategories, NeverRises, AreDrafts}
 use Rattle.auction_rules.proofs.PackageLaws.{is_same-true, is_same-refl, is_before-not_same}
 use Rattle.auction_rules.proofs.Drafts.{AllAfter-trans, InOrder-in_order}
-use Rattle.auction_rules.proofs.Standings.{after_own, after_close, own_now, standing-own, standing-other, standing-close}
+use Rattle.auction_rules.proofs.Standings.{IsFinal, stopped, IsFinal-final_round, after_own, after_close, own_now, standing-own, standing-other, standing-close}
+use Rattle.auction_rules.proofs.States.{get_or-listing}
 use Rattle.auction_rules.proofs.Views.{a_close, an_own, another, cases_line, with_line-ok, with_line-refused, reply_after-own, is_of-parts}
 use Rattle.auction_rules.proofs.Sound.{stopped-no_clock, IsSound-standing}
 use Rattle.auction_rules.proofs.LawfulBids.{draft-parts, posts-excess, admitted-lawful, drafts-lawful, submitted-lawful}
@@ -249,6 +250,33 @@ IsKept-standing terms j (e ∷ log) =
         | another c theirs ↦ subst (IsKept terms j) (sym (standing-other terms j e lines c theirs)) before
       ])
     ]
+
+-- ---- the first round
+
+-- once the clock has stopped a round is closed
+stopped-closed : (n : ℕ) (final : Option ℕ) → IsFinal n final → is_clock (stage_by n final) ≡ false → 1 ≤ closed_by n final
+stopped-closed n None f over = cc
+stopped-closed n (Some final) (stopped some few) over = some
+
+pub rounds-some : (terms : Terms) (log : List Event) (j : ℕ) → is_clock (standing terms (admitted terms log) j).stage ≡ false → 1 ≤ length (standing terms (admitted terms log) j).rounds
+rounds-some terms log j over =
+    let lines : List Event = admitted terms log in
+    let held : ℕ → ℕ → List ℕ = held_in terms lines in
+    let final : Option ℕ = final_round terms held (closes lines) in
+    let closed : 1 ≤ closed_by (closes lines) final = stopped-closed (closes lines) final (IsFinal-final_round terms held (closes lines) final refl) over in
+    omega (arith, closed, length-own_rounds terms held j (closed_after terms held (closes lines)))
+
+-- in round 1 a bidder has the eligibility of the award
+own_rounds-first : (terms : Terms) (held : ℕ → ℕ → List ℕ) (j n : ℕ) → 1 ≤ length (own_rounds terms held j n) → (round_at (own_rounds terms held j n) 1).eligibility ≡ (entrant terms j).eligibility
+own_rounds-first terms held j n some =
+    let more : 0 < n = omega (arith, some, length-own_rounds terms held j n) in
+    ap (λ (r : OwnRound). r.eligibility) (get_or-listing (own_round terms held j) n 0 no_round more)
+
+pub rounds-first : (terms : Terms) (log : List Event) (j : ℕ) → 1 ≤ length (standing terms (admitted terms log) j).rounds
+    → (round_at (standing terms (admitted terms log) j).rounds 1).eligibility ≡ (entrant terms j).eligibility
+rounds-first terms log j some =
+    let lines : List Event = admitted terms log in
+    own_rounds-first terms (held_in terms lines) j (closed_after terms (held_in terms lines) (closes lines)) some
 
 -- ---- the lists after a log, and the number of bids in its book
 

@@ -20,7 +20,7 @@ ghost use Rattle.auction_rules.specs.Terms.{Terms, entrant, final_cap};
 ghost use Rattle.auction_rules.specs.Step.{AreRisingFrom, IsRaise, IsReachedShare, permille_at, ticks_of};
 ghost use Rattle.auction_rules.specs.Rounds.{OwnRound, prices_after};
 ghost use Rattle.auction_rules.specs.Caps.{IsLastEnough, list_fault, constraining, constraining_number, round_at};
-ghost use Rattle.auction_rules.specs.Replies.{is_of, reply_to, has_entry, admitted, standing};
+ghost use Rattle.auction_rules.specs.Replies.{is_clock, is_of, reply_to, has_entry, admitted, standing};
 ghost use Rattle.auction_rules.specs.State.{state_of, reply_in, state_with};
 ghost use Rattle.auction_rules.specs.View.{view, own_replies};
 ghost use Rattle.auction_rules.specs.Lawful.{AreDrafts, AreLimited, HasCategories, IsLawfulBid, NeverRises};
@@ -152,11 +152,16 @@ pub fn sound_standings()
 {}
 
 /// What a bidder's rounds and lists keep after any log, on which relative caps rest: there are no more closed rounds than there may be; the
-/// eligibility never rises, from that of the award to that of the posted round. Where the packages of the log have the award's
+/// eligibility never rises, from that of the award, which is that of round 1, to that of the posted round; and once the clock has
+/// stopped a round is closed. Where the packages of the log have the award's
 /// number of categories, the draft list and the submitted list have no more entries than they may, in the order of their
 /// packages, each package once, and each of them the bidder may draft.
 pub fn kept_standings()
     ensures rounds { (terms : Terms) (log : List Event) (j : ℕ) → length (standing terms (admitted terms log) j).rounds ≤ MOST_ROUNDS }
+    ensures some { (terms : Terms) (log : List Event) (j : ℕ) → is_clock (standing terms (admitted terms log) j).stage ≡ false
+        → 1 ≤ length (standing terms (admitted terms log) j).rounds }
+    ensures first { (terms : Terms) (log : List Event) (j : ℕ) → 1 ≤ length (standing terms (admitted terms log) j).rounds
+        → (round_at (standing terms (admitted terms log) j).rounds 1).eligibility ≡ (entrant terms j).eligibility }
     ensures eligibility { (terms : Terms) (log : List Event) (j : ℕ)
         → NeverRises (entrant terms j).eligibility (standing terms (admitted terms log) j).rounds (standing terms (admitted terms log) j).eligibility }
     ensures drafts { (terms : Terms) (log : List Event) (j : ℕ) → AllByRecursion (HasCategories terms) log

@@ -6,8 +6,8 @@ ghost use Rattle.log_file.specs.ReplyText.{admitted_text, reply_line, reply_text
 
 use crate::CloseDone;
 use auction_rules::Reply;
-use itoa::Buffer;
 use std::alloc::{AllocError, Global};
+use text_lines::{add_decimal, add_number};
 use wide_num::Text;
 
 /// The line of the reply to the record of this number, counted from 1.
@@ -24,7 +24,7 @@ pub fn reply_line(
     ensures { IfOk result (λ text. text ≡ reply_line number reply.now done prices.now) }
 {
     let mut text = Text::new(alloc);
-    add_decimal(&mut text, number)?;
+    add_decimal(&mut text, number as u128)?;
     text.push(b' ')?;
     add_reply(&mut text, *reply, done, prices)?;
     text.push(b'\n')?;
@@ -81,7 +81,7 @@ fn add_round(text: &mut Text, round: u32, prices: &[u64]) -> Result<(), AllocErr
     ensures { OnOk result (text.new ≡ text.old ++ (codes "round " ++ decimal round ++ numbers_text prices.now)) }
 {
     text.add(b"round ")?;
-    add_decimal(text, round as u64)?;
+    add_decimal(text, round as u128)?;
     for price in prices {
         add_number(text, *price)?;
     }
@@ -112,23 +112,5 @@ fn add_two(text: &mut Text, word: &[u8], m: u64, n: u64) -> Result<(), AllocErro
     text.add(word)?;
     add_number(text, m)?;
     add_number(text, n)?;
-    Ok(())
-}
-
-/// Adds a number behind one space.
-fn add_number(text: &mut Text, n: u64) -> Result<(), AllocError>
-    ensures { OnOk result (text.new ≡ text.old ++ 32 ∷ decimal n) }
-{
-    text.push(b' ')?;
-    add_decimal(text, n)?;
-    Ok(())
-}
-
-/// Adds a number.
-fn add_decimal(text: &mut Text, n: u64) -> Result<(), AllocError>
-    ensures { OnOk result (text.new ≡ text.old ++ decimal n) }
-{
-    let mut buffer = Buffer::new();
-    text.add(buffer.format(n).as_bytes())?;
     Ok(())
 }
