@@ -10,7 +10,7 @@ ghost use Rattle.cert_form.specs.Certificate.{CertValue};
 ghost use Rattle.cert_form.specs.CertText.{IsCertificate};
 ghost use Rattle.cert_form.specs.Says.{cert_text, CertSays};
 
-/// Bytes say one thing of a certificate: a certificate, where the first faulty line begins, or where the first line begins
+/// Bytes say at most one thing of a certificate: a certificate, where the first faulty line begins, or where the first line begins
 /// that is of right form and has a number out of range.
 pub fn one_cert()
     ensures { (bidders states : ℕ) (bytes : List ℕ) (x y : Said CertValue ℕ) → CertSays bidders states bytes x → CertSays bidders states bytes y → x ≡ y }

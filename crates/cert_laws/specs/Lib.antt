@@ -1,3 +1,4 @@
+pub mod MarketTests
 pub mod Tests
 pub mod Sound
 pub mod Priced

@@ -1,14 +1,16 @@
 -- The tests C1 to C9 of a certificate of a book and the weights of its bidders. A test asks something at each of its places, in the order of the places, and nothing at any other number.
-use Rattle.std.specs.Prelude.{◌≡◌, ℕ, zero, suc, ◌+◌, ◌-◌, ◌*◌, ◌^◌, ◌<◌, ◌≤◌, IsTrue, IsFalse, not, List, length, ℤ, pos, ◌+ℤ◌, ◌-ℤ◌, ◌*ℤ◌, ◌≤ℤ◌, ◌<ℤ◌, ◌⊎◌, if◌then◌else◌}
+use Rattle.std.specs.Prelude.{◌≡◌, ℕ, zero, suc, ◌+◌, ◌-◌, ◌*◌, ◌^◌, ◌<◌, ◌≤◌, IsTrue, List, length, ℤ, pos, ◌+ℤ◌, ◌-ℤ◌, ◌*ℤ◌, ◌≤ℤ◌, ◌<ℤ◌, ◌⊎◌, if◌then◌else◌}
 use Rattle.auction_model.specs.Package.{is_within, less}
-use Rattle.auction_model.specs.Market.{is_number_before, value_of, number_of, worth_in, uses}
+use Rattle.auction_model.specs.Market.{is_number_before, value_of, number_of, uses}
 use Rattle.auction_model.specs.Menu.{Menu, packages_after, without}
 use Rattle.auction_model.specs.Place.{states_of, place_of, left_at}
 use Rattle.auction_model.specs.Table.{entry_at}
 use Rattle.auction_model.specs.Lowered.{of_bidder}
 use Rattle.auction_model.specs.Book.{Book, bids_of, net_of, menu_of, market_of}
 use Rattle.auction_model.specs.Prices.{sum_over, everyone}
-use Rattle.cert_form.specs.Certificate.{CertValue, WithoutValue, RowValue, is_member, part_of, row_of}
+pub use Rattle.cert_laws.specs.MarketTests.{sum_holding}
+use Rattle.cert_laws.specs.MarketTests.{won_in, vickrey_in, PaysWithinBids, IsTight, HasTightRow, ShowsLeastSum, ShowsNearest}
+use Rattle.cert_form.specs.Certificate.{CertValue, WithoutValue, RowValue, part_of}
 
 -- The Bellman rules for line k at place s: the last line is not below 0, each other line is at least the line below it, and at least the worth of each bid that fits with what the line below has for the rest.
 pub record ObeysAt (m : Menu) (worth : ℕ → ℕ → ℤ) (supply : List ℕ) (table : List (List ℤ)) (k s : ℕ) : Type 0 where
@@ -74,40 +76,27 @@ pub record C4 (book : Book) (c : CertValue) (place : ℕ) : Type 0 where
 
 -- the net amount of a winner's bid, and 0 for a loser
 abbrev pub won : Book → CertValue → ℕ → ℤ
-won book c j = worth_in (market_of book) c.choice j
+won book = won_in (market_of book)
 
-pub record C5 (book : Book) (c : CertValue) (place : ℕ) : Type 0 where
-  pub winner : 0 < place → place ≤ bidders_of book → IsTrue (uses c.choice place) → (pos 0 ≤ℤ of_bidder c.pay place) × (of_bidder c.pay place ≤ℤ (c.den *ℤ won book c place))
-  pub loser : 0 < place → place ≤ bidders_of book → IsFalse (uses c.choice place) → of_bidder c.pay place ≡ pos 0
+-- the tests of payments, rows and multipliers, in the market of the book
+abbrev pub C5 : Book → CertValue → ℕ → Type 0
+C5 book = PaysWithinBids (market_of book)
 
--- a row: its members win, its choice is known, fits and uses no member, and what its members pay is just what the choice asks of them
-pub record IsTightRow (book : Book) (c : CertValue) (row : RowValue) : Type 0 where
-  pub winners : (j : ℕ) → IsTrue (is_member row.members j) → IsTrue (uses c.choice j)
-  pub allowed : IsTrue ((market_of book).allowed row.choice)
-  pub unused : (j : ℕ) → IsTrue (is_member row.members j) → number_of row.choice j ≡ 0
-  pub tight : sum_over (is_member row.members) (of_bidder c.pay) (bidders_of book)
-      ≡ c.den *ℤ (value_of (market_of book) row.choice -ℤ sum_over (λ j. not (is_member row.members j)) (won book c) (bidders_of book))
+abbrev pub IsTightRow : Book → CertValue → RowValue → Type 0
+IsTightRow book = IsTight (market_of book)
 
-pub record C6 (book : Book) (c : CertValue) (place : ℕ) : Type 0 where
-  pub row : 0 < place → place ≤ length c.rows → IsTightRow book c (row_of c.rows place)
+abbrev pub C6 : Book → CertValue → ℕ → Type 0
+C6 book = HasTightRow (market_of book)
 
--- the sum over rows 1 to n of the numbers of those that hold bidder j
-abbrev pub sum_holding : List RowValue → ℕ → (RowValue → ℤ) → ℕ → ℤ
-sum_holding rows j number zero = pos 0
-sum_holding rows j number (suc n) = sum_holding rows j number n +ℤ (if is_member (row_of rows (suc n)).members j then number (row_of rows (suc n)) else pos 0)
-
-pub record C7 (book : Book) (c : CertValue) (place : ℕ) : Type 0 where
-  pub sign : 0 < place → place ≤ length c.rows → pos 0 ≤ℤ (row_of c.rows place).first
-  pub columns : (j : ℕ) → 0 < j → j ≤ bidders_of book → place ≡ length c.rows + j → IsTrue (uses c.choice j) → sum_holding c.rows j (λ row. row.first) (length c.rows) ≡ c.den
+abbrev pub C7 : Book → CertValue → ℕ → Type 0
+C7 book = ShowsLeastSum (market_of book)
 
 -- the Vickrey price of winner j by its part
 abbrev pub vickrey_of : Book → CertValue → ℕ → ℤ
-vickrey_of book c j = (value_of (market_of book) (part_of c.withouts j).choice -ℤ c.value) +ℤ won book c j
+vickrey_of book = vickrey_in (market_of book)
 
-pub record C8 (book : Book) (w : ℕ → ℕ) (c : CertValue) (place : ℕ) : Type 0 where
-  pub sign : 0 < place → place ≤ length c.rows → (pos 0 <ℤ (row_of c.rows place).first) ⊎ (pos 0 ≤ℤ (row_of c.rows place).second)
-  pub columns : (j : ℕ) → 0 < j → j ≤ bidders_of book → place ≡ length c.rows + j → IsTrue (uses c.choice j)
-      → of_bidder c.pay j -ℤ (c.den *ℤ vickrey_of book c j) ≡ pos (w j) *ℤ sum_holding c.rows j (λ row. row.second) (length c.rows)
+abbrev pub C8 : Book → (ℕ → ℕ) → CertValue → ℕ → Type 0
+C8 book = ShowsNearest (market_of book)
 
 -- den times the net amount of a bid, less den times the winner's net amount plus what it pays
 abbrev pub lowered_net : Book → CertValue → ℕ → ℕ → ℤ

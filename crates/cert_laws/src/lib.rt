@@ -35,7 +35,8 @@ pub fn sound_yes()
         → Holds book w c → IsSound book w c }
 {}
 
-/// A certificate has one verdict: all tests hold, or there is one place of one test at which it fails first.
+/// A certificate has at most one verdict: not both that all tests hold and that one fails first, and at most one place of one test at which
+/// it fails first.
 pub fn one_verdict()
     ensures one { (book : Book) (w : ℕ → ℕ) (c : CertValue) (t p u q : ℕ) → FailsFirst book w c t p → FailsFirst book w c u q → (t ≡ u) × (p ≡ q) }
     ensures not_both { (book : Book) (w : ℕ → ℕ) (c : CertValue) (t p : ℕ) → Holds book w c → FailsFirst book w c t p → ⊥ }

@@ -10,7 +10,7 @@ use std::alloc::Global;
 use text_lines::{NumbersStop, numbers_behind};
 use wide_num::NumList;
 
-/// The numbers of a line, and where the next line begins. A number that is out of range stands as 0.
+/// The numbers of a line, and where the next line begins. Where one is out of range the list has only as many numbers.
 #[derive(Drop)]
 pub(crate) struct LineNumbers {
     pub(crate) numbers: NumList,

@@ -170,6 +170,21 @@ fn names_the_first_faulty_line_behind_the_head(rt: HostRuntime) -> Result<(), Fa
         (PARTS, "pay 0 0\nrows 11\n", CertStop::Form(97)),
         (PARTS, "pay 0 0\nrows 10\n", CertStop::Form(105)),
         (COUNT, "row\n", CertStop::Form(104)),
+        (
+            COUNT,
+            "row 1329227995784915872903807060280344576\n",
+            CertStop::Form(104),
+        ),
+        (
+            COUNT,
+            "row 1 2\nmult 1 3\nchoice 1329227995784915872903807060280344576 0\n",
+            CertStop::Form(121),
+        ),
+        (
+            PARTS,
+            "pay 0 0\nrows 1329227995784915872903807060280344576\n",
+            CertStop::Form(97),
+        ),
         (COUNT, "row 0\n", CertStop::Form(104)),
         (COUNT, "row 3\n", CertStop::Form(104)),
         (COUNT, "row 1 1\n", CertStop::Form(104)),

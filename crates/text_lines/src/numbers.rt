@@ -30,7 +30,7 @@ struct Tally {
     beyond: bool,
 }
 
-/// A number of a line and where it ends. One that is out of range stands as 0.
+/// A number of a line and where it ends, or that one out of range ends there.
 #[derive(Clone, Copy)]
 struct Kept {
     number: i128,
@@ -52,8 +52,8 @@ const TOP: u128 = 1 << 120;
 /// A number below this is of 64 bits with one more digit.
 const SHORT: u64 = 1 << 60;
 
-/// Appends to an empty list the numbers of a text, each behind one space, to its end. Says whether one isn't strictly between
-/// -2^120 and 2^120; such a one stands as 0. Each number may have any length.
+/// Appends to an empty list the numbers of a text, each behind one space, to its end. Each number may have any length. Says whether
+/// one isn't strictly between -2^120 and 2^120; then the list has as many numbers as the text, and says no more of them.
 ///
 /// Errors: `Form` where the text is no such text; the list then holds the numbers before the first fault.
 pub fn read_numbers(text: &[u8], out: &mut Vec<i128>) -> Result<bool, NumbersStop>
