@@ -8,3 +8,4 @@ pub mod Sizes
 pub mod Surplus
 pub mod Blocks
 pub mod Some
+mod WorkedCases
