@@ -10,6 +10,7 @@ pub mod Blocks
 pub mod Gains
 pub mod GrowthLaws
 pub mod LineLaws
+pub mod NarrowLines
 pub mod TestedLaws
 pub mod TableLaws
 pub mod EarlierLaws

@@ -1,5 +1,5 @@
 -- A number is a weight times a sum exactly where the quotient is the sum and nothing is left over.
-use Rattle.std.specs.Prelude.{◌≡◌, ◌≢◌, ℕ, ◌≤◌, ◌==◌, ◌↔◌, Bool, IsTrue, false, ℤ, pos, ◌*ℤ◌, ◌+ℤ◌, ◌<ℤ◌, refl}
+use Rattle.std.specs.Prelude.{◌≡◌, ◌≢◌, ℕ, ◌≤◌, ◌==◌, ◌↔◌, Bool, IsTrue, false, ℤ, pos, ◌*ℤ◌, ◌+ℤ◌, refl}
 use Rattle.std.specs.Int.RustNames.{FitsSigned, int_div, int_rem}
 use Rattle.std.specs.Int.{w128}
 use Rattle.std.proofs.Common.{sym, ◌∙◌, ap, subst, arith, to_z, of_z}

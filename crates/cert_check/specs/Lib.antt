@@ -3,6 +3,7 @@ pub mod Head
 pub mod Multipliers
 pub mod Verdicts
 pub mod Faults
+pub mod Narrow
 pub mod Growth
 pub mod LoweredWorths
 pub mod Tested

@@ -1,10 +1,11 @@
 // Going through the places of a line where a package fits. In one category, block `q` of a line has the places with `q` lots of
 // that category left. Where the package fits, the place of the rest is lower by the place of the package. So behind the last
 // category of which the package has some, the places are one run.
-ghost use Rattle.std.specs.Prelude.{◌≡◌, ◌↔◌, ◌+◌, ◌^◌, ◌≤◌, ◌<◌, length, ◌+ℤ◌, ◌≤ℤ◌, unsigned_abs, IsTrue};
+ghost use Rattle.std.specs.Prelude.{◌≡◌, ◌↔◌, ℕ, ◌+◌, ◌^◌, ◌≤◌, ◌<◌, length, ◌+ℤ◌, ◌≤ℤ◌, unsigned_abs, IsTrue};
 ghost use Rattle.auction_model.specs.Package.{IsNothingFrom};
 ghost use Rattle.auction_model.specs.Place.{states_of, place_of, widths_of};
-ghost use Rattle.cert_check.specs.Faults.{FirstFault, CoversRun, CoversBlock};
+ghost use Rattle.cert_check.specs.Faults.{at, FirstFault, CoversRun, CoversBlock};
+ghost use Rattle.cert_check.specs.Narrow.{IsSmall};
 
 use crate::rule::LineRule;
 
@@ -17,8 +18,51 @@ fn covers(here: i128, below: i128, worth: i128) -> bool
     worth + below <= here
 }
 
-/// The first place from `start` on, below `stop` and `until`, at which the line breaks the rule, and `until` where there is none.
-pub fn run_fault(rule: &LineRule, start: usize, stop: usize, until: usize) -> usize
+/// The same as `covers` in 64 bits.
+fn covers_narrow(here: i64, below: i64, worth: i64) -> bool
+    requires worth { unsigned_abs worth ≤ 2 ^ 61 }
+    requires below { unsigned_abs below ≤ 2 ^ 61 }
+    ensures { IsTrue result ↔ ((worth +ℤ below) ≤ℤ here) }
+{
+    worth + below <= here
+}
+
+/// Whether each number is at least the worth and that of the line below. It goes on where one isn't, so that it takes several
+/// numbers at a time.
+fn covers_all(line: &[i64], below: &[i64], worth: i64) -> bool
+    requires places { length below.now ≡ length line.now }
+    requires worth { unsigned_abs worth ≤ 2 ^ 61 }
+    requires sizes { IsSmall below.now }
+    ensures { IsTrue result → (s : ℕ) → s < length line.now → (worth +ℤ at below.now s) ≤ℤ at line.now s }
+{
+    let mut all = true;
+    for i in 0..line.len() {
+        all &= covers_narrow(line[i], below[i], worth);
+    }
+    all
+}
+
+/// Whether the rule is seen to hold from `start` to `end` in 64 bits.
+fn holds_narrow(rule: &LineRule, start: usize, end: usize) -> bool
+    requires end { end ≤ length rule.now.line.now }
+    requires shift { rule.now.shift ≤ start }
+    ensures { IsTrue result → (s : ℕ) → s < end → CoversRun rule.now start end s }
+{
+    if start >= end {
+        return true;
+    }
+    if !rule.is_narrow {
+        return false;
+    }
+    covers_all(
+        &rule.narrow_line[start..end],
+        &rule.narrow_below[start - rule.shift..end - rule.shift],
+        rule.narrow_worth,
+    )
+}
+
+/// The same as `run_fault`, place by place in 128 bits.
+fn exact_fault(rule: &LineRule, start: usize, stop: usize, until: usize) -> usize
     requires stop { stop ≤ length rule.now.line.now }
     requires shift { rule.now.shift ≤ start }
     ensures { FirstFault (CoversRun rule.now start stop) until result }
@@ -29,6 +73,18 @@ pub fn run_fault(rule: &LineRule, start: usize, stop: usize, until: usize) -> us
         }
     }
     until
+}
+
+/// The first place from `start` on, below `stop` and `until`, at which the line breaks the rule, and `until` where there is none.
+pub fn run_fault(rule: &LineRule, start: usize, stop: usize, until: usize) -> usize
+    requires stop { stop ≤ length rule.now.line.now }
+    requires shift { rule.now.shift ≤ start }
+    ensures { FirstFault (CoversRun rule.now start stop) until result }
+{
+    if holds_narrow(rule, start, stop.min(until)) {
+        return until;
+    }
+    exact_fault(rule, start, stop, until)
 }
 
 /// How many categories there are up to the last of which a package has some, and at least one.

@@ -1,4 +1,3 @@
-use Rattle.std.proofs.Common.{rules}
 use Rattle.cert_check.proofs.TimesLaws.{is-exact, not-exact}
 use Rattle.cert_check.proofs.multipliers.is_times.Goals as goal
 
