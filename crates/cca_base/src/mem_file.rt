@@ -1,12 +1,12 @@
 // One file in memory, and changes of one file in a list of them.
-ghost use Rattle.std.specs.Prelude.{◌≡◌, ◌++◌, ◌-◌, length, min, take, drop, unwrap_or, is_some, string_bytes, [], Some, None, IsTrue, OnOk, OnErr};
+ghost use Rattle.std.specs.Prelude.{◌≡◌, ◌++◌, ◌-◌, length, min, take, drop, unwrap_or, [], Some, IsTrue, OnOk, OnErr};
 ghost use Rattle.std.specs.Option.{option_map};
 ghost use Rattle.cca_base.specs.Faults.{Rose};
 ghost use Rattle.cca_base.specs.Files.{KeepsFiles, CountsOnly, Becomes};
-ghost use Rattle.cca_base.specs.MemFiles.{IsFresh, entry, bytes_in, mem_folder};
+ghost use Rattle.cca_base.specs.MemFiles.{bytes_in, mem_folder};
 
 use crate::Failed;
-use crate::named::{Named, place_of};
+use crate::named::{Named, count_append_fault, place_of};
 use std::alloc::{AllocError, Global};
 
 /// A file of a known name. Its `bytes` are `None` exactly where it is missing.
@@ -19,62 +19,54 @@ pub struct MemFile {
 }
 
 impl Named for MemFile {
-    ghost use Rattle.std.specs.Prelude.{string_bytes};
-    ghost use Rattle.cca_base.specs.MemFiles.{IsFresh};
+    ghost use Rattle.std.specs.Prelude.{true, None};
+    ghost use Rattle.cca_base.specs.MemFiles.{mem_seen};
 
-    ghost name_of = { λ f. string_bytes f.name };
+    ghost seen = { mem_seen };
 
-    ghost is_new = { IsFresh };
+    ghost told = { true };
+
+    ghost first_seen = { λ name room. record { name = name; file = None; load_faults = 0; append_faults = 0; room = None } };
 
     fn name(&self) -> &str {
         self.name.as_str()
     }
 
-    fn with_name(name: String) -> MemFile {
-        MemFile {
+    fn load_faults(&self) -> u64 {
+        self.load_faults
+    }
+
+    fn append_faults(&self) -> u64 {
+        self.append_faults
+    }
+
+    fn set_load_faults(&mut self, count: u64) {
+        self.load_faults = count;
+    }
+
+    fn set_append_faults(&mut self, count: u64) {
+        self.append_faults = count;
+    }
+
+    fn with_name(_alloc: Global, name: String, _room: usize) -> Result<MemFile, AllocError> {
+        Ok(MemFile {
             name,
             bytes: None,
             load_faults: 0,
             append_faults: 0,
-        }
+        })
     }
 }
 
 // The bytes of the file of this name.
 pub(crate) fn bytes_of<'a>(files: &'a [MemFile], name: &str) -> Option<&'a [u8]>
-    requires { IsTrue (is_some (entry files.now name.now)) }
+    requires { IsTrue ((mem_folder files.now).knows name.now) }
     ensures { option_map (λ b. b.now) result ≡ (mem_folder files.now).file name.now }
 {
     match &files[place_of(files, name)].bytes {
         Some(bytes) => Some(bytes.as_slice()),
         None => None,
     }
-}
-
-// Counts a failed load of the name.
-pub(crate) fn count_load_fault(files: &mut [MemFile], name: &str)
-    requires { IsTrue (is_some (entry files.old name.now)) }
-    ensures kept { KeepsFiles (mem_folder files.old) (mem_folder files.new) }
-    ensures count { CountsOnly name.now (mem_folder files.old).load_faults (mem_folder files.new).load_faults }
-    ensures rose { Rose ((mem_folder files.old).load_faults name.now) ((mem_folder files.new).load_faults name.now) }
-    ensures appends { (mem_folder files.new).append_faults ≡ (mem_folder files.old).append_faults }
-{
-    let place = place_of(files, name);
-    let file = &mut files[place];
-    file.load_faults = file.load_faults.saturating_add(1);
-}
-
-// Counts a failed append to the name.
-pub(crate) fn count_append_fault(files: &mut [MemFile], name: &str)
-    requires { IsTrue (is_some (entry files.old name.now)) }
-    ensures kept { KeepsFiles (mem_folder files.old) (mem_folder files.new) }
-    ensures count { CountsOnly name.now (mem_folder files.old).append_faults (mem_folder files.new).append_faults }
-    ensures rose { Rose ((mem_folder files.old).append_faults name.now) ((mem_folder files.new).append_faults name.now) }
-    ensures loads { (mem_folder files.new).load_faults ≡ (mem_folder files.old).load_faults }
-{
-    let place = place_of(files, name);
-    let file = &mut files[place];
-    file.append_faults = file.append_faults.saturating_add(1);
 }
 
 // Adds bytes to the end of a file, which is made where it is missing.
@@ -91,15 +83,33 @@ fn extend(alloc: Global, bytes: &mut Option<Vec<u8>>, piece: &[u8]) -> Result<()
     }
 }
 
-// Adds a piece to the file of this name, which is made where it is missing. For want of memory it counts a
-// failed append instead.
+// Adds a piece to the file of this name, which is made where it is missing.
+fn add_bytes(
+    alloc: Global,
+    files: &mut [MemFile],
+    name: &str,
+    piece: &[u8],
+) -> Result<(), AllocError>
+    requires { IsTrue ((mem_folder files.old).knows name.now) }
+    ensures added { OnOk result (Becomes name.now (mem_folder files.old) (mem_folder files.new) (Some (unwrap_or ((mem_folder files.old).file name.now) [] ++ piece.now)) (length piece.now)) }
+    ensures kept { OnErr result (KeepsFiles (mem_folder files.old) (mem_folder files.new)) }
+    ensures appends { (mem_folder files.new).append_faults ≡ (mem_folder files.old).append_faults }
+    ensures loads { (mem_folder files.new).load_faults ≡ (mem_folder files.old).load_faults }
+{
+    let place = place_of(files, name);
+    let file = &mut files[place];
+    extend(alloc, &mut file.bytes, piece)?;
+    Ok(())
+}
+
+// Adds a piece as `add_bytes` does, and counts a failed append where that fails.
 pub(crate) fn add_to(
     alloc: Global,
     files: &mut [MemFile],
     name: &str,
     piece: &[u8],
 ) -> Result<(), Failed>
-    requires { IsTrue (is_some (entry files.old name.now)) }
+    requires { IsTrue ((mem_folder files.old).knows name.now) }
     ensures added { OnOk result (Becomes name.now (mem_folder files.old) (mem_folder files.new) (Some (unwrap_or ((mem_folder files.old).file name.now) [] ++ piece.now)) (length piece.now)) }
     ensures quiet { OnOk result ((mem_folder files.new).append_faults ≡ (mem_folder files.old).append_faults) }
     ensures kept { OnErr result (KeepsFiles (mem_folder files.old) (mem_folder files.new)) }
@@ -107,10 +117,8 @@ pub(crate) fn add_to(
     ensures rose { OnErr result (Rose ((mem_folder files.old).append_faults name.now) ((mem_folder files.new).append_faults name.now)) }
     ensures loads { (mem_folder files.new).load_faults ≡ (mem_folder files.old).load_faults }
 {
-    let place = place_of(files, name);
-    let file = &mut files[place];
-    if extend(alloc, &mut file.bytes, piece).is_err() {
-        file.append_faults = file.append_faults.saturating_add(1);
+    if add_bytes(alloc, files, name, piece).is_err() {
+        count_append_fault(files, name);
         return Err(Failed);
     }
     Ok(())
@@ -118,7 +126,7 @@ pub(crate) fn add_to(
 
 // Gives the file of this name these bytes.
 pub(crate) fn set_bytes(files: &mut [MemFile], name: &str, bytes: Vec<u8>)
-    requires { IsTrue (is_some (entry files.old name.now)) }
+    requires { IsTrue ((mem_folder files.old).knows name.now) }
     ensures set { Becomes name.now (mem_folder files.old) (mem_folder files.new) (Some bytes.items) 0 }
     ensures loads { (mem_folder files.new).load_faults ≡ (mem_folder files.old).load_faults }
     ensures appends { (mem_folder files.new).append_faults ≡ (mem_folder files.old).append_faults }
@@ -140,20 +148,4 @@ pub(crate) fn copy_from(file: &[u8], at: usize, bite: usize, buf: &mut [u8]) -> 
     let n = rest.len().min(buf.len()).min(bite);
     buf[..n].copy_from_slice(&rest[..n]);
     n
-}
-
-// How often a load of the name has failed.
-pub(crate) fn load_faults_of(files: &[MemFile], name: &str) -> u64
-    requires { IsTrue (is_some (entry files.now name.now)) }
-    ensures { result ≡ (mem_folder files.now).load_faults name.now }
-{
-    files[place_of(files, name)].load_faults
-}
-
-// How often an append to the name has failed.
-pub(crate) fn append_faults_of(files: &[MemFile], name: &str) -> u64
-    requires { IsTrue (is_some (entry files.now name.now)) }
-    ensures { result ≡ (mem_folder files.now).append_faults name.now }
-{
-    files[place_of(files, name)].append_faults
 }

@@ -3,12 +3,13 @@ ghost use Rattle.std.specs.Prelude.{◌≡◌, ℕ, List, string_bytes, IfOk};
 ghost use Rattle.std.specs.List.{list_any};
 ghost use Rattle.std.specs.Str.{bytes_eq};
 ghost use Rattle.std.specs.Io.{ReadsAtMost, WritesAtMost};
-ghost use Rattle.cca_base.specs.RealFiles.{real_folder};
+ghost use Rattle.cca_base.specs.RealFiles.{real_folder, real_seen, known};
+ghost use Rattle.cca_base.specs.Entries.{roomy_by};
 
-use crate::known_file::{
-    KnownFile, append_faults_of, count_append_fault, count_load_fault, load_faults_of,
+use crate::known_file::KnownFile;
+use crate::named::{
+    append_faults_of, count_append_fault, count_load_fault, load_faults_of, new_files,
 };
-use crate::named::new_files;
 use crate::sink::taken;
 use crate::{Failed, Files};
 use std::alloc::{AllocError, Global};
@@ -39,7 +40,7 @@ impl<R: rt::Files<File = File> + Drop> RealFiles<R> {
     {
         Ok(RealFiles {
             rt,
-            files: new_files(alloc, names)?,
+            files: new_files(alloc, names, 0)?,
         })
     }
 }
@@ -94,5 +95,5 @@ impl<R: rt::Files<File = File> + Drop> Files for RealFiles<R> {
         append_faults_of(&self.files, name)
     }
 
-    ghost roomy = { λ f name told some. Prim.cc };
+    ghost roomy = { λ f name told some. roomy_by real_seen (λ e none. Prim.cc) (known f.files.items name) some };
 }

@@ -1,7 +1,7 @@
 // Calls with ample memory, with answers found by hand.
 use crate::{
-    Files, MemFiles, MemSink, ReadStop, RealFiles, RealSink, Sink, WriteStop, read_all, write_file,
-    write_sink,
+    CleanFiles, CleanSink, Files, MemFiles, MemSink, ReadStop, RealFiles, RealSink, Sink,
+    WriteStop, read_all, write_file, write_sink,
 };
 use std::test::Fail;
 use std::{env, fs, process};
@@ -142,5 +142,55 @@ fn reads_and_appends_real_files(rt: HostRuntime) -> Result<(), Fail> {
     assert_eq!(rt; bytes.as_slice(), b"abcd".as_slice());
     assert_eq!(rt; files.append_faults(name), 0);
     fs::remove_file(&rt, name)?;
+    Ok(())
+}
+
+#[test]
+fn reads_a_real_file_of_several_pieces(rt: HostRuntime) -> Result<(), Fail> {
+    let alloc = rt.alloc();
+    let folder = env::temp_dir(&rt)?;
+    let number = process::id(rt.process());
+    let text = format!(in alloc; "{}/cca_base_pieces_{number}", folder.to_string_lossy())?;
+    let name = text.as_str();
+    let names = [String::from_str(alloc, name)?];
+    let mut files = RealFiles::new(alloc, &rt, &names)?;
+    let mut whole = vec![in alloc; b'a'; 65_536]?;
+    whole.extend_from_slice(&vec![in alloc; b'b'; 65_536]?)?;
+    whole.extend_from_slice(b"the last piece")?;
+    write_file(&mut files, name, &whole)?;
+    let bytes = read_all(alloc, &mut files, name, 200_000)?;
+    assert_eq!(rt; bytes.as_slice(), whole.as_slice());
+    fs::remove_file(&rt, name)?;
+    Ok(())
+}
+
+#[test]
+fn fills_a_room_and_no_more(rt: HostRuntime) -> Result<(), Fail> {
+    let alloc = rt.alloc();
+    let names = [String::from_str(alloc, "cert")?];
+    let mut files = CleanFiles::new(alloc, &names, 5)?;
+    assert_eq!(rt; files.append("cert", b"abc")?, 3);
+    assert!(rt; files.append("cert", b"def").is_err());
+    assert_eq!(rt; files.append("cert", b"de")?, 2);
+    assert_eq!(rt; files.bytes("cert"), b"abcde".as_slice());
+    assert_eq!(rt; files.append_faults("cert"), 1);
+    let bytes = read_all(alloc, &mut files, "cert", 5)?;
+    assert_eq!(rt; bytes.as_slice(), b"abcde".as_slice());
+    assert_eq!(rt; files.load_faults("cert"), 0);
+    Ok(())
+}
+
+#[test]
+fn takes_what_has_room(rt: HostRuntime) -> Result<(), Fail> {
+    let alloc = rt.alloc();
+    let mut out = CleanSink::new(alloc, 4)?;
+    write_sink(&mut out, b"abc")?;
+    assert_eq!(rt;
+        write_sink(&mut out, b"de"),
+        Err(WriteStop::Fault { written: 0 })
+    );
+    write_sink(&mut out, b"d")?;
+    assert_eq!(rt; out.bytes(), b"abcd".as_slice());
+    assert_eq!(rt; out.faults(), 1);
     Ok(())
 }
