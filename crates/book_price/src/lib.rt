@@ -5,13 +5,9 @@
 #![tactic(auto)]
 
 mod bidder_rows;
-#[cfg(test)]
-mod cert_tests;
 mod certificate;
 mod laws;
 mod lines;
-#[cfg(test)]
-mod look_tests;
 mod parts;
 mod pricing;
 #[cfg(test)]

@@ -42,8 +42,10 @@ pub struct PricedBook {
 ///
 /// `weights` has one weight of 1 to 20 for each bidder.
 ///
-/// Errors: `Winners` exactly where more than six win, or more than four that don't all weigh 1, with their number; `Memory`
-/// for want of memory.
+/// # Errors
+///
+/// `Winners` exactly where more than six win, or more than four that don't all weigh 1, with their number; `Memory` for want of
+/// memory.
 pub fn price_book(alloc: Global, book: &BidBook, weights: &[u32]) -> Result<PricedBook, PriceStop>
     requires { IsWeighing book.now weights.now }
     ensures shape { IfOk result (λ p. IsFor (bidders_of book.now) (states book.now) p.cert) }

@@ -14,7 +14,7 @@ const SEVEN_WIN: &str =
     "book 1\nsupply 7\nreserve 0\nbidder a\nbid 1 1\nbidder b\nbid 1 1\nbidder c\nbid 1 1\nbidder d\nbid 1 1\nbidder e\nbid 1 1\nbidder f\nbid 1 1\nbidder g\nbid 1 1\nend\n";
 
 /// The prices where all bidders weigh 1.
-pub(crate) fn priced_alike(alloc: Global, book: &BidBook) -> Result<PricedBook, PriceStop> {
+fn priced_alike(alloc: Global, book: &BidBook) -> Result<PricedBook, PriceStop> {
     let weights = vec![in alloc; 1u32; book.bidders()]?;
     price_book(alloc, book, &weights)
 }
