@@ -4,8 +4,8 @@ import itertools, os, random, resource, subprocess
 HERE = os.path.dirname(os.path.realpath(__file__))
 OUT = os.path.join(HERE, "out")
 CCA = os.path.join(HERE, "..", "crates", "cca", "out", "cca")
-SUPPLY, RESERVE = (6, 4, 8, 12), (1000, 1500, 100, 10)
-KINDS = ("mixed", "small", "narrow")
+BIDDERS, SUPPLY, RESERVE = 16, (6, 8, 8, 13, 1), (1000, 1500, 100, 10, 400)
+KINDS = ("small", "random", "halves")
 
 
 def build_cca():
@@ -41,10 +41,10 @@ def price(book, cert, *flags):
 def packages_of(kind, rng):
     # each package has a lot of the first category, so at most six bidders win
     every = [p for p in itertools.product(*(range(s + 1) for s in SUPPLY)) if p[0] > 0]
-    if kind == "narrow":
-        return sorted(sorted(every, key=lambda p: (p[0], sum(p), p))[:600])
     if kind == "small":
-        every = [p for p in every if p[0] <= 2 and sum(p) <= 14]
+        return sorted(sorted(every, key=lambda p: (sum(p), p))[:600])
+    if kind == "halves":
+        every = [p for p in every if p.count(0) >= 2 or all(2 * n <= s for n, s in zip(p, SUPPLY))]
     return sorted(rng.sample(every, 600))
 
 
@@ -57,9 +57,12 @@ def bids_of(kind, rng):
 
 
 def priced_book(kind):
-    """The name of a book of 12 bidders with 600 bids each over 4,095 states and with at most six winners, and its bids."""
+    """The name of a book of 16 bidders with 600 bids each over 15,876 states and with at most six winners, and its bids.
+
+    The packages are the 600 smallest, random ones, or random ones of at most half the supply or of few categories.
+    """
     rng = random.Random(kind)
-    book = [bids_of(kind, rng) for _ in range(12)]
+    book = [bids_of(kind, rng) for _ in range(BIDDERS)]
     lines = ["book 1", "supply " + " ".join(map(str, SUPPLY)), "reserve " + " ".join(map(str, RESERVE))]
     for j, bids in enumerate(book, 1):
         lines.append(f"bidder b{j}")

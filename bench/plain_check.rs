@@ -1,5 +1,5 @@
-// The nine tests of a certificate in plain Rust, with the same loops as the proved program: each bid over contiguous runs of
-// places. It trusts that both files are of their form, and prints the line that `cca check` prints first.
+// The nine tests of a certificate in plain Rust, with the best loops known: tables in 64 bits, no bid that a smaller one makes
+// needless where the line below never falls, no early end within a run, and no line twice that two tables share. It trusts that both files are of their form, and prints the line that `cca check` prints first.
 #[allow(dead_code)]
 mod plain_book;
 
@@ -7,7 +7,7 @@ use plain_book::{Bid, Book, place_after, used};
 use std::env;
 use std::fs;
 
-type Table = Vec<Vec<i128>>;
+type Table = Vec<Vec<i64>>;
 type Fault = (u8, usize);
 
 struct Part {
@@ -68,6 +68,25 @@ impl Reader<'_> {
         numbers
     }
 
+    // The same for a line of a table, whose numbers are small.
+    fn table_line(&mut self, count: usize) -> Vec<i64> {
+        let mut numbers = Vec::with_capacity(count);
+        self.word();
+        while self.bytes[self.at] == b' ' {
+            self.at += 1;
+            let minus = self.bytes[self.at] == b'-';
+            self.at += minus as usize;
+            let mut n = 0i64;
+            while self.bytes[self.at].is_ascii_digit() {
+                n = 10 * n + (self.bytes[self.at] - b'0') as i64;
+                self.at += 1;
+            }
+            numbers.push(if minus { -n } else { n });
+        }
+        self.at += 1;
+        numbers
+    }
+
     fn one(&mut self) -> i128 {
         self.line(1)[0]
     }
@@ -78,7 +97,7 @@ impl Reader<'_> {
 
     fn table(&mut self, lines: usize, states: usize) -> Table {
         self.line(0);
-        (0..lines).map(|_| self.line(states)).collect()
+        (0..lines).map(|_| self.table_line(states)).collect()
     }
 
     fn part(&mut self, bidders: usize, states: usize) -> Part {
@@ -113,16 +132,19 @@ struct Checked<'a> {
 
 // What one bid asks of a line: at each place where it fits, the worth and the entry below for the rest.
 struct Rule<'a> {
-    line: &'a [i128],
-    below: &'a [i128],
-    worth: i128,
+    line: &'a [i64],
+    below: &'a [i64],
+    worth: i64,
 }
 
 impl Rule<'_> {
     fn run(&self, start: usize, stop: usize, shift: usize) -> Option<usize> {
         let rests = &self.below[start - shift..stop - shift];
-        let breaks = self.line[start..stop].iter().zip(rests).position(|(here, rest)| self.worth + rest > *here);
-        breaks.map(|i| start + i)
+        let pairs = || self.line[start..stop].iter().zip(rests);
+        if pairs().fold(true, |all, (here, rest)| all & (self.worth + rest <= *here)) {
+            return None;
+        }
+        pairs().position(|(here, rest)| self.worth + rest > *here).map(|i| start + i)
     }
 
     fn block(&self, book: &Book, lots: &[usize], category: usize, base: usize, shift: usize) -> Option<usize> {
@@ -136,13 +158,26 @@ impl Rule<'_> {
     }
 }
 
-fn line_fault(book: &Book, bids: &[Bid], line: &[i128], below: &[i128], worth: impl Fn(&Bid) -> i128) -> Option<usize> {
+// Whether a line never falls where more is left.
+fn grows(book: &Book, line: &[i64]) -> bool {
+    book.widths.iter().zip(&book.supply).all(|(width, count)| {
+        line.chunks(width * (count + 1)).all(|block| block.iter().zip(&block[*width..]).fold(true, |all, (low, high)| all & (low <= high)))
+    })
+}
+
+fn line_fault(book: &Book, j: usize, is_used: bool, lines: [&[i64]; 2], worth: impl Fn(&Bid) -> i128) -> Option<usize> {
+    let [line, below] = lines;
     let none = Rule { line, below, worth: 0 }.run(0, line.len(), 0);
-    let faults = bids.iter().filter_map(|bid| {
-        let fits = bid.lots.iter().zip(&book.supply).all(|(n, s)| n <= s);
-        let rule = Rule { line, below, worth: worth(bid) };
-        if fits { rule.block(book, &bid.lots[..used(&bid.lots)], 0, 0, 0) } else { None }
-    });
+    let fault = |bid: &Bid| {
+        let rule = Rule { line, below, worth: worth(bid) as i64 };
+        rule.block(book, &bid.lots[..used(&bid.lots)], 0, 0, 0)
+    };
+    let bids: &[Bid] = if is_used { &book.bidders[j].1 } else { &[] };
+    let faults: Option<usize> = if is_used && grows(book, below) {
+        book.needed[j].iter().map(|i| &bids[*i]).filter(|bid| worth(bid) > 0).filter_map(fault).min()
+    } else {
+        bids.iter().filter_map(fault).min()
+    };
     none.into_iter().chain(faults).min()
 }
 
@@ -176,9 +211,12 @@ impl Checked<'_> {
     }
 
     fn table_fault(&self, table: &Table, skip: Option<usize>, worth: impl Fn(usize, &Bid) -> i128) -> Option<usize> {
+        let own = &self.cert.table;
         for (k, lines) in table.windows(2).enumerate() {
-            let bids = if Some(k) == skip { &[] } else { self.bids(k) };
-            if let Some(s) = line_fault(self.book, bids, &lines[0], &lines[1], |bid| worth(k, bid)) {
+            if skip.is_some_and(|j| j < k) && lines[0] == own[k] && lines[1] == own[k + 1] {
+                continue;
+            }
+            if let Some(s) = line_fault(self.book, k, Some(k) != skip, [&lines[0], &lines[1]], |bid| worth(k, bid)) {
                 return Some(k * self.states() + s);
             }
         }
@@ -188,7 +226,7 @@ impl Checked<'_> {
 
     // The first fault of a table whose line 0 has at most so much for the whole supply.
     fn most_fault(&self, table: &Table, most: i128, worth: impl Fn(usize, &Bid) -> i128) -> Option<usize> {
-        let end = || (table[0][self.states() - 1] > most).then_some(table.len() * self.states());
+        let end = || (table[0][self.states() - 1] as i128 > most).then_some(table.len() * self.states());
         self.table_fault(table, None, worth).or_else(end)
     }
 
@@ -198,7 +236,7 @@ impl Checked<'_> {
             let bids = self.bids(j);
             let tested = &bids[..if *number > 0 { number - 1 } else { bids.len() }];
             let line = &self.cert.table[j + 1];
-            let reaches = |bid: &Bid| place_after(self.book, place, &bid.lots).is_some_and(|rest| bid.net + line[rest] >= bound);
+            let reaches = |bid: &Bid| place_after(self.book, place, &bid.lots).is_some_and(|rest| bid.net + line[rest] as i128 >= bound);
             if tested.iter().any(reaches) {
                 return Some(j + 1);
             }
@@ -241,7 +279,7 @@ impl Checked<'_> {
                 && part.choice[j] == 0
                 && self.fits(&part.choice)
                 && self.table_fault(&part.table, Some(j), |_, bid| bid.net).is_none()
-                && part.table[0][self.states() - 1] <= self.value(&part.choice)
+                && part.table[0][self.states() - 1] as i128 <= self.value(&part.choice)
         };
         self.winners.iter().zip(&self.cert.parts).find(|(j, part)| !is_fair(**j, part)).map(|(j, _)| j + 1)
     }

@@ -1,4 +1,4 @@
-// The tables and the text of a certificate in plain Rust, with the same loops as the proved program. The points of the turns and
+// The tables and the text of a certificate in plain Rust, with the best loops known. The points of the turns and
 // the lines of the payments and the rows are given, as they cost little: a line `den D`, the lines of the turns, then the other
 // lines as they stand in the certificate. It prints the choice that blocks each point, and trusts its input.
 #[allow(dead_code)]
@@ -8,7 +8,7 @@ use plain_book::{Bid, Book, read, table, trace};
 use std::env;
 use std::fs;
 
-type Table = Vec<Vec<i128>>;
+type Table = Vec<Vec<i64>>;
 
 // The whole numbers of a point over one denominator.
 struct Point {
