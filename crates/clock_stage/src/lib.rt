@@ -11,6 +11,7 @@ mod steps;
 mod tests;
 
 pub use auction_rules::{Event, Reply, Stage};
+pub use bids::reply_to_package;
 pub use clock::Clock;
 pub use closes::Closed;
 pub use rounds::History;

@@ -42,8 +42,9 @@ fn greatest_clock(history: &History, j: u16, package: &Package) -> u64
     best
 }
 
-/// The place in the list, counted from 0, before which all packages come before this one, and from which on none does. It halves.
-fn place_of(list: &[Bid], package: &Package) -> usize
+/// The place of a package in a list in the order of packages: the packages before this place, counted from 0, come before the
+/// package, and from it on none does. It halves, and takes no memory.
+pub fn place_of(list: &[Bid], package: &Package) -> usize
     requires list { All (IsEntry (length «package».now)) list.now }
     requires order { InOrder (map entry_lots list.now) }
     ensures { IsPlace list.now «package».now result }

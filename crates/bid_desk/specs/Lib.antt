@@ -1,0 +1,3 @@
+pub mod DeskValue
+pub mod Reached
+pub mod Closes

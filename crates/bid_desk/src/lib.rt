@@ -1,0 +1,8 @@
+//! The desk of an auction. It takes the lines of a log one by one, answers each, and gives the book of the log.
+#![tactic(auto)]
+
+mod desk;
+mod lists;
+
+pub use auction_rules::{Event, Reply, Stage};
+pub use desk::{Desk, DeskStop};
