@@ -55,7 +55,7 @@ const SHORT: u64 = 1 << 60;
 /// Appends to an empty list the numbers of a text, each behind one space, to its end. Each number may have any length. Says whether
 /// one isn't strictly between -2^120 and 2^120; then the list has as many numbers as the text, and says no more of them.
 ///
-/// Errors: `Form` where the text is no such text; the list then holds the numbers before the first fault.
+/// Errors: `Form` where the text is no such text, and `Memory` for want of memory; what the list holds then is not said.
 pub fn read_numbers(text: &[u8], out: &mut Vec<i128>) -> Result<bool, NumbersStop>
     requires { out.old.items ≡ [] }
     ensures ok { IfOk result (λ beyond. HasNumbers text.now out.new.items beyond) }
