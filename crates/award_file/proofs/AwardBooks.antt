@@ -1,10 +1,10 @@
 -- The book of a log on an award keeps the rules and the limits of a book.
 use Rattle.std.proofs.Common.{◌≡◌, ◌≢◌, ℕ, zero, suc, ◌+◌, ◌-◌, ◌<◌, ◌≤◌, true, false, List, [], ◌∷◌, ◌++◌, Option, Some, None, length, map, get_or, replicate, refl, sym, ap, subst, ◌∙◌, inl, inr, arith, append_assoc}
-use Rattle.std.specs.Prelude.{codes, sum, ◌==◌, nat_le, position}
+use Rattle.std.specs.Prelude.{codes, sum, ◌==◌}
 use Rattle.std.specs.List.{AllByRecursion, position_or_len}
 use Rattle.std.specs.Option.{option_or}
 use Rattle.std.specs.Str.{bytes_eq}
-use Rattle.std.proofs.lemmas.Bool.{cases_Bool, eqb-true, ne_eqb, true≢false}
+use Rattle.std.proofs.lemmas.Bool.{cases_Bool, eqb-true, true≢false}
 use Rattle.std.proofs.lemmas.Bool.Decides.{nat_tests}
 use Rattle.std.proofs.lemmas.List.{append-nil, length-map}
 use Rattle.std.proofs.lemmas.List.Elements.{recursion_from_All}
@@ -15,8 +15,8 @@ use Rattle.line_text.specs.LineText.{first_excess}
 use Rattle.line_text.proofs.Lines.{first_excess-append}
 use Rattle.auction_model.specs.Book.{BookBid, Bidder, Book}
 use Rattle.auction_model.specs.Package.{ComesBefore}
-use Rattle.book_form.specs.BookForm.{IsBid, AreBids, IsBidder, AreBidders, IsOffer, IsName, empty_package}
-use Rattle.book_form.specs.BookLines.{Excess, Line, supply_excess, bid_excess, bidder_excess, bid_lines, bidder_line, bidder_lines, head_lines, IsBookWithinLimits}
+use Rattle.book_form.specs.BookForm.{AreBids, IsBidder, AreBidders, IsOffer, IsName, empty_package}
+use Rattle.book_form.specs.BookLines.{Excess, supply_excess, bid_excess, bidder_excess, bid_lines, bidder_line, bidder_lines, head_lines, IsBookWithinLimits}
 use Rattle.lots.specs.Limits.{IsSupply, categories_stop, zero_stop}
 use Rattle.auction_rules.specs.declared.Event.{Event}
 use Rattle.auction_rules.specs.PackageTests.{is_empty, is_before, AllAfter, InOrder}
@@ -24,8 +24,7 @@ use Rattle.auction_rules.specs.Terms.{Terms, Entrant, entrant}
 use Rattle.auction_rules.specs.Rounds.{listing}
 use Rattle.auction_rules.specs.Lawful.{AreLimited, IsLawfulBid}
 use Rattle.auction_rules.specs.BookOfLog.{bid_lots, bids_in_book, book_bidder, book_by, book_of_log}
-use Rattle.award_file.specs.Award.{IsAward, IsEntrant, names_of, entrant_with}
-use Rattle.award_file.proofs.FaultLaws.{none-first, none-second}
+use Rattle.award_file.specs.Award.{IsAward, names_of, entrant_with}
 use Rattle.award_file.proofs.LimitLaws.{within-limits}
 use Rattle.award_file.proofs.Names.{name-at}
 

@@ -1,43 +1,12 @@
 -- The fields of a record spell one value.
-use Rattle.std.proofs.Common.{inl, inr, ◌≡◌, ◌≢◌, ℕ, suc, ◌-◌, ◌≤◌, ◌<◌, Option, Result, Ok, Err, List, [], ◌∷◌, ◌++◌, length, take, drop, take-append-drop, refl, sym, ap, subst, ◌∙◌, arith}
-use Rattle.std.specs.Prelude.{IfNone, MatchResult}
-use Rattle.std.specs.Result.{result_ok}
-use Rattle.std.specs.List.{AllByRecursion, All}
-use Rattle.std.specs.Str.{IsUtf8}
+use Rattle.std.proofs.Common.{◌≡◌, ◌≢◌, ℕ, suc, ◌-◌, ◌≤◌, ◌<◌, List, [], ◌∷◌, ◌++◌, length, take, drop, take-append-drop, refl, sym, ap, subst, ◌∙◌, arith}
+use Rattle.std.specs.List.{AllByRecursion}
 use Rattle.std.specs.Fmt.{decimal}
 use Rattle.std.proofs.lemmas.List.{take_all}
-use Rattle.std.proofs.lemmas.List.Elements.{All-nil, All-cons}
-use Rattle.std.proofs.lemmas.Str.{IsUtf8-from_ascii}
-use Rattle.std.proofs.lemmas.Str.Ascii.{IsAscii-from_all}
 use Rattle.wide_num.proofs.Decimal.{numeral_decimal, AreDigits}
-use Rattle.book_form.specs.BookForm.{IsName, IsNameByte}
 use Rattle.book_form.specs.BookLines.{numbers_text}
 use Rattle.text_lines.specs.Fields.{FieldEnds}
 use Rattle.log_file.specs.LogForm.{AreCounts, counts_text}
-
--- ---- names
-
-each_all : {X : Type 0} (P : X → Type 0) (xs : List X) → AllByRecursion P xs → All P xs
-each_all P [] all = All-nil P
-each_all P (x ∷ xs) all = All-cons P x xs all.0 (each_all P xs all.1)
-
-byte_low : (c : ℕ) → IsNameByte c → c < 128
-byte_low c (inl letter) = omega (arith, letter)
-byte_low c (inr (inl digit)) = omega (arith, digit)
-byte_low c (inr (inr line)) = omega (arith, line)
-
-bytes_low : (cs : List ℕ) → AllByRecursion IsNameByte cs → AllByRecursion (λ b. b < 128) cs
-bytes_low [] all = tt
-bytes_low (c ∷ cs) all = (byte_low c all.0, bytes_low cs all.1)
-
--- a name is text
-pub name_utf8 : (name : List ℕ) → IsName name → IsUtf8 name
-name_utf8 [] is = absurd is
-name_utf8 (c ∷ cs) is = IsUtf8-from_ascii (c ∷ cs) (IsAscii-from_all (c ∷ cs) (each_all (λ b. b < 128) (c ∷ cs) (omega (arith, is.0), bytes_low cs is.1)))
-
-pub ok_some : {T E : Type 0} (r : Result T E) (o : Option T) (P : T → Type 0) (Q : E → Type 0) (Z : Type 0) → o ≡ result_ok r → MatchResult r P Q → ((e : E) → Q e → ⊥) → IfNone o Z
-ok_some (Ok x) o P Q Z is match other = subst (λ (p : Option _). IfNone p Z) (sym is) tt
-ok_some (Err e) o P Q Z is match other = absurd (other e match)
 
 -- ---- counts
 

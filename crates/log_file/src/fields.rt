@@ -7,7 +7,7 @@ ghost use Rattle.log_file.specs.LogForm.{AreCounts, IsNameOf, counts_text};
 
 use arrayvec::ArrayVec;
 use award_file::Award;
-use bid_book::is_name;
+use bid_book::name_text;
 use limits::MOST_CATEGORIES;
 use lots::Package;
 use std::alloc::{AllocError, Global};
@@ -31,17 +31,6 @@ pub fn read_bidder(award: &Award, field: &[u8]) -> Option<u16>
         Some(name) => Some(award.number_of(name)),
         None => None,
     }
-}
-
-/// The text of the bytes, where they are a name.
-fn name_text(field: &[u8]) -> Option<&str>
-    ensures found { IfSome result (λ text. (text.now ≡ field.now) × IsName field.now) }
-    ensures none { IfNone result (IsName field.now → ⊥) }
-{
-    if !is_name(field) {
-        return None;
-    }
-    std::str::from_utf8(field).ok()
 }
 
 /// The amount that a field spells, and None where it spells none of at most 10^18.
