@@ -1,8 +1,10 @@
 -- What bids and closes make of the fields of a desk they make of its state, and a desk that stands for a log stands for one more line.
-use Rattle.std.proofs.Common.{◌≡◌, ℕ, Bool, true, false, List, ◌∷◌, refl, sym, ap, subst, ◌∙◌, inl, inr}
+use Rattle.std.proofs.Common.{◌≡◌, ℕ, Bool, true, false, List, ◌∷◌, refl, sym, ap, subst, ◌∙◌, inl, inr, map, length, []}
 use Rattle.std.specs.List.{AllByRecursion}
 use Rattle.std.proofs.lemmas.Bool.{cases_Bool}
+use Rattle.auction_model.specs.Book.{BookBid}
 use Rattle.auction_model.specs.Package.{is_within}
+use Rattle.auction_rules.specs.Rounds.{listing}
 use Rattle.auction_rules.specs.declared.Event.{Event}
 use Rattle.auction_rules.specs.declared.Event.TheVariants.{Bid, Close}
 use Rattle.auction_rules.specs.declared.Reply.{Reply}
@@ -12,13 +14,13 @@ use Rattle.auction_rules.specs.Lawful.{HasCategories}
 use Rattle.auction_rules.specs.Replies.{is_ok_reply}
 use Rattle.auction_rules.specs.State.{Round, DeskState, state_of, asked, reply_in, state_with}
 use Rattle.auction_rules.proofs.Stands.{state_with-state_of}
-use Rattle.clock_stage.specs.ClockState.{ClockState, clock_with, reply_to_bid, after_bid, reply_to_close, after_close}
+use Rattle.clock_stage.specs.ClockState.{ClockState, clock_with, clock_of, reply_to_bid, after_bid, reply_to_close, after_close}
 use Rattle.clock_stage.specs.declared.closes.Closed.{Closed}
 use Rattle.clock_stage.specs.declared.closes.Closed.TheVariants.{NextRound, StageEnds, Full, PriceTop, Memory}
 use Rattle.clock_stage.specs.Closings.{Tells}
 use Rattle.bid_desk.specs.declared.lists.BidderLists.{BidderLists}
 use Rattle.bid_desk.specs.Closes.{reply_value}
-use Rattle.bid_desk.specs.DeskValue.{desk_value, stage_value}
+use Rattle.bid_desk.specs.DeskValue.{desk_value, stage_value, drafts_value, submitted_value}
 use Rattle.bid_desk.specs.Reached.{IsReached}
 
 -- a desk in the clock isn't closed, and its clock runs
@@ -116,3 +118,33 @@ sealed-state terms clock closed bidders is =
     subst (λ (b : Bool). desk_value terms clock true bidders ≡ state_with (desk_value terms clock b bidders) Close) (sym parts.1)
     (subst (λ (c : ClockState). desk_value terms c true bidders ≡ state_with (desk_value terms c false bidders) Close)
     (sym (ap (λ (b : Bool). clock_with b clock.rounds clock.posted) parts.0)) refl)
+
+-- the desk of this clock with these lists, before the sealed round is closed
+abbrev with_lists : Terms → ClockState → List (List BookBid) → List (List BookBid) → DeskState
+with_lists terms clock drafts submitted = record {
+  terms = terms;
+  stage = stage_value clock.running false;
+  rounds = clock.rounds;
+  prices = clock.posted.prices;
+  eligibility = clock.posted.eligibility;
+  held = clock.posted.held;
+  drafts = drafts;
+  submitted = submitted;
+}
+
+start-lists : (terms : Terms) → with_lists terms (clock_of (state_of terms [])) (listing (λ j. []) (length terms.bidders)) (listing (λ j. []) (length terms.bidders)) ≡ state_of terms []
+unfolding state_of
+start-lists terms = refl
+
+-- the state of a desk at which no line has been taken
+pub start-state : (terms : Terms) (clock : ClockState) (count : ℕ) (bidders : List BidderLists) → clock ≡ clock_of (state_of terms []) → count ≡ length terms.bidders
+    → map drafts_value bidders ≡ listing (λ j. []) count → map submitted_value bidders ≡ listing (λ j. []) count → desk_value terms clock false bidders ≡ state_of terms []
+start-state terms clock count bidders is all drafts submitted =
+    ap (λ (c : ClockState). desk_value terms c false bidders) is
+    ∙ ap (λ (ds : List (List BookBid)). with_lists terms (clock_of (state_of terms [])) ds (map submitted_value bidders)) (drafts ∙ ap (listing (λ j. [])) all)
+    ∙ ap (with_lists terms (clock_of (state_of terms [])) (listing (λ j. []) (length terms.bidders))) (submitted ∙ ap (listing (λ j. [])) all)
+    ∙ start-lists terms
+
+-- a desk in the state of the empty log stands for a log
+pub reached-start : (terms : Terms) (desk : DeskState) → desk.terms ≡ terms → desk ≡ state_of terms [] → IsReached desk
+reached-start terms desk same is = record { log = []; categories = tt; stands = is ∙ ap (λ (t : Terms). state_of t []) (sym same) }

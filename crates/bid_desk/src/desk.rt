@@ -11,7 +11,7 @@ ghost use Rattle.auction_rules.specs.declared.Stage.{Stage};
 ghost use Rattle.bid_desk.specs.Closes.{reply_value};
 ghost use Rattle.bid_desk.specs.Reached.{IsBidOrDrop, IsTaken, IsTakenOrMemory};
 
-use crate::lists::BidderLists;
+use crate::lists::{BidderLists, empty_lists};
 use auction_rules::{Event, Reply, Stage};
 use award_file::Award;
 use bid_book::BidBook;
@@ -59,8 +59,14 @@ impl Desk {
     pub fn new(alloc: Global, award: Award) -> Result<Desk, AllocError>
         ensures { IfOk result (λ desk. desk ≡ state_of award []) }
     {
-        let _ = award;
-        Err(AllocError)
+        let clock = Clock::start(alloc, &award)?;
+        let bidders = empty_lists(alloc, award.bidders())?;
+        Ok(Desk {
+            award,
+            clock,
+            closed: false,
+            bidders,
+        })
     }
 
     /// The award.
