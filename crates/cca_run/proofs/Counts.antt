@@ -1,12 +1,12 @@
 -- Counts of faults among the files of a command.
-use Rattle.std.proofs.Common.{inl, inr, ◌∙◌, ℕ, ◌≤◌, Some, List, refl, sym, subst, arith}
+use Rattle.std.proofs.Common.{inl, inr, ◌∙◌, ℕ, ◌≤◌, List, refl, sym, subst, arith}
 use Rattle.std.specs.Prelude.{Contains}
 use Rattle.std.specs.Str.{bytes_eq}
 use Rattle.std.proofs.lemmas.Bool.{true≢false, cases_Bool}
 use Rattle.std.proofs.lemmas.Slice.Eq.{bytes_eq-Decides}
+use Rattle.cca_base.specs.Faults.{Rose}
 use Rattle.cca_base.specs.Files.{CountsOnly}
-use Rattle.cca_run.specs.Command.{Command, win, price, check, book_of, inputs_of}
-use Rattle.cca_run.specs.Ends.{CountsAmong}
+use Rattle.cca_run.specs.Run.{CountsAmong}
 
 pub among-none : (names : List (List ℕ)) (f : List ℕ → ℕ) → CountsAmong names f f
 among-none names f = record { not_less = λ name. omega arith; elsewhere = λ name out. refl }
@@ -26,11 +26,6 @@ among-then names old mid new a b = record {
   elsewhere = λ name out. b.elsewhere name out ∙ a.elsewhere name out;
 }
 
--- the book is among what a command reads
-pub reads-book : (command : Command) → Contains (inputs_of (Some command)) (book_of command)
-reads-book (win book) = (0, omega arith, refl)
-reads-book (price book cert rounds) = (0, omega arith, refl)
-reads-book (check book cert) = (0, omega arith, refl)
-
-pub reads-cert : (book cert : List ℕ) → Contains (inputs_of (Some (check book cert))) cert
-reads-cert book cert = (1, omega arith, refl)
+-- a count that rose from the later number rose from the earlier one
+pub rose-from : (a b c : ℕ) → a ≤ b → Rose b c → Rose a c
+rose-from a b c le rose small = let r = rose small in omega (arith, le, r)

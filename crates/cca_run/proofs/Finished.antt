@@ -1,67 +1,163 @@
--- How a command ends, over plain values.
-use Rattle.std.proofs.Common.{inl, inr, ◌≡◌, ◌≢◌, ◌⊎◌, ◌∙◌, ℕ, ◌<◌, Some, List, length, sym, ap, subst}
-use Rattle.std.specs.Prelude.{true, Result, Ok, Err, OnErr}
-use Rattle.std.specs.Result.{is_err}
-use Rattle.std.proofs.lemmas.Bool.{true≢false}
+-- How a command ends that has its work, and how a run then ends.
+use Rattle.std.proofs.Common.{inl, inr, ◌≡◌, ◌⊎◌, ◌∙◌, ℕ, ◌≤◌, ◌<◌, IsTrue, Some, List, length, refl, sym, ap, subst}
 use Rattle.cca_base.specs.Faults.{Rose}
-use Rattle.cca_base.specs.Files.{Folder, AddsPrefix}
+use Rattle.cca_base.specs.Files.{Folder}
 use Rattle.cca_base.specs.Sink.{Output, Puts}
-use Rattle.cca_run.specs.Command.{Command, win, price, check, output_as, output_of}
-use Rattle.cca_run.specs.Ends.{EndsWith, IsHindered, Prints}
-use Rattle.cca_run.specs.StatusLine.{status_line}
-use Rattle.cca_run.specs.declared.status.FileKind.{FileKind}
-use Rattle.cca_run.specs.declared.status.FileKind.TheVariants.{Cert, Out}
-use Rattle.cca_run.specs.declared.status.Status.{Status}
-use Rattle.cca_run.specs.declared.status.Status.TheVariants.{Done, WriteFault}
+use Rattle.cca_inputs.specs.Command.{CommandValue, inputs_of, output_as, outputs_of}
+use Rattle.cca_inputs.specs.Outcome.{Outcome, done}
+use Rattle.cca_inputs.specs.StatusLine.{status_line}
+use Rattle.cca_inputs.specs.Statuses.{IsDecided, IsHindered, KeepsAll}
+use Rattle.cca_inputs.specs.declared.file_text.FileText.{FileText}
+use Rattle.cca_inputs.specs.declared.status.FileKind.{FileKind}
+use Rattle.cca_inputs.specs.declared.status.FileKind.TheVariants.{Award, Log, Book, Cert, Out}
+use Rattle.cca_inputs.specs.declared.status.Status.{Status}
+use Rattle.cca_inputs.specs.declared.status.Status.TheVariants.{Done, Words, ReadFault, WriteFault}
+use Rattle.cca_run.specs.Gives.{FilesGive}
+use Rattle.cca_run.specs.Run.{AppendsAll, CountsAmong, FailsToWrite, IsWriteFault, Prints}
+use Rattle.cca_run.specs.Works.{FailsAt, FinishEnds, OnlyAppends, OnlyReads, RunEnds}
+use Rattle.cca_run.proofs.Moved.{all-on, upto-on}
+use Rattle.cca_run.proofs.Named.{never-out}
 
-output-cert : (command : Command) (name : List ℕ) → output_of (Some command) ≡ Some name → output_as command Cert ≡ Some name
-output-cert (win book) name is = is
-output-cert (price book cert rounds) name is = is
-output-cert (check book cert) name is = is
+-- all was appended, and the text was printed or its front
+pub all-appended : (command : CommandValue) (old new : Folder) (before now : Output) (printed : List ℕ) (appended : List FileText) (result : Status) → AppendsAll command appended old new
+    → OnlyAppends command old new → before.faults ≤ now.faults → Prints before now printed Done result → FinishEnds command old new before now printed appended result
+all-appended command old new before now printed appended result all counts le prints = record {
+  done = λ e. (whole prints e, all);
+  others = ended prints;
+  cause = cause prints;
+  line = λ h. never prints h;
+  front = front prints;
+  files = inl all;
+  counts = counts;
+  faults = le;
+}
+  where
+    whole : Prints before now printed Done result → result ≡ Done → Puts before now printed (length printed)
+    whole (inl w) e = w.1
+    whole (inr w) e = let x : WriteFault Out ≡ Done = sym w.0 ∙ e in absurd cc
 
-pub err-of : {X E : Type 0} (r : Result X E) (P : Type 0) → true ≡ is_err r → OnErr r P → P
-err-of (Ok x) P e on = absurd (true≢false e)
-err-of (Err x) P e on = on
+    ended : Prints before now printed Done result → (result ≡ Done) ⊎ ((kind : FileKind) × (result ≡ WriteFault kind))
+    ended (inl w) = inl w.0
+    ended (inr w) = inr (Out, w.0)
 
--- an append failed, and its line was printed, or its front
-pub failed : (command : Command) (old new : Folder) (before now : Output) (name line printed appended : List ℕ) (result : Status) → output_of (Some command) ≡ Some name
-    → Rose (old.append_faults name) (new.append_faults name) → AddsPrefix name old new appended → line ≡ status_line (WriteFault Cert)
-    → Prints before now line (WriteFault Cert) result → EndsWith command old new before now printed appended result
-failed command old new before now name line printed appended result out rose prefix is prints = record {
+    cause : Prints before now printed Done result → (kind : FileKind) → result ≡ WriteFault kind → ((kind ≡ Out) × Rose before.faults now.faults) ⊎ (FailsAt command appended old new kind)
+    cause (inl w) kind e = let x : Done ≡ WriteFault kind = sym w.0 ∙ e in absurd cc
+    cause (inr w) kind e = let x : WriteFault Out ≡ WriteFault kind = sym w.0 ∙ e in let same : Out ≡ kind = cc in inl (sym same, w.1)
+
+    never : Prints before now printed Done result → IsHindered result → Puts before now (status_line result) (length (status_line result))
+    never (inl w) h = absurd (subst IsHindered w.0 h)
+    never (inr w) h = absurd (subst IsHindered w.0 h)
+
+    front : Prints before now printed Done result → result ≡ WriteFault Out → (text : List ℕ) × (n : ℕ) × (n < length text) × Puts before now text n
+        × ((text ≡ printed) ⊎ ((kind : FileKind) × FailsAt command appended old new kind × (text ≡ status_line (WriteFault kind))))
+    front (inl w) e = let x : Done ≡ WriteFault Out = sym w.0 ∙ e in absurd cc
+    front (inr w) e = let cut = w.2 in (printed, cut.0, cut.1, cut.2, inl refl)
+
+-- an append failed, and its line was printed or its front
+pub append-failed : (command : CommandValue) (old new : Folder) (before now : Output) (printed line : List ℕ) (appended : List FileText) (kind : FileKind) (result : Status) → FailsAt command appended old new kind
+    → OnlyAppends command old new → before.faults ≤ now.faults → line ≡ status_line (WriteFault kind) → Prints before now line (WriteFault kind) result → FinishEnds command old new before now printed appended result
+append-failed command old new before now printed line appended kind result fails counts le is prints = record {
   done = λ e. absurd (not-done prints e);
-  others = inr (wrote prints);
+  others = ended prints;
   cause = cause prints;
   line = whole prints;
   front = front prints;
-  files = inr (name, prefix.0, out, prefix.1, prefix.2);
+  files = inr (kind, fails.part);
+  counts = counts;
+  faults = le;
 }
   where
-    not-done : Prints before now line (WriteFault Cert) result → result ≡ Done → ⊥
-    not-done (inl w) e = let x : WriteFault Cert ≡ Done = sym w.0 ∙ e in cc
+    not-done : Prints before now line (WriteFault kind) result → result ≡ Done → ⊥
+    not-done (inl w) e = let x : WriteFault kind ≡ Done = sym w.0 ∙ e in cc
     not-done (inr w) e = let x : WriteFault Out ≡ Done = sym w.0 ∙ e in cc
 
-    wrote : Prints before now line (WriteFault Cert) result → (kind : FileKind) × (result ≡ WriteFault kind)
-    wrote (inl w) = (Cert, w.0)
-    wrote (inr w) = (Out, w.0)
+    not-out : kind ≡ Out → ⊥
+    not-out e = never-out command fails.name (subst (λ (k : FileKind). output_as command k ≡ Some fails.name) e fails.output)
 
-    cause : Prints before now line (WriteFault Cert) result → (kind : FileKind) → result ≡ WriteFault kind
-        → (kind ≡ Out → Rose before.faults now.faults) × (kind ≢ Out → (other : List ℕ) × (output_as command kind ≡ Some other) × Rose (old.append_faults other) (new.append_faults other))
-    cause (inl w) kind e =
-        let x : WriteFault Cert ≡ WriteFault kind = sym w.0 ∙ e in
-        let same : Cert ≡ kind = cc in (
-          λ z. let y : Cert ≡ Out = same ∙ z in absurd cc,
-          λ _. (name, subst (λ (k : FileKind). output_as command k ≡ Some name) same (output-cert command name out), rose),
-        )
-    cause (inr w) kind e =
-        let x : WriteFault Out ≡ WriteFault kind = sym w.0 ∙ e in
-        let same : Out ≡ kind = cc in
-        (λ _. w.1, λ apart. absurd (apart (sym same)))
+    ended : Prints before now line (WriteFault kind) result → (result ≡ Done) ⊎ ((other : FileKind) × (result ≡ WriteFault other))
+    ended (inl w) = inr (kind, w.0)
+    ended (inr w) = inr (Out, w.0)
 
-    whole : Prints before now line (WriteFault Cert) result → IsHindered result → Puts before now (status_line result) (length (status_line result))
+    cause : Prints before now line (WriteFault kind) result → (other : FileKind) → result ≡ WriteFault other → ((other ≡ Out) × Rose before.faults now.faults) ⊎ (FailsAt command appended old new other)
+    cause (inl w) other e = let x : WriteFault kind ≡ WriteFault other = sym w.0 ∙ e in let same : kind ≡ other = cc in inr (subst (FailsAt command appended old new) same fails)
+    cause (inr w) other e = let x : WriteFault Out ≡ WriteFault other = sym w.0 ∙ e in let same : Out ≡ other = cc in inl (sym same, w.1)
+
+    whole : Prints before now line (WriteFault kind) result → IsHindered result → Puts before now (status_line result) (length (status_line result))
     whole (inl w) h = let same : line ≡ status_line result = is ∙ ap status_line (sym w.0) in subst (λ (l : List ℕ). Puts before now l (length l)) same w.1
     whole (inr w) h = absurd (subst IsHindered w.0 h)
 
-    front : Prints before now line (WriteFault Cert) result → result ≡ WriteFault Out
-        → (text : List ℕ) × (n : ℕ) × (n < length text) × Puts before now text n × ((text ≡ printed) ⊎ ((status : Status) × IsHindered status × (text ≡ status_line status)))
-    front (inl w) e = let x : WriteFault Cert ≡ WriteFault Out = sym w.0 ∙ e in absurd cc
-    front (inr w) e = let cut = w.2 in (line, cut.0, cut.1, cut.2, inr (WriteFault Cert, tt, is))
+    front : Prints before now line (WriteFault kind) result → result ≡ WriteFault Out → (text : List ℕ) × (n : ℕ) × (n < length text) × Puts before now text n
+        × ((text ≡ printed) ⊎ ((other : FileKind) × FailsAt command appended old new other × (text ≡ status_line (WriteFault other))))
+    front (inl w) e = let x : WriteFault kind ≡ WriteFault Out = sym w.0 ∙ e in let same : kind ≡ Out = cc in absurd (not-out same)
+    front (inr w) e = let cut = w.2 in (line, cut.0, cut.1, cut.2, inr (kind, fails, is))
+
+-- the work was worked out, and the command ended
+module _ (command : CommandValue) (old mid new : Folder) (before now : Output) (printed : List ℕ) (appended : List FileText) (result : Status) (reads : OnlyReads command old mid)
+    (e : FinishEnds command mid new before now printed appended result) (given : IsTrue old.told → FilesGive command old.file (done printed appended)) where
+  gives : IsTrue old.told → (o : Outcome) × FilesGive command old.file o × (o.status ≡ Done) × (o.appended ≡ appended)
+  gives told = (done printed appended, given told, refl, refl)
+
+  no-other : (P : Type 0) → ((kind : FileKind) → result ≡ WriteFault kind → P) → (result ≡ Done → P) → P
+  no-other P wrote finished = elim e.others [
+    | inl d ↦ finished d
+    | inr w ↦ wrote w.0 w.1
+  ]
+
+  fails-to : (kind : FileKind) → FailsAt command appended mid new kind → FailsToWrite command old new kind
+  fails-to kind f = record {
+    name = f.name;
+    output = f.output;
+    rose = subst (λ (c : List ℕ → ℕ). Rose (c f.name) (new.append_faults f.name)) reads.appends f.rose;
+    appended = appended;
+    given = gives;
+    part = upto-on command old mid new reads.kept kind appended f.part;
+  }
+
+  write-fault : (kind : FileKind) → result ≡ WriteFault kind → IsWriteFault (Some command) old new before now kind
+  write-fault kind w = by kind w (e.cause kind w)
+    where
+      by : (kind : FileKind) → result ≡ WriteFault kind → ((kind ≡ Out) × Rose before.faults now.faults) ⊎ (FailsAt command appended mid new kind) → IsWriteFault (Some command) old new before now kind
+      by Award w (inl x) = let no : Award ≡ Out = x.0 in absurd cc
+      by Award w (inr f) = fails-to Award f
+      by Log w (inl x) = let no : Log ≡ Out = x.0 in absurd cc
+      by Log w (inr f) = fails-to Log f
+      by Book w (inl x) = let no : Book ≡ Out = x.0 in absurd cc
+      by Book w (inr f) = fails-to Book f
+      by Cert w (inl x) = let no : Cert ≡ Out = x.0 in absurd cc
+      by Cert w (inr f) = fails-to Cert f
+      by Out w (inl x) = x.1
+      by Out w (inr f) = absurd (never-out command f.name f.output)
+
+  pub run-ends : RunEnds (Some command) old new before now result
+  run-ends = record {
+    words = λ w. no-other _ (λ kind x. let y : WriteFault kind ≡ Words = sym x ∙ w in absurd cc) (λ x. let y : Done ≡ Words = sym x ∙ w in absurd cc);
+    read_fault = λ kind r. no-other _ (λ other x. let y : WriteFault other ≡ ReadFault kind = sym x ∙ r in absurd cc) (λ x. let y : Done ≡ ReadFault kind = sym x ∙ r in absurd cc);
+    write_fault = write-fault;
+    answer = λ told decided. no-other _ (λ kind w. absurd (subst IsDecided w decided))
+        (λ d. let x = e.done d in (done printed appended, given told, sym d, x.0, all-on command old mid new reads.kept appended x.1));
+    line = λ h. elim h [
+      | inl w ↦ no-other _ (λ kind x. let y : WriteFault kind ≡ Words = sym x ∙ w in absurd cc) (λ x. let y : Done ≡ Words = sym x ∙ w in absurd cc)
+      | inr h ↦ e.line h
+    ];
+    front = λ w. let f = e.front w in (
+      f.0,
+      f.1,
+      f.2,
+      f.3,
+      λ told. elim f.4 [
+        | inl whole ↦ inl (done printed appended, given told, whole)
+        | inr x ↦ inr (WriteFault x.0, fails-to x.0 x.1, x.2)
+      ],
+    );
+    kept = λ k. no-other _ (λ kind w. absurd (subst KeepsAll w k)) (λ d. absurd (subst KeepsAll d k));
+    files = inr (record {
+      appended = appended;
+      given = gives;
+      grown = elim e.files [
+        | inl all ↦ inl (all-on command old mid new reads.kept appended all)
+        | inr p ↦ inr (p.0, upto-on command old mid new reads.kept p.0 appended p.1)
+      ];
+    });
+    loads = subst (λ (c : List ℕ → ℕ). CountsAmong (inputs_of command) old.load_faults c) (sym e.counts.loads) reads.loads;
+    appends = subst (λ (c : List ℕ → ℕ). CountsAmong (outputs_of command) c new.append_faults) reads.appends e.counts.appends;
+  }

@@ -1,10 +1,11 @@
+mod Appends
 mod Counts
 mod Finished
-mod Judged
 mod Moved
-mod Names
+mod Named
 mod OneOutcome
 mod Ones
-mod Printed
-mod Products
-mod Runs
+mod Priced
+mod Progress
+mod Put
+mod Stopped

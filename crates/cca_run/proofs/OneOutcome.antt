@@ -1,5 +1,5 @@
 -- The words and the bytes give at most one status and one printed text.
-use Rattle.std.specs.Prelude.{◌≡◌, ℕ, ℤ, Bool, true, false, ◌≤◌, ◌<◌, ◌^◌, Option, Some, None, List, [], ◌++◌, codes, length, pos, ◌≤ℤ◌, refl}
+use Rattle.std.specs.Prelude.{◌≡◌, ℕ, ℤ, Bool, true, false, ◌≤◌, ◌<◌, ◌^◌, Option, Some, None, List, [], ◌∷◌, ◌++◌, codes, length, pos, ◌≤ℤ◌, refl}
 use Rattle.std.proofs.Common.{inl, inr, sym, ◌∙◌, ap, subst, arith}
 use Rattle.std.proofs.lemmas.Bool.{cases_lt}
 use Rattle.line_text.specs.LineText.{Said, stated, faulty, beyond, Says}
@@ -22,9 +22,15 @@ use Rattle.print_form.specs.Turns.{AreTurnLines}
 use Rattle.row_laws.specs.Winners.{winners_in}
 use Rattle.core_price.specs.Weights.{FewWin}
 use Rattle.cca_run.proofs.Ones.{not_few_and_many, ones-weigh}
-use Rattle.cca_run.specs.Command.{Command, win, price, check, book_of, command_of}
-use Rattle.cca_run.specs.Outcome.{Outcome, book_bytes, cert_bytes, AreRounds, BookGives, CertFileGives, CertFileSays, CertGives, CommandGives, CommandOf, FileGives, FileSays, Gives, HasTooMany, IsPricing, IsYesText, PriceGives, VerdictGives, done, ones, stopped}
-use Rattle.cca_run.specs.declared.status.Status.TheVariants.{No, Limit}
+use Rattle.cca_inputs.specs.Answers.{BookAnswers, CertAnswers, book_answer, cert_answer}
+use Rattle.cca_inputs.specs.Command.{CommandValue, win, price, check, command_of, contents_of}
+use Rattle.cca_inputs.specs.Outcome.{Answer, AnswerGives, FileAnswers, InputGives, Outcome, done, stopped, stops, value}
+use Rattle.cca_inputs.specs.declared.file_text.FileText.{FileText}
+use Rattle.cca_inputs.specs.declared.status.FileKind.{FileKind}
+use Rattle.cca_inputs.specs.declared.status.FileKind.TheVariants.{Book as BookFile, Cert}
+use Rattle.limits.specs.declared.TheConstants.{BOOK_BYTES, CERT_BYTES}
+use Rattle.cca_run.specs.Gives.{AreRounds, CertGives, CommandGives, Gives, HasTooMany, IsPricing, IsYesText, PriceGives, VerdictGives, WinGives, WordsGive, cert_file, ones}
+use Rattle.cca_inputs.specs.declared.status.Status.TheVariants.{No, Limit}
 use Rattle.limits.specs.declared.LimitKind.TheVariants.{Winners}
 
 -- both have one status and one text
@@ -37,8 +43,33 @@ both o p x y a b s = (ap (λ (z : Outcome). z.status) a ∙ s.0 ∙ sym (ap (λ 
 equal : (o p x : Outcome) → o ≡ x → p ≡ x → Same o p
 equal o p x a b = both o p x x a b (refl, refl)
 
-printed-same : (t u a b : List ℕ) → t ≡ u → Same (done t a) (done u b)
+printed-same : (t u : List ℕ) (a b : List FileText) → t ≡ u → Same (done t a) (done u b)
 printed-same t u a b e = (refl, e)
+
+-- an input has one answer
+one-answer : {V : Type 0} (most : ℕ) (says : List ℕ → Answer V → Type 0) (one : (bytes : List ℕ) (a b : Answer V) → says bytes a → says bytes b → a ≡ b) (bytes : List ℕ) (a b : Answer V)
+    → FileAnswers most says bytes a → FileAnswers most says bytes b → a ≡ b
+one-answer most says one bytes a b x y =
+    elim (cases_lt most (length bytes)) [
+      | inl over ↦ x.long over ∙ sym (y.long over)
+      | inr short ↦ one bytes a b (x.text short) (y.text short)
+    ]
+
+-- an input gives one outcome, where each of its values does
+one-input : {V : Type 0} (kind : FileKind) (most : ℕ) (says : List ℕ → Answer V → Type 0) (follows : V → Outcome → Type 0) → ((bytes : List ℕ) (a b : Answer V) → says bytes a → says bytes b → a ≡ b)
+    → (content : Option (List ℕ)) (o p : Outcome) → ((v : V) (bytes : List ℕ) → says bytes (value v) → follows v o → follows v p → Same o p)
+    → InputGives kind most says content follows o → InputGives kind most says content follows p → Same o p
+one-input kind most says follows one None o p same x y = equal o p _ x y
+one-input {V} kind most says follows one (Some bytes) o p same x y =
+    go y.0 y.1 (subst (λ (a : Answer V). AnswerGives a follows o) (one-answer most says one bytes x.0 y.0 x.1 y.1) x.2) y.2
+  where
+    go : (a : Answer V) → FileAnswers most says bytes a → AnswerGives a follows o → AnswerGives a follows p → Same o p
+    go (value v) answers g h =
+        elim (cases_lt most (length bytes)) [
+          | inl over ↦ (let no = answers.long over in absurd cc)
+          | inr short ↦ same v bytes (answers.text short) g h
+        ]
+    go (stops s) answers g h = equal o p (stopped s) g h
 
 -- what the laws of the crates below say
 module _ (one_book : (bytes : List ℕ) (x y : Said Book Excess) → Says IsBook lines bytes x → Says IsBook lines bytes y → x ≡ y)
@@ -54,35 +85,25 @@ module _ (one_book : (bytes : List ℕ) (x y : Said Book Excess) → Says IsBook
     → SamePoint (market_of book) p q → ((j : ℕ) → 0 < j → j ≤ (market_of book).bidders → v j ≡ w j) → IsPriceText book z v p t → IsPriceText book z w q u → t ≡ u)
     (one_run : (m : Market) (w : ℕ → ℕ) (z : List ℕ) (runs others : List Turn) (t u : List ℕ) → IsMarket m → IsPricingRun m w z runs → IsPricingRun m w z others
     → AreTurnLines z 0 runs t → AreTurnLines z 0 others u → t ≡ u) where
-  one-said : (bytes : List ℕ) (x y : Said Book Excess) → FileSays bytes x → FileSays bytes y → x ≡ y
-  one-said bytes x y a b =
-      elim (cases_lt book_bytes (length bytes)) [
-        | inl over ↦ a.long over ∙ sym (b.long over)
-        | inr most ↦ one_book bytes x y (a.text most) (b.text most)
-      ]
+  one-book-answer : (bytes : List ℕ) (x y : Answer Book) → BookAnswers bytes x → BookAnswers bytes y → x ≡ y
+  one-book-answer bytes x y a b = a.2 ∙ ap book_answer (one_book bytes a.0 b.0 a.1 b.1) ∙ sym b.2
 
-  one-cert-said : (bidders number : ℕ) (bytes : List ℕ) (x y : Option (Said CertValue ℕ)) → CertFileSays bidders number bytes x → CertFileSays bidders number bytes y → x ≡ y
-  one-cert-said bidders number bytes x y a b =
-      elim (cases_lt cert_bytes (length bytes)) [
-        | inl over ↦ a.long over ∙ sym (b.long over)
-        | inr most ↦
-            let s = a.text most in
-            let t = b.text most in
-            s.2 ∙ ap Some (one_cert bidders number bytes s.0 t.0 s.1 t.1) ∙ sym t.2
-      ]
+  one-cert-answer : (book : Book) (bytes : List ℕ) (x y : Answer CertValue) → CertAnswers book bytes x → CertAnswers book bytes y → x ≡ y
+  one-cert-answer book bytes x y a b = a.2 ∙ ap cert_answer (one_cert (bidders_of book) (states book) bytes a.0 b.0 a.1 b.1) ∙ sym b.2
 
-  lawful : (bytes : List ℕ) (book : Book) → FileSays bytes (stated book) → IsMarket (market_of book)
-  lawful bytes book a =
-      elim (cases_lt book_bytes (length bytes)) [
-        | inl over ↦ absurd (never (a.long over))
-        | inr most ↦
-            let text = a.text most in
-            let rules = kept book (record { form = text.valid; limits = text.within }) in
-            market book (omega (arith, rules.bidders)) rules.not_negative
-      ]
+  -- the market of a book that bytes state is lawful
+  lawful : (bytes : List ℕ) (book : Book) → BookAnswers bytes (value book) → IsMarket (market_of book)
+  lawful bytes book (said, says, is) = by said says is
     where
-      never : {e : Excess} → stated book ≡ beyond e → ⊥
-      never is = cc
+      of : (b : Book) → Says IsBook lines bytes (stated b) → IsMarket (market_of b)
+      of b text =
+          let rules = kept b (record { form = text.valid; limits = text.within }) in
+          market b (omega (arith, rules.bidders)) rules.not_negative
+
+      by : (said : Said Book Excess) → Says IsBook lines bytes said → value book ≡ book_answer said → IsMarket (market_of book)
+      by (stated b) says is = let same : b ≡ book = cc in subst (λ (x : Book). IsMarket (market_of x)) same (of b says)
+      by (faulty place) says is = absurd cc
+      by (beyond e) says is = absurd cc
 
   one-rounds : (rounds : Bool) (book : Book) (weights z : List ℕ) (runs others : List Turn) (t u : List ℕ) → IsMarket (market_of book) → IsPricingRun (market_of book) (weight_of weights) z runs
       → IsPricingRun (market_of book) (weight_of weights) z others → AreRounds rounds z runs t → AreRounds rounds z others u → t ≡ u
@@ -111,7 +132,7 @@ module _ (one_book : (bytes : List ℕ) (x y : Said Book Excess) → Says IsBook
       not_few_and_many z weights (subst (λ (x : List ℕ). FewWin x weights) (one_winning (market_of book) c.choice z m a.priced.winning many.winning) a.few) many.many
 
   one-priced : (book : Book) (weights : List ℕ) → AreWeights (market_of book) (weight_of weights) → (rounds : Bool) (o p : Outcome) → IsMarket (market_of book) → PriceGives book weights rounds o → PriceGives book weights rounds p → Same o p
-  one-priced book weights are rounds o p m (inl x) (inl y) = both o p (done x.1 (cert_text x.0)) (done y.1 (cert_text y.0)) x.3 y.3 (printed-same x.1 y.1 (cert_text x.0) (cert_text y.0) (one-pricing book weights are rounds x.0 y.0 x.1 y.1 m x.2 y.2))
+  one-priced book weights are rounds o p m (inl x) (inl y) = both o p (done x.1 (cert_file (cert_text x.0) ∷ [])) (done y.1 (cert_file (cert_text y.0) ∷ [])) x.3 y.3 (printed-same x.1 y.1 (cert_file (cert_text x.0) ∷ []) (cert_file (cert_text y.0) ∷ []) (one-pricing book weights are rounds x.0 y.0 x.1 y.1 m x.2 y.2))
   one-priced book weights are rounds o p m (inl x) (inr y) = absurd (few-or-many book weights rounds x.0 x.1 y.0 m x.2 y.1)
   one-priced book weights are rounds o p m (inr x) (inl y) = absurd (few-or-many book weights rounds y.0 y.1 x.0 m y.2 x.1)
   one-priced book weights are rounds o p m (inr x) (inr y) =
@@ -133,40 +154,21 @@ module _ (one_book : (bytes : List ℕ) (x y : Said Book Excess) → Says IsBook
       let is = one_verdict book (weight_of weights) c x.0 x.1 y.0 y.1 x.2 y.2 in
       equal o p (stopped (No y.0 y.1)) (x.3 ∙ ap (λ (t : ℕ). stopped (No t x.1)) is.0 ∙ ap (λ (q : ℕ). stopped (No y.0 q)) is.1) y.3
 
-  one-cert-given : (book : Book) (weights : List ℕ) (said : Option (Said CertValue ℕ)) (o p : Outcome) → IsMarket (market_of book) → CertGives book weights said o → CertGives book weights said p → Same o p
-  one-cert-given book weights None o p m x y = equal o p _ x y
-  one-cert-given book weights (Some (stated c)) o p m x y = one-judged book weights c o p m x y
-  one-cert-given book weights (Some (faulty place)) o p m x y = equal o p _ x y
-  one-cert-given book weights (Some (beyond place)) o p m x y = equal o p _ x y
-
-  one-cert-file : (book : Book) (weights : List ℕ) (file : Option (List ℕ)) (o p : Outcome) → IsMarket (market_of book) → CertFileGives book weights file o → CertFileGives book weights file p → Same o p
-  one-cert-file book weights None o p m x y = equal o p _ x y
-  one-cert-file book weights (Some bytes) o p m x y =
-      let same = one-cert-said (bidders_of book) (states book) bytes x.0 y.0 x.1 y.1 in
-      one-cert-given book weights y.0 o p m (subst (λ (s : Option (Said CertValue ℕ)). CertGives book weights s o) same x.2) y.2
-
-  one-of : (command : Command) (file : List ℕ → Option (List ℕ)) (book : Book) (o p : Outcome) → IsMarket (market_of book) → CommandOf command file book o → CommandOf command file book p → Same o p
-  one-of (win name) file book o p m x y =
+  one-of : (command : CommandValue) (contents : FileKind → Option (List ℕ)) (o p : Outcome) → CommandGives command contents o → CommandGives command contents p → Same o p
+  one-of (win name) contents o p x y = one-input BookFile BOOK_BYTES BookAnswers WinGives one-book-answer (contents BookFile) o p
+      (λ book bytes says x y.
+      let m = lawful bytes book says in
       let same = one_winning (market_of book) x.0 y.0 m x.1 y.1 in
-      both o p (done (win_text book x.0) []) (done (win_text book y.0) []) x.2 y.2 (printed-same (win_text book x.0) (win_text book y.0) [] [] (ap (win_text book) same))
-  one-of (price name cert rounds) file book o p m x y = one-priced book (ones book) (ones-weigh book).each rounds o p m x y
-  one-of (check name cert) file book o p m x y = one-cert-file book (ones book) (file cert) o p m x y
+      both o p (done (win_text book x.0) []) (done (win_text book y.0) []) x.2 y.2 (printed-same (win_text book x.0) (win_text book y.0) [] [] (ap (win_text book) same))) x y
+  one-of (price name cert rounds) contents o p x y = one-input BookFile BOOK_BYTES BookAnswers (λ book. PriceGives book (ones book) rounds) one-book-answer (contents BookFile) o p
+      (λ book bytes says x y. one-priced book (ones book) (ones-weigh book).each rounds o p (lawful bytes book says) x y) x y
+  one-of (check name cert) contents o p x y = one-input BookFile BOOK_BYTES BookAnswers (λ book. CertGives book (contents Cert) (VerdictGives book (ones book))) one-book-answer (contents BookFile) o p
+      (λ book bytes says x y. one-input Cert CERT_BYTES (CertAnswers book) (VerdictGives book (ones book)) (one-cert-answer book) (contents Cert) o p
+      (λ c of says_it a b. one-judged book (ones book) c o p (lawful bytes book says) a b) x y) x y
 
-  one-book-given : (command : Command) (file : List ℕ → Option (List ℕ)) (bytes : List ℕ) (said : Said Book Excess) (o p : Outcome) → FileSays bytes said
-      → BookGives command file said o → BookGives command file said p → Same o p
-  one-book-given command file bytes (stated book) o p a x y = one-of command file book o p (lawful bytes book a) x y
-  one-book-given command file bytes (faulty place) o p a x y = equal o p _ x y
-  one-book-given command file bytes (beyond e) o p a x y = equal o p _ x y
-
-  one-file : (command : Command) (file : List ℕ → Option (List ℕ)) (content : Option (List ℕ)) (o p : Outcome) → FileGives command file content o → FileGives command file content p → Same o p
-  one-file command file None o p x y = equal o p _ x y
-  one-file command file (Some bytes) o p x y =
-      let same = one-said bytes x.0 y.0 x.1 y.1 in
-      one-book-given command file bytes y.0 o p y.1 (subst (λ (s : Said Book Excess). BookGives command file s o) same x.2) y.2
-
-  one-command : (command : Option Command) (file : List ℕ → Option (List ℕ)) (o p : Outcome) → CommandGives command file o → CommandGives command file p → Same o p
-  one-command None file o p x y = equal o p _ x y
-  one-command (Some command) file o p x y = one-file command file (file (book_of command)) o p x y
+  one-words : (command : Option CommandValue) (file : List ℕ → Option (List ℕ)) (o p : Outcome) → WordsGive command file o → WordsGive command file p → Same o p
+  one-words None file o p x y = equal o p _ x y
+  one-words (Some command) file o p x y = one-of command (contents_of command file) o p x y
 
   pub one-outcome : (words : List (List ℕ)) (file : List ℕ → Option (List ℕ)) (o p : Outcome) → Gives words file o → Gives words file p → Same o p
-  one-outcome words file o p x y = one-command (command_of words) file o p x y
+  one-outcome words file o p x y = one-words (command_of words) file o p x y

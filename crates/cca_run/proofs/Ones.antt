@@ -8,7 +8,7 @@ use Rattle.cert_laws.specs.Tests.{bidders_of}
 use Rattle.cert_laws.specs.Weights.{IsWeighing}
 use Rattle.core_price.specs.Weights.{FewWin, ManyWin, WeighAlike, weights_in}
 use Rattle.row_laws.specs.Winners.{winners_in}
-use Rattle.cca_run.specs.Outcome.{ones}
+use Rattle.cca_run.specs.Gives.{ones}
 
 pub ones-weigh : (book : Book) → IsWeighing book (ones book)
 ones-weigh book = record {

@@ -59,14 +59,14 @@ pub record HasTooMany (book : BookValue) (z weights : List ℕ) : Type 0 where
   pub winning : IsWinning (market_of book) z
   pub many : ManyWin z weights
 
--- the certificate is all that is appended
-abbrev pub cert_alone : CertValue → List FileText
-cert_alone c = record { kind = Cert; text = cert_text c } ∷ []
+-- a text that is appended to the certificate's file
+abbrev pub cert_file : List ℕ → FileText
+cert_file text = record { kind = Cert; text = text }
 
 -- The prices are printed and their certificate is appended; more winners than can be priced are the limit of winners.
 abbrev pub PriceGives : BookValue → List ℕ → Bool → Outcome → Type 0
 PriceGives book weights rounds outcome =
-    ((c : CertValue) × (text : List ℕ) × IsPricing book weights rounds c text × (outcome ≡ done text (cert_alone c)))
+    ((c : CertValue) × (text : List ℕ) × IsPricing book weights rounds c text × (outcome ≡ done text (cert_file (cert_text c) ∷ [])))
     ⊎ ((z : List ℕ) × HasTooMany book z weights × (outcome ≡ stopped (Limit Winners (winners_in z))))
 
 -- the line `yes`, and the outcome that the certificate shows

@@ -1,9 +1,3 @@
-pub mod Command
-pub mod Code
-pub mod StatusLine
-pub mod Outcome
-pub mod Ends
-pub mod Stops
-pub mod Words
 pub mod Gives
 pub mod Run
+pub mod Works

@@ -4,7 +4,8 @@ ghost use Rattle.auction_model.specs.Book.{Book};
 ghost use Rattle.cert_laws.specs.Tests.{bidders_of};
 ghost use Rattle.core_price.specs.Weights.{FewWin, ManyWin};
 ghost use Rattle.row_laws.specs.Winners.{winners_in};
-ghost use Rattle.cca_run.specs.Outcome.{Outcome, Gives, ones};
+ghost use Rattle.cca_inputs.specs.Outcome.{Outcome};
+ghost use Rattle.cca_run.specs.Gives.{Gives, ones};
 
 use auction_model::{book_market, core_outcome, vickrey_prices, winning_choice};
 use bid_book::one_book;

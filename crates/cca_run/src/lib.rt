@@ -1,19 +1,18 @@
 //! The top call: from words and files to what is printed.
 #![tactic(auto)]
 
-mod book_file;
-mod cert_file;
+mod append;
+mod commands;
 mod laws;
-mod line;
-mod product;
-mod status;
-mod status_of;
+mod pricing;
+mod print;
 mod top;
+mod verdict;
 mod win;
-mod words;
+mod work;
 
+pub use cca_inputs::{FileKind, Status};
 pub use laws::{limit_of_ones, one_outcome};
-pub use status::{FileKind, Status};
 pub use top::run;
 
 #[cfg(test)]

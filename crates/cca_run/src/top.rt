@@ -1,55 +1,71 @@
 // The top call.
-ghost use Rattle.std.specs.Prelude.{◌≡◌, ◌⊎◌, ◌≤◌, ◌<◌, ℕ, List, length, map, string_bytes, Some, None, All, IsTrue};
+ghost use Rattle.std.specs.Prelude.{◌≡◌, ◌⊎◌, ◌≤◌, ◌<◌, ℕ, List, length, map, string_bytes, All, IsTrue, Some, None};
 ghost use Rattle.cca_base.specs.Files.{KeepsFiles};
 ghost use Rattle.cca_base.specs.Sink.{Puts};
-ghost use Rattle.cca_run.specs.Command.{command_of, inputs_of, outputs_of};
-ghost use Rattle.cca_run.specs.Ends.{Appended, Changes, CountsAmong, EndsWith, IsDecided, IsHindered, IsReadFault, IsWriteFault, KeepsAll, KnowsFiles, MayPrint, Prints};
-ghost use Rattle.cca_run.specs.Outcome.{Outcome, Gives};
-ghost use Rattle.cca_run.specs.StatusLine.{status_line};
-ghost use Rattle.cca_run.specs.Words.{command_value};
+ghost use Rattle.cca_inputs.specs.Command.{command_of};
+ghost use Rattle.cca_inputs.specs.Outcome.{Outcome};
+ghost use Rattle.cca_inputs.specs.StatusLine.{status_line};
+ghost use Rattle.cca_inputs.specs.Statuses.{IsDecided, IsHindered, KeepsAll};
+ghost use Rattle.cca_inputs.specs.Words.{KnowsFiles, command_value};
+ghost use Rattle.cca_inputs.specs.declared.status.FileKind.{FileKind};
+ghost use Rattle.cca_inputs.specs.declared.status.Status.{Status};
+ghost use Rattle.cca_run.specs.Gives.{Gives};
+ghost use Rattle.cca_run.specs.Run.{Appended, Changes, CountsAmong, IsDue, IsReadFault, IsWriteFault, inputs, outputs};
+ghost use Rattle.cca_run.specs.Works.{AreOutputs, FinishEnds, RunEnds};
 
-use crate::line::line_of;
-use crate::product::{Product, work_out};
-use crate::words::{Command, read_command};
+use crate::append::append_all;
+use crate::commands::work_out;
+use crate::print::{print, print_stop};
+use crate::work::Work;
 use crate::{FileKind, Status};
-use cca_base::{Files, Sink, write_file, write_sink};
+use cca_base::{Files, Sink};
+use cca_inputs::{Command, line_of, read_command};
 use std::alloc::Global;
-
-// Writes the text and answers the status.
-fn print<O: Sink>(out: &mut O, text: &[u8], status: Status) -> Status
-    ensures printed { Prints (O.output out.old) (O.output out.new) text.now status result }
-    ensures count { (O.output out.old).faults ≤ (O.output out.new).faults }
-{
-    match write_sink(out, text) {
-        Ok(()) => status,
-        Err(_) => Status::WriteFault {
-            file: FileKind::Out,
-        },
-    }
-}
 
 // Appends what is to be appended, and then prints.
 fn finish<F: Files, O: Sink>(
     files: &mut F,
     out: &mut O,
     command: Command<'_>,
-    product: &Product,
+    work: &Work,
 ) -> Status
-    requires { KnowsFiles (F.folder files.old) (command_value command) }
-    ensures done { EndsWith (command_value command.entry) (F.folder files.old) (F.folder files.new) (O.output out.old) (O.output out.new) product.now.printed product.now.appended result }
-    ensures loads { (F.folder files.new).load_faults ≡ (F.folder files.old).load_faults }
-    ensures appends { CountsAmong (outputs_of (Some (command_value command.entry))) (F.folder files.old).append_faults (F.folder files.new).append_faults }
-    ensures faults { (O.output out.old).faults ≤ (O.output out.new).faults }
+    requires known { KnowsFiles (F.folder files.old) (command_value command) }
+    requires outputs { AreOutputs (command_value command) work.now.appended.items }
+    ensures { FinishEnds (command_value command.entry) (F.folder files.old) (F.folder files.new) (O.output out.old) (O.output out.new) work.now.printed work.now.appended.items result }
 {
-    if let Some(name) = command.output() {
-        if write_file(files, name, product.appended.items()).is_err() {
-            let status = Status::WriteFault {
-                file: FileKind::Cert,
-            };
-            return print(out, line_of(status).as_slice(), status);
+    match append_all(files, command, work.appended.as_slice()) {
+        Ok(()) => print(out, b"", work.printed.items(), Status::Done),
+        Err(file) => {
+            let status = Status::WriteFault { file };
+            print(out, b"", line_of(status).as_slice(), status)
         }
     }
-    print(out, product.printed.items(), Status::Done)
+}
+
+// Runs a command.
+fn run_command<F: Files, O: Sink>(
+    alloc: Global,
+    files: &mut F,
+    out: &mut O,
+    command: Command<'_>,
+) -> Status
+    requires { KnowsFiles (F.folder files.old) (command_value command) }
+    ensures ends { RunEnds (Some (command_value command.entry)) (F.folder files.old) (F.folder files.new) (O.output out.old) (O.output out.new) result }
+    ensures faults { (O.output out.old).faults ≤ (O.output out.new).faults }
+{
+    match work_out(alloc, files, command) {
+        Ok(work) => finish(files, out, command, &work),
+        Err(stop) => print_stop(out, &stop),
+    }
+}
+
+// Tells that the words are of no plain form.
+fn tell_words<F: Files, O: Sink>(files: &F, out: &mut O) -> Status
+    ensures ends { RunEnds None (F.folder files.now) (F.folder files.now) (O.output out.old) (O.output out.new) result }
+    ensures words { (result ≡ Status.Words) ⊎ (result ≡ Status.WriteFault FileKind.Out) }
+    ensures faults { (O.output out.old).faults ≤ (O.output out.new).faults }
+{
+    print(out, b"", line_of(Status::Words).as_slice(), Status::Words)
 }
 
 /// Runs the command that the words say, the words after the program's name.
@@ -79,27 +95,26 @@ pub fn run<F: Files, O: Sink>(alloc: Global, words: &[String], files: &mut F, ou
     // appends was appended whole.
     ensures answer { IsTrue (F.folder files.old).told → IsDecided result → (o : Outcome) × Gives (map string_bytes words.now) (F.folder files.old).file o
         × (o.status ≡ result) × Puts (O.output out.old) (O.output out.new) o.printed (length o.printed)
-        × Appended (command_of (map string_bytes words.now)) (F.folder files.old) (F.folder files.new) o.appended }
+        × Appended (command_of (map string_bytes words.now)) o.appended (F.folder files.old) (F.folder files.new) }
 
-    // After a fault of a file and want of memory the line of the status was printed, after a fault of the output the front of a text.
+    // After a fault of a file and want of memory the line of the status was printed; after a fault of the output a front, and not all, of
+    // the text that was due.
     ensures line { (result ≡ Status.Words) ⊎ IsHindered result → Puts (O.output out.old) (O.output out.new) (status_line result) (length (status_line result)) }
     ensures front { result ≡ Status.WriteFault FileKind.Out → (text : List ℕ) × (n : ℕ) × (n < length text) × Puts (O.output out.old) (O.output out.new) text n
-        × (IsTrue (F.folder files.old).told → MayPrint (map string_bytes words.now) (F.folder files.old).file text) }
+        × (IsTrue (F.folder files.old).told → IsDue (map string_bytes words.now) (F.folder files.old) (F.folder files.new) text) }
 
-    // The command's file grows by the front of what it appends, and only on Done and faults of writing; no other file changes.
+    // The command's files grow by the front of what it appends, one after the other, and only on Done and faults of writing; no other
+    // file changes.
     ensures kept { KeepsAll result → KeepsFiles (F.folder files.old) (F.folder files.new) }
     ensures files { Changes (command_of (map string_bytes words.now)) (F.folder files.old) (F.folder files.new) }
 
     // No count falls, and only those of the files that the command reads and appends to may rise.
-    ensures loads { CountsAmong (inputs_of (command_of (map string_bytes words.now))) (F.folder files.old).load_faults (F.folder files.new).load_faults }
-    ensures appends { CountsAmong (outputs_of (command_of (map string_bytes words.now))) (F.folder files.old).append_faults (F.folder files.new).append_faults }
+    ensures loads { CountsAmong (inputs (command_of (map string_bytes words.now))) (F.folder files.old).load_faults (F.folder files.new).load_faults }
+    ensures appends { CountsAmong (outputs (command_of (map string_bytes words.now))) (F.folder files.old).append_faults (F.folder files.new).append_faults }
     ensures faults { (O.output out.old).faults ≤ (O.output out.new).faults }
 {
-    let Some(command) = read_command(words) else {
-        return print(out, line_of(Status::Words).as_slice(), Status::Words);
-    };
-    match work_out(alloc, files, command) {
-        Ok(product) => finish(files, out, command, &product),
-        Err(status) => print(out, line_of(status).as_slice(), status),
+    match read_command(words) {
+        Some(command) => run_command(alloc, files, out, command),
+        None => tell_words(files, out),
     }
 }

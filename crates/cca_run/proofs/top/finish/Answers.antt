@@ -1,11 +1,10 @@
-use Rattle.std.proofs.Common.{◌∙◌, sym}
-use Rattle.cca_run.specs.Words.{command_value}
-use Rattle.cca_run.proofs.Finished.{err-of, failed}
+use Rattle.std.proofs.Common.{◌∙◌}
+use Rattle.cca_inputs.specs.Words.{command_value}
+use Rattle.cca_run.proofs.Finished.{append-failed}
 use Rattle.cca_run.proofs.top.finish.Goals as goal
 
-pub returns-then-is_err-clause-done : goal.returns-then-is_err-clause-done
-returns-then-is_err-clause-done g c =
-    failed (command_value c.args.command) (g.F.Files.folder c.args.files.now) (g.F.Files.folder c.write_file.new.files) (g.O.Sink.output c.args.out.now) (g.O.Sink.output c.print.new.out)
-    c.in-Some.name.now c.as_slice.result.now c.args.product.now.printed c.args.product.now.appended c.print.result
-    (sym c.in-Some.ensures) (err-of c.write_file.result _ c.if-is_err.ensures.value c.write_file.ensures.cause) (rw c.items.ensures at c.write_file.ensures.prefix)
-    (c.as_slice.ensures.value ∙ c.line_of.ensures) c.print.ensures.printed
+pub returns-in-Err : goal.returns-in-Err
+returns-in-Err g c =
+    append-failed (command_value c.args.command) (g.F.Files.folder c.args.files.now) (g.F.Files.folder c.append_all.new.files) (g.O.Sink.output c.args.out.now) (g.O.Sink.output c.print-in-Err.new.out)
+    c.args.work.now.printed c.as_slice-in-Err.result.now c.args.work.now.appended.items c.in-Err.file c.print-in-Err.result (rw c.as_slice.ensures.value at c.in-Err.ensures.ends) c.in-Err.ensures.counts c.print-in-Err.ensures.count
+    (c.as_slice-in-Err.ensures.value ∙ c.line_of.ensures) c.print-in-Err.ensures.printed

@@ -1,0 +1,170 @@
+-- How appends end.
+use Rattle.std.proofs.Common.{◌≡◌, ◌∙◌, ℕ, ◌≤◌, ◌<◌, IsTrue, Option, Some, List, [], ◌∷◌, ◌++◌, length, refl, sym, ap, subst, arith}
+use Rattle.std.specs.Prelude.{Result, Ok, Err}
+use Rattle.std.specs.List.{AllByRecursion}
+use Rattle.cca_base.specs.Faults.{Rose}
+use Rattle.std.specs.Prelude.{take, drop, ◌-◌}
+use Rattle.std.specs.Option.{option_map}
+use Rattle.std.proofs.Common.{append_assoc, get_or}
+use Rattle.std.proofs.lemmas.List.{take_all}
+use Rattle.cca_base.specs.Files.{Adds, CountsOnly, Folder, KeepsFiles, added}
+use Rattle.cca_base.specs.declared.write.WriteStop.{WriteStop}
+use Rattle.cca_base.specs.declared.write.WriteStop.TheVariants.{Fault}
+use Rattle.cca_inputs.specs.Command.{CommandValue, files_of, output_as, outputs_of}
+use Rattle.cca_inputs.specs.Words.{KnowsFiles}
+use Rattle.cca_inputs.specs.declared.file_text.FileText.{FileText}
+use Rattle.cca_inputs.specs.declared.status.FileKind.{FileKind}
+use Rattle.cca_run.specs.Run.{AppendsAll}
+use Rattle.cca_run.specs.Works.{AppendEnds, FailsAt, OnlyAppends}
+use Rattle.cca_run.proofs.Counts.{among-none, among-one, among-then, rose-from}
+use Rattle.cca_run.proofs.Named.{output-among}
+
+keeps : (folder : Folder) → KeepsFiles folder folder
+keeps folder = record { knows = refl; told = refl; file = refl; room = refl }
+
+-- the names are known after an append as before
+pub known-on : (command : CommandValue) (old new : Folder) → new.knows ≡ old.knows → KnowsFiles old command → KnowsFiles new command
+known-on command old new same all = subst (λ (k : List ℕ → _). AllByRecursion (λ f. IsTrue (k f.name)) (files_of command)) (sym same) all
+
+-- one text was appended whole
+pub whole-one : (command : CommandValue) (text : FileText) (name : List ℕ) (old new : Folder) → output_as command text.kind ≡ Some name → Adds name old new text.text (length text.text)
+    → AppendsAll command (text ∷ []) old new
+whole-one command text name old new output adds = (new, record { name = name; output = output; whole = adds }, keeps new)
+
+pub as-fault : (e : WriteStop) → (n : ℕ) × (e ≡ Fault n)
+as-fault (Fault n) = (n, refl)
+
+-- of one text a front was appended
+pub part-one : (command : CommandValue) (text : FileText) (name : List ℕ) (old new : Folder) (n : ℕ) → output_as command text.kind ≡ Some name
+    → Rose (old.append_faults name) (new.append_faults name) → n < length text.text → Adds name old new text.text n → FailsAt command (text ∷ []) old new text.kind
+part-one command text name old new n output rose less adds = record {
+  name = name;
+  output = output;
+  rose = rose;
+  part = record {
+    before = [];
+    text = text.text;
+    behind = [];
+    split = refl;
+    between = old;
+    whole = keeps old;
+    name = name;
+    output = output;
+    count = n;
+    part = less;
+    front = adds;
+  };
+}
+
+pub counts-one : (command : CommandValue) (kind : FileKind) (name : List ℕ) (old new : Folder) → output_as command kind ≡ Some name → CountsOnly name old.append_faults new.append_faults
+    → new.load_faults ≡ old.load_faults → OnlyAppends command old new
+counts-one command kind name old new output count loads = record {
+  loads = loads;
+  appends = among-one (outputs_of command) name old.append_faults new.append_faults (output-among command kind name output) count;
+}
+
+pub counts-none : (command : CommandValue) (folder : Folder) → OnlyAppends command folder folder
+counts-none command folder = record { loads = refl; appends = among-none (outputs_of command) folder.append_faults }
+
+pub counts-on : (command : CommandValue) (old mid new : Folder) → OnlyAppends command old mid → OnlyAppends command mid new → OnlyAppends command old new
+counts-on command old mid new a b = record {
+  loads = b.loads ∙ a.loads;
+  appends = among-then (outputs_of command) old.append_faults mid.append_faults new.append_faults a.appends b.appends;
+}
+
+-- the files that one text leaves are those that the next begins with
+joined : (command : CommandValue) (text : FileText) (rest : List FileText) (old mid new : Folder) → AppendsAll command (text ∷ []) old mid → AppendsAll command rest mid new → AppendsAll command (text ∷ rest) old new
+joined command text rest old mid new one others = (one.0, one.1, moved rest others)
+  where
+    same : KeepsFiles one.0 mid
+    same = one.2
+
+    adds-from : (name piece : List ℕ) (n : ℕ) (to : Folder) → Adds name mid to piece n → Adds name one.0 to piece n
+    adds-from name piece n to b = record {
+      knows = b.knows ∙ same.knows;
+      told = b.told ∙ same.told;
+      file = λ t. b.file (subst IsTrue (sym same.told) t) ∙ ap (λ (f : List ℕ → Option (List ℕ)). added (f name) (take n piece)) same.file;
+      other_files = λ other apart. b.other_files other apart ∙ ap (λ (f : List ℕ → Option (List ℕ)). f other) same.file;
+      room = b.room ∙ ap (λ (f : List ℕ → Option ℕ). option_map (λ r. r - n) (f name)) same.room;
+      other_rooms = λ other apart. b.other_rooms other apart ∙ ap (λ (f : List ℕ → Option ℕ). f other) same.room;
+    }
+
+    moved : (rest : List FileText) → AppendsAll command rest mid new → AppendsAll command rest one.0 new
+    moved [] k = record { knows = k.knows ∙ same.knows; told = k.told ∙ same.told; file = k.file ∙ same.file; room = k.room ∙ same.room }
+    moved (t ∷ rest) w = (w.0, record { name = w.1.name; output = w.1.output; whole = adds-from w.1.name t.text (length t.text) w.0 w.1.whole }, w.2)
+
+-- an append failed at the only text, and so at the first of more
+fails-first : (command : CommandValue) (text : FileText) (rest : List FileText) (old new : Folder) (kind : FileKind) → FailsAt command (text ∷ []) old new kind → FailsAt command (text ∷ rest) old new kind
+fails-first command text rest old new kind f =
+    let p = f.part in
+    record {
+      name = f.name;
+      output = f.output;
+      rose = f.rose;
+      part = record {
+        before = p.before;
+        text = p.text;
+        behind = p.behind ++ rest;
+        split = ap (λ (l : List FileText). l ++ rest) p.split ∙ append_assoc p.before (record { kind = kind; text = p.text } ∷ p.behind) rest;
+        between = p.between;
+        whole = p.whole;
+        name = p.name;
+        output = p.output;
+        count = p.count;
+        part = p.part;
+        front = p.front;
+      };
+    }
+
+-- an append failed behind the first text, which was appended whole
+fails-later : (command : CommandValue) (text : FileText) (rest : List FileText) (old mid new : Folder) (kind : FileKind) → AppendsAll command (text ∷ []) old mid → OnlyAppends command old mid
+    → FailsAt command rest mid new kind → FailsAt command (text ∷ rest) old new kind
+fails-later command text rest old mid new kind one counts f =
+    let p = f.part in
+    record {
+      name = f.name;
+      output = f.output;
+      rose = rose-from (old.append_faults f.name) (mid.append_faults f.name) (new.append_faults f.name) (counts.appends.not_less f.name) f.rose;
+      part = record {
+        before = text ∷ p.before;
+        text = p.text;
+        behind = p.behind;
+        split = ap (λ (l : List FileText). text ∷ l) p.split;
+        between = p.between;
+        whole = joined command text p.before old mid p.between one p.whole;
+        name = p.name;
+        output = p.output;
+        count = p.count;
+        part = p.part;
+        front = p.front;
+      };
+    }
+
+-- the list behind its first element, as a slice has it
+pub rest-is : (t : FileText) (texts : List FileText) → take (length (t ∷ texts) - 1) (drop 1 (t ∷ texts)) ≡ texts
+rest-is t texts = take_all (length (t ∷ texts) - 1) texts (omega arith)
+
+-- the first text was appended, and the others ended so
+pub ends-later : (command : CommandValue) (text : FileText) (rest : List FileText) (old mid new : Folder) → AppendsAll command (text ∷ []) old mid → OnlyAppends command old mid
+    → (result : Result Unit FileKind) → AppendEnds command rest mid new result → AppendEnds command (text ∷ rest) old new result
+ends-later command text rest old mid new one counts (Ok u) all = joined command text rest old mid new one all
+ends-later command text rest old mid new one counts (Err kind) f = fails-later command text rest old mid new kind one counts f
+
+pub ends-first : (command : CommandValue) (text : FileText) (rest : List FileText) (old new : Folder) (kind : FileKind) → AppendEnds command (text ∷ []) old new (Err kind) → AppendEnds command (text ∷ rest) old new (Err kind)
+ends-first command text rest old new kind f = fails-first command text rest old new kind f
+
+-- over a slice that has a first text: it was appended, and the others ended so
+pub slice-later : (command : CommandValue) (texts : List FileText) (first : FileText) (old mid new : Folder) → 1 ≤ length texts → first ≡ get_or texts 0 first → AppendsAll command (first ∷ []) old mid
+    → OnlyAppends command old mid → (result : Result Unit FileKind) → AppendEnds command (take (length texts - 1) (drop 1 texts)) mid new result → AppendEnds command texts old new result
+slice-later command [] first old mid new some is one counts result ends = absurd (omega (arith, some))
+slice-later command (t ∷ texts) first old mid new some is one counts result ends =
+    let same : t ≡ first = cc in
+    ends-later command t texts old mid new (subst (λ (x : FileText). AppendsAll command (x ∷ []) old mid) (sym same) one) counts result (subst (λ (l : List FileText). AppendEnds command l mid new result) (rest-is t texts) ends)
+
+-- over such a slice: the append of the first failed
+pub slice-first : (command : CommandValue) (texts : List FileText) (first : FileText) (old new : Folder) (kind : FileKind) → 1 ≤ length texts → first ≡ get_or texts 0 first
+    → AppendEnds command (first ∷ []) old new (Err kind) → AppendEnds command texts old new (Err kind)
+slice-first command [] first old new kind some is fails = absurd (omega (arith, some))
+slice-first command (t ∷ texts) first old new kind some is fails =
+    let same : t ≡ first = cc in
+    fails-first command t texts old new kind (subst (λ (x : FileText). FailsAt command (x ∷ []) old new kind) (sym same) fails)

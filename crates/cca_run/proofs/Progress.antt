@@ -1,0 +1,126 @@
+-- The way of a command from one input to the next.
+use Rattle.std.proofs.Common.{inl, inr, ◌≡◌, ◌∙◌, ℕ, ◌≤◌, IsTrue, Option, Some, None, List, [], ◌∷◌, length, map, refl, sym, ap, subst, arith}
+use Rattle.std.specs.Prelude.{Contains, option_and_then, Result, Ok, Err, IsSome}
+use Rattle.std.specs.List.{AllByRecursion}
+use Rattle.cca_base.specs.Files.{Folder, KeepsFiles}
+use Rattle.cca_inputs.specs.Command.{CommandValue, contents_of, input_as, inputs_of, missing, output_as}
+use Rattle.cca_inputs.specs.Outcome.{Answer, FileAnswers, InputGives, Outcome, done, stopped, stops, value}
+use Rattle.cca_inputs.specs.Reading.{InputStops, OnlyLoads}
+use Rattle.cca_inputs.specs.declared.file_text.FileText.{FileText}
+use Rattle.cca_inputs.specs.declared.status.FileKind.{FileKind}
+use Rattle.cca_inputs.specs.declared.status.Status.{Status}
+use Rattle.cca_inputs.specs.declared.status.Status.TheVariants.{ReadFault}
+use Rattle.cca_run.specs.Gives.{CommandGives, FilesGive}
+use Rattle.cca_run.specs.Works.{AreOutputs, IsWork, OnlyReads, StopsBy, Works, WorksOut, bare}
+use Rattle.cca_run.specs.declared.work.Stop.{Stop}
+use Rattle.cca_run.specs.declared.work.Work.{Work}
+use Rattle.cca_run.proofs.Counts.{among-none, among-one, among-then, rose-from}
+
+-- contents, by the kinds of the inputs
+abbrev pub Contents : Type 0
+Contents = FileKind → Option (List ℕ)
+
+keeps : (folder : Folder) → KeepsFiles folder folder
+keeps folder = record { knows = refl; told = refl; file = refl; room = refl }
+
+keeps-then : (old mid new : Folder) → KeepsFiles old mid → KeepsFiles mid new → KeepsFiles old new
+keeps-then old mid new a b = record { knows = b.knows ∙ a.knows; told = b.told ∙ a.told; file = b.file ∙ a.file; room = b.room ∙ a.room }
+
+-- these contents are those of the files, at the kinds that were read
+abbrev pub Agree : CommandValue → Folder → Contents → List FileKind → Type 0
+Agree command folder contents seen = AllByRecursion (λ kind. contents kind ≡ contents_of command folder.file kind) seen
+
+agree-own : (command : CommandValue) (folder : Folder) (seen : List FileKind) → Agree command folder (contents_of command folder.file) seen
+agree-own command folder [] = tt
+agree-own command folder (kind ∷ seen) = (refl, agree-own command folder seen)
+
+-- The inputs of these kinds were read, and what is left of the command is this.
+pub record IsAt (command : CommandValue) (old mid : Folder) (seen : List FileKind) (rest : Contents → Outcome → Type 0) : Type 0 where
+  pub reads : OnlyReads command old mid
+  pub leads : IsTrue old.told → (contents : Contents) → Agree command old contents seen → (o : Outcome) → rest contents o → CommandGives command contents o
+
+-- nothing was read
+pub begins : (command : CommandValue) (old : Folder) → IsAt command old old [] (CommandGives command)
+begins command old = record {
+  reads = record { kept = keeps old; loads = among-none (inputs_of command) old.load_faults; appends = refl };
+  leads = λ told contents agree o gives. gives;
+}
+
+-- the loads of one more input
+reads-on : (command : CommandValue) (old mid new : Folder) (name : List ℕ) → Contains (inputs_of command) name → OnlyReads command old mid → OnlyLoads name mid new → OnlyReads command old new
+reads-on command old mid new name within a b = record {
+  kept = keeps-then old mid new a.kept b.kept;
+  loads = among-then (inputs_of command) old.load_faults mid.load_faults new.load_faults a.loads (among-one (inputs_of command) name mid.load_faults new.load_faults within b.count);
+  appends = b.appends ∙ a.appends;
+}
+
+module _ {V : Type 0} (command : CommandValue) (old mid new : Folder) (seen : List FileKind) (kind : FileKind) (most : ℕ) (says : List ℕ → Answer V → Type 0)
+    (follows : Contents → V → Outcome → Type 0) (name : List ℕ) (input : input_as command kind ≡ Some name) (within : Contains (inputs_of command) name)
+    (at : IsAt command old mid seen (λ contents. InputGives kind most says (contents kind) (follows contents))) (loads : OnlyLoads name mid new) where
+  same-file : contents_of command old.file kind ≡ mid.file name
+  same-file = ap (option_and_then old.file) input ∙ ap (λ (f : List ℕ → Option (List ℕ)). f name) (sym at.reads.kept.file)
+
+  still-told : IsTrue old.told → IsTrue mid.told
+  still-told told = subst IsTrue (sym at.reads.kept.told) told
+
+  -- the next input was read
+  pub reads-next : (v : V) (bytes : List ℕ) → length bytes ≤ most → says bytes (value v) → (IsTrue mid.told → mid.file name ≡ Some bytes)
+      → IsAt command old new (kind ∷ seen) (λ contents. follows contents v)
+  reads-next v bytes short said here = record {
+    reads = reads-on command old mid new name within at.reads loads;
+    leads = λ told contents agree o gives.
+        let is : contents kind ≡ Some bytes = agree.0 ∙ same-file ∙ here (still-told told) in
+        let answers : FileAnswers most says bytes (value v) = record { text = λ _. said; long = λ over. absurd (omega (arith, short, over)) } in
+        at.leads told contents agree.1 o (subst (λ (content : Option (List ℕ)). InputGives kind most says content (follows contents) o) (sym is) (value v, answers, gives));
+  }
+
+  -- the next input stopped it
+  pub stops-next : (halts : List ℕ → Status → Type 0) → ((bytes : List ℕ) (s : Status) → halts bytes s → says bytes (stops s))
+      → missing kind (contents_of command old.file) kind ≡ None → Agree command old (missing kind (contents_of command old.file)) seen
+      → (s : Status) → InputStops kind most halts mid.told (mid.file name) (mid.load_faults name) (new.load_faults name) s → Works command old new (Err (bare s))
+  stops-next halts turn gone agree s stop = record { out = by stop; reads = reads-on command old mid new name within at.reads loads }
+    where
+      by : InputStops kind most halts mid.told (mid.file name) (mid.load_faults name) (new.load_faults name) s → StopsBy command old new (bare s)
+      by (inl memory) = inl (ap bare memory)
+      by (inr (inl fault)) = inr (inl (
+        kind,
+        ap bare fault.0,
+        record {
+          name = name;
+          input = input;
+          rose = rose-from (old.load_faults name) (mid.load_faults name) (new.load_faults name) (at.reads.loads.not_less name) fault.1;
+          reached = λ told. at.leads told (missing kind (contents_of command old.file)) agree (stopped (ReadFault kind))
+              (subst (λ (content : Option (List ℕ)). InputGives kind most says content (follows (missing kind (contents_of command old.file))) (stopped (ReadFault kind))) (sym gone) refl);
+        },
+      ))
+      by (inr (inr given)) = inr (inr (
+        given.0,
+        λ told.
+            let h = given.1 (still-told told) in
+            let is : contents_of command old.file kind ≡ Some h.bytes = same-file ∙ h.here in
+            let answers : FileAnswers most says h.bytes (stops s) = record { text = λ short. turn h.bytes s (h.text short); long = λ over. ap stops (h.long over) } in
+            at.leads told (contents_of command old.file) (agree-own command old seen) (stopped s)
+            (subst (λ (content : Option (List ℕ)). InputGives kind most says content (follows (contents_of command old.file)) (stopped s)) (sym is) (stops s, answers, refl)),
+      ))
+
+-- the kinds of texts are those of outputs
+outputs-of-kinds : (command : CommandValue) (texts : List FileText) (kinds : List FileKind) → map (λ t. t.kind) texts ≡ kinds → AllByRecursion (λ kind. IsSome (output_as command kind)) kinds → AreOutputs command texts
+outputs-of-kinds command texts kinds is all = by texts (subst (λ (ks : List FileKind). AllByRecursion (λ kind. IsSome (output_as command kind)) ks) (sym is) all)
+  where
+    by : (texts : List FileText) → AllByRecursion (λ kind. IsSome (output_as command kind)) (map (λ t. t.kind) texts) → AreOutputs command texts
+    by [] all = tt
+    by (t ∷ texts) all = (all.0, by texts all.1)
+
+-- all inputs were read, and the work was worked out
+pub works : (command : CommandValue) (old new : Folder) (seen : List FileKind) (rest : Contents → Outcome → Type 0) → IsAt command old new seen rest
+    → (kinds : List FileKind) → AllByRecursion (λ kind. IsSome (output_as command kind)) kinds
+    → (result : Result Work Stop) → IsWork (rest (contents_of command old.file)) kinds result → Works command old new result
+works command old new seen rest at kinds outputs result is = record { out = by result is; reads = at.reads }
+  where
+    given : (o : Outcome) → rest (contents_of command old.file) o → IsTrue old.told → FilesGive command old.file o
+    given o gives told = at.leads told (contents_of command old.file) (agree-own command old seen) o gives
+
+    by : (result : Result Work Stop) → IsWork (rest (contents_of command old.file)) kinds result → WorksOut command old new result
+    by (Ok work) is = (outputs-of-kinds command work.appended.items kinds is.1 outputs, given (done work.printed work.appended.items) is.0)
+    by (Err stop) (inl memory) = inl memory
+    by (Err stop) (inr x) = inr (inr (x.0, given _ x.1))

@@ -1,0 +1,55 @@
+-- Two texts that are put one after the other.
+use Rattle.std.proofs.Common.{inl, inr, ◌≡◌, ◌∙◌, ℕ, ◌≤◌, ◌+◌, ◌-◌, Bool, true, false, Option, Some, None, List, ◌++◌, length, take, refl, sym, ap, subst, arith, append_assoc}
+use Rattle.std.specs.Option.{option_map}
+use Rattle.std.proofs.lemmas.List.{length-append, take-append-le}
+use Rattle.std.proofs.Math.Seq.{take-length, take-append-add}
+use Rattle.cca_base.specs.Sink.{Output, Puts}
+use Rattle.cca_inputs.specs.declared.status.FileKind.TheVariants.{Out}
+use Rattle.cca_inputs.specs.declared.status.Status.{Status}
+use Rattle.cca_inputs.specs.declared.status.Status.TheVariants.{WriteFault}
+use Rattle.cca_run.specs.Run.{Prints}
+use Rattle.cca_run.specs.Works.{Written}
+use Rattle.cca_run.proofs.Counts.{rose-from}
+
+grown : (a b : List ℕ) (n : ℕ) (x y z : Option (List ℕ)) → y ≡ option_map (λ t. t ++ take (length a) a) x → z ≡ option_map (λ t. t ++ take n b) y → z ≡ option_map (λ t. t ++ take (length a + n) (a ++ b)) x
+grown a b n None y z is then = then ∙ ap (option_map (λ t. t ++ take n b)) is
+grown a b n (Some t) y z is then =
+    then ∙ ap (option_map (λ u. u ++ take n b)) is
+    ∙ ap Some (append_assoc t (take (length a) a) (take n b) ∙ ap (λ (p : List ℕ). t ++ p) (ap (λ (p : List ℕ). p ++ take n b) (take-length a) ∙ sym (take-append-add a b n)))
+
+left : (m n : ℕ) (x y z : Option ℕ) → y ≡ option_map (λ r. r - m) x → z ≡ option_map (λ r. r - n) y → z ≡ option_map (λ r. r - (m + n)) x
+left m n None y z is then = then ∙ ap (option_map (λ r. r - n)) is
+left m n (Some r) y z is then = then ∙ ap (option_map (λ r. r - n)) is ∙ ap Some (omega arith)
+
+-- the first whole, and of the second so many bytes
+puts-on : (old mid new : Output) (a b : List ℕ) (n : ℕ) → Puts old mid a (length a) → Puts mid new b n → Puts old new (a ++ b) (length a + n)
+puts-on old mid new a b n p q = record {
+  bytes = grown a b n old.bytes mid.bytes new.bytes p.bytes q.bytes;
+  room = left (length a) n old.room mid.room new.room p.room q.room;
+}
+
+-- a front of the first
+puts-first : (old new : Output) (a b : List ℕ) (n : ℕ) → n ≤ length a → Puts old new a n → Puts old new (a ++ b) n
+puts-first old new a b n le p = record { bytes = p.bytes ∙ ap (λ (t : List ℕ). option_map (λ x. x ++ t) old.bytes) (sym (take-append-le n a b le)); room = p.room }
+
+-- the first wasn't written whole
+pub first-fails : (old new : Output) (a b : List ℕ) (status : Status) (whole : Bool) → whole ≡ false → Written old new a whole → Prints old new (a ++ b) status (WriteFault Out)
+first-fails old new a b status whole is written = by (subst (Written old new a) is written)
+  where
+    by : Written old new a false → Prints old new (a ++ b) status (WriteFault Out)
+    by w = let cut = w.1 in inr (refl, w.0, (cut.0, (let l = cut.1 in omega (arith, l, length-append a b)), puts-first old new a b cut.0 (let l = cut.1 in omega (arith, l)) cut.2))
+
+-- the second wasn't written whole
+pub second-fails : (old mid new : Output) (a b : List ℕ) (status : Status) (one whole : Bool) → old.faults ≤ mid.faults → one ≡ true → whole ≡ false → Written old mid a one → Written mid new b whole
+    → Prints old new (a ++ b) status (WriteFault Out)
+second-fails old mid new a b status one whole le first is p q = by (subst (Written old mid a) first p) (subst (Written mid new b) is q)
+  where
+    by : Written old mid a true → Written mid new b false → Prints old new (a ++ b) status (WriteFault Out)
+    by p w = let cut = w.1 in
+        inr (refl, rose-from old.faults mid.faults new.faults le w.0, (length a + cut.0, (let l = cut.1 in omega (arith, l, length-append a b)), puts-on old mid new a b cut.0 p cut.2))
+
+-- both were written whole
+pub both-written : (old mid new : Output) (a b : List ℕ) (status : Status) (one other : Bool) → one ≡ true → other ≡ true → Written old mid a one → Written mid new b other → Prints old new (a ++ b) status status
+both-written old mid new a b status one other first second p q =
+    let whole = puts-on old mid new a b (length b) (subst (Written old mid a) first p) (subst (Written mid new b) second q) in
+    inl (refl, subst (Puts old new (a ++ b)) (sym (length-append a b)) whole)

@@ -1,0 +1,5 @@
+use Rattle.std.proofs.Common.{rules}
+use Rattle.cca_run.proofs.commands.work_out.Goals as goal
+
+pub returns-in-Price : goal.returns-in-Price
+returns-in-Price g c = let works = c.price_work.ensures c.in-Price.cert.now in search rules

@@ -1,0 +1,68 @@
+// The work of each command.
+ghost use Rattle.std.specs.Prelude.{ℕ, List, [], IsTrue};
+ghost use Rattle.cca_inputs.specs.Command.{win, price, check};
+ghost use Rattle.cca_inputs.specs.Words.{KnowsFiles, command_value};
+ghost use Rattle.cca_run.specs.Gives.{WinGives};
+ghost use Rattle.cca_run.specs.Works.{IsWork, Works};
+
+use crate::pricing::price_alike;
+use crate::verdict::verdict_alike;
+use crate::win::win_of;
+use crate::work::{Stop, Work};
+use bid_book::BidBook;
+use cca_base::Files;
+use cca_inputs::{BookInput, CertInput, Command, read_input};
+use std::alloc::Global;
+
+fn winners(alloc: Global, book: &BidBook) -> Result<Work, Stop>
+    ensures { IsWork (WinGives book.now) [] result }
+{
+    let printed = win_of(alloc, book)?;
+    Ok(Work {
+        printed,
+        appended: Vec::new(alloc),
+    })
+}
+
+fn win_work<F: Files>(alloc: Global, files: &mut F, book: &str) -> Result<Work, Stop>
+    requires { IsTrue ((F.folder files.old).knows book.now) }
+    ensures { Works (win book.now) (F.folder files.old) (F.folder files.new) result }
+{
+    let book = read_input(alloc, files, book, &BookInput)?;
+    winners(alloc, &book)
+}
+
+fn price_work<F: Files>(
+    alloc: Global,
+    files: &mut F,
+    book: &str,
+    rounds: bool,
+) -> Result<Work, Stop>
+    requires { IsTrue ((F.folder files.old).knows book.now) }
+    ensures { (cert : List ℕ) → Works (price book.now cert rounds) (F.folder files.old) (F.folder files.new) result }
+{
+    let book = read_input(alloc, files, book, &BookInput)?;
+    price_alike(alloc, &book, rounds)
+}
+
+fn check_work<F: Files>(alloc: Global, files: &mut F, book: &str, cert: &str) -> Result<Work, Stop>
+    requires book { IsTrue ((F.folder files.old).knows book.now) }
+    requires cert { IsTrue ((F.folder files.old).knows cert.now) }
+    ensures { Works (check book.now cert.now) (F.folder files.old) (F.folder files.new) result }
+{
+    let book = read_input(alloc, files, book, &BookInput)?;
+    let cert = read_input(alloc, files, cert, &CertInput { book: &book })?;
+    verdict_alike(alloc, &book, &cert)
+}
+
+/// What the command prints and appends, or the stop on the way to it.
+pub fn work_out<F: Files>(alloc: Global, files: &mut F, command: Command<'_>) -> Result<Work, Stop>
+    requires { KnowsFiles (F.folder files.old) (command_value command) }
+    ensures { Works (command_value command.entry) (F.folder files.old) (F.folder files.new) result }
+{
+    match command {
+        Command::Win { book } => win_work(alloc, files, book),
+        Command::Price { book, rounds, .. } => price_work(alloc, files, book, rounds),
+        Command::Check { book, cert } => check_work(alloc, files, book, cert),
+    }
+}

@@ -1,0 +1,117 @@
+// Prices of a book, with their certificate.
+ghost use Rattle.std.specs.Prelude.{◌≡◌, ◌<◌, ◌^◌, ℕ, [], ◌∷◌, IfOk, Err, length};
+ghost use Rattle.std.specs.List.{AllByRecursion};
+ghost use Rattle.limits.specs.declared.LimitKind.{LimitKind};
+ghost use Rattle.cert_laws.specs.Weights.{IsWeighing};
+ghost use Rattle.core_price.specs.Turns.{turns_of};
+ghost use Rattle.core_price.specs.declared.priced.PriceStop.{PriceStop};
+ghost use Rattle.outcome.specs.Turns.{CanPrintTurn};
+ghost use Rattle.cca_inputs.specs.Outcome.{done, stopped};
+ghost use Rattle.cca_inputs.specs.declared.status.FileKind.{FileKind};
+ghost use Rattle.cca_inputs.specs.declared.status.Status.{Status};
+ghost use Rattle.cca_run.specs.Gives.{AreRounds, PriceGives, cert_file, ones};
+ghost use Rattle.cca_run.specs.Works.{IsWork};
+
+use crate::work::{Stop, Work};
+use crate::{FileKind, Status};
+use bid_book::BidBook;
+use book_price::price_book;
+use cca_inputs::FileText;
+use cert_text::write_cert;
+use choices::Choice;
+use core_price::{PriceStop, Turn};
+use limits::LimitKind;
+use outcome::{outcome_text, rounds_text};
+use std::alloc::{AllocError, Global};
+use wide_num::Text;
+
+/// The printed prices of a book, and the text of their certificate.
+#[derive(Drop)]
+struct PriceTexts {
+    printed: Text,
+    cert: Text,
+}
+
+// The lines of the turns, where they are asked for.
+fn rounds_part(
+    alloc: Global,
+    winners: &Choice,
+    turns: &[Turn],
+    rounds: bool,
+) -> Result<Text, AllocError>
+    requires turns { AllByRecursion (CanPrintTurn winners.now) turns.now }
+    requires few { length winners.now < 2 ^ 16 }
+    ensures { IfOk result (λ text. AreRounds rounds winners.now (turns_of winners.now turns.now) text) }
+{
+    if rounds {
+        rounds_text(alloc, winners, turns)
+    } else {
+        Ok(Text::new(alloc))
+    }
+}
+
+/// A weight of 1 for each bidder.
+pub fn ones_of(alloc: Global, book: &BidBook) -> Result<Vec<u32>, AllocError>
+    ensures { IfOk result (λ v. v.items ≡ ones book.now) }
+{
+    vec![in alloc; 1u32; book.bidders()]
+}
+
+fn price_texts(
+    alloc: Global,
+    book: &BidBook,
+    weights: &[u32],
+    rounds: bool,
+) -> Result<PriceTexts, PriceStop>
+    requires { IsWeighing book.now weights.now }
+    ensures done { IfOk result (λ p. PriceGives book.now weights.now rounds (done p.printed (cert_file p.cert ∷ []))) }
+    ensures stop { (n : ℕ) → result ≡ Err (PriceStop.Winners n) → PriceGives book.now weights.now rounds (stopped (Status.Limit LimitKind.Winners n)) }
+{
+    let _bidders = book.bidders();
+    let priced = price_book(alloc, book, weights)?;
+    let cert = &priced.cert;
+    let mut printed = rounds_part(alloc, &cert.choice, priced.turns.items(), rounds)?;
+    let prices = outcome_text(alloc, book, cert)?;
+    printed.add(prices.items())?;
+    let cert = write_cert(alloc, cert)?;
+    Ok(PriceTexts { printed, cert })
+}
+
+// The work whose one appended text is a certificate.
+fn with_cert(alloc: Global, texts: PriceTexts) -> Result<Work, Stop>
+    ensures { IsWork (λ o. o ≡ done texts.printed (cert_file texts.cert ∷ [])) (FileKind.Cert ∷ []) result }
+{
+    let mut appended = Vec::new(alloc);
+    appended.push(FileText {
+        kind: FileKind::Cert,
+        text: texts.cert,
+    })?;
+    Ok(Work {
+        printed: texts.printed,
+        appended,
+    })
+}
+
+/// The prices of a book by weights, printed behind the lines of the turns where the rounds are asked for, and their certificate.
+pub fn price_weighed(
+    alloc: Global,
+    book: &BidBook,
+    weights: &[u32],
+    rounds: bool,
+) -> Result<Work, Stop>
+    requires { IsWeighing book.now weights.now }
+    ensures { IsWork (PriceGives book.now weights.now rounds) (FileKind.Cert ∷ []) result }
+{
+    match price_texts(alloc, book, weights, rounds) {
+        Ok(texts) => with_cert(alloc, texts),
+        Err(stop) => Err(Stop::from(stop)),
+    }
+}
+
+/// The same with a weight of 1 for each bidder.
+pub fn price_alike(alloc: Global, book: &BidBook, rounds: bool) -> Result<Work, Stop>
+    ensures { IsWork (PriceGives book.now (ones book.now) rounds) (FileKind.Cert ∷ []) result }
+{
+    let weights = ones_of(alloc, book)?;
+    price_weighed(alloc, book, &weights, rounds)
+}
