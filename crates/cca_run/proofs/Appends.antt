@@ -10,6 +10,7 @@ use Rattle.std.proofs.lemmas.List.{take_all}
 use Rattle.cca_base.specs.Files.{Adds, CountsOnly, Folder, KeepsFiles, added}
 use Rattle.cca_base.specs.declared.write.WriteStop.{WriteStop}
 use Rattle.cca_base.specs.declared.write.WriteStop.TheVariants.{Fault}
+use Rattle.cca_run.proofs.Moved.{all-on}
 use Rattle.cca_inputs.specs.Command.{CommandValue, files_of, output_as, outputs_of}
 use Rattle.cca_inputs.specs.Words.{KnowsFiles}
 use Rattle.cca_inputs.specs.declared.file_text.FileText.{FileText}
@@ -74,24 +75,7 @@ counts-on command old mid new a b = record {
 
 -- the files that one text leaves are those that the next begins with
 joined : (command : CommandValue) (text : FileText) (rest : List FileText) (old mid new : Folder) → AppendsAll command (text ∷ []) old mid → AppendsAll command rest mid new → AppendsAll command (text ∷ rest) old new
-joined command text rest old mid new one others = (one.0, one.1, moved rest others)
-  where
-    same : KeepsFiles one.0 mid
-    same = one.2
-
-    adds-from : (name piece : List ℕ) (n : ℕ) (to : Folder) → Adds name mid to piece n → Adds name one.0 to piece n
-    adds-from name piece n to b = record {
-      knows = b.knows ∙ same.knows;
-      told = b.told ∙ same.told;
-      file = λ t. b.file (subst IsTrue (sym same.told) t) ∙ ap (λ (f : List ℕ → Option (List ℕ)). added (f name) (take n piece)) same.file;
-      other_files = λ other apart. b.other_files other apart ∙ ap (λ (f : List ℕ → Option (List ℕ)). f other) same.file;
-      room = b.room ∙ ap (λ (f : List ℕ → Option ℕ). option_map (λ r. r - n) (f name)) same.room;
-      other_rooms = λ other apart. b.other_rooms other apart ∙ ap (λ (f : List ℕ → Option ℕ). f other) same.room;
-    }
-
-    moved : (rest : List FileText) → AppendsAll command rest mid new → AppendsAll command rest one.0 new
-    moved [] k = record { knows = k.knows ∙ same.knows; told = k.told ∙ same.told; file = k.file ∙ same.file; room = k.room ∙ same.room }
-    moved (t ∷ rest) w = (w.0, record { name = w.1.name; output = w.1.output; whole = adds-from w.1.name t.text (length t.text) w.0 w.1.whole }, w.2)
+joined command text rest old mid new one others = (one.0, one.1, all-on command one.0 mid new one.2 rest others)
 
 -- an append failed at the only text, and so at the first of more
 fails-first : (command : CommandValue) (text : FileText) (rest : List FileText) (old new : Folder) (kind : FileKind) → FailsAt command (text ∷ []) old new kind → FailsAt command (text ∷ rest) old new kind

@@ -1,6 +1,6 @@
 -- Two texts that are put one after the other.
 use Rattle.std.proofs.Common.{inl, inr, ◌≡◌, ◌∙◌, ℕ, ◌≤◌, ◌+◌, ◌-◌, Bool, true, false, Option, Some, None, List, ◌++◌, length, take, refl, sym, ap, subst, arith, append_assoc}
-use Rattle.std.specs.Option.{option_map}
+use Rattle.std.specs.Option.{option_map, IfSome}
 use Rattle.std.proofs.lemmas.List.{length-append, take-append-le}
 use Rattle.std.proofs.Math.Seq.{take-length, take-append-add}
 use Rattle.cca_base.specs.Sink.{Output, Puts}
@@ -21,16 +21,22 @@ left : (m n : ℕ) (x y z : Option ℕ) → y ≡ option_map (λ r. r - m) x →
 left m n None y z is then = then ∙ ap (option_map (λ r. r - n)) is
 left m n (Some r) y z is then = then ∙ ap (option_map (λ r. r - n)) is ∙ ap Some (omega arith)
 
+-- what fits beside the first fits in all
+fit : (m n : ℕ) (x y : Option ℕ) → y ≡ option_map (λ r. r - m) x → IfSome x (λ r. m ≤ r) → IfSome y (λ r. n ≤ r) → IfSome x (λ r. m + n ≤ r)
+fit m n None y is one other = cc
+fit m n (Some r) y is one other = let rest : n ≤ r - m = subst (λ (o : Option ℕ). IfSome o (λ k. n ≤ k)) is other in omega (arith, one, rest)
+
 -- the first whole, and of the second so many bytes
 puts-on : (old mid new : Output) (a b : List ℕ) (n : ℕ) → Puts old mid a (length a) → Puts mid new b n → Puts old new (a ++ b) (length a + n)
 puts-on old mid new a b n p q = record {
   bytes = grown a b n old.bytes mid.bytes new.bytes p.bytes q.bytes;
+  fits = fit (length a) n old.room mid.room p.room p.fits q.fits;
   room = left (length a) n old.room mid.room new.room p.room q.room;
 }
 
 -- a front of the first
 puts-first : (old new : Output) (a b : List ℕ) (n : ℕ) → n ≤ length a → Puts old new a n → Puts old new (a ++ b) n
-puts-first old new a b n le p = record { bytes = p.bytes ∙ ap (λ (t : List ℕ). option_map (λ x. x ++ t) old.bytes) (sym (take-append-le n a b le)); room = p.room }
+puts-first old new a b n le p = record { bytes = p.bytes ∙ ap (λ (t : List ℕ). option_map (λ x. x ++ t) old.bytes) (sym (take-append-le n a b le)); fits = p.fits; room = p.room }
 
 -- the first wasn't written whole
 pub first-fails : (old new : Output) (a b : List ℕ) (status : Status) (whole : Bool) → whole ≡ false → Written old new a whole → Prints old new (a ++ b) status (WriteFault Out)

@@ -19,8 +19,16 @@ const ABOVE_ITS_BID: &str =
 const GREATEST_AMOUNTS: &str =
     "book 1\nsupply 6\nreserve 0\nbidder u1\nbid 1 4398046511104\nbidder u2\nbid 1 4398046511104\nbidder u3\nbid 1 4398046511104\nbidder u4\nbid 1 4398046511104\nbidder u5\nbid 1 4398046511104\nbidder u6\nbid 1 4398046511104\nbidder g\nbid 6 4398046511104\nend\n";
 
+// As many bidders as there may be.
+const SIXTEEN: &str =
+    "book 1\nsupply 4\nreserve 0\nbidder m1\nbid 1 5\nbidder m2\nbid 1 5\nbidder m3\nbid 1 5\nbidder m4\nbid 1 5\nbidder m5\nbid 1 5\nbidder m6\nbid 1 5\nbidder m7\nbid 1 5\nbidder m8\nbid 1 5\nbidder m9\nbid 1 5\nbidder m10\nbid 1 5\nbidder m11\nbid 1 5\nbidder m12\nbid 1 5\nbidder m13\nbid 1 5\nbidder m14\nbid 1 5\nbidder m15\nbid 1 5\nbidder m16\nbid 1 5\nend\n";
+
+// As many states as there may be.
+const MOST_STATES: &str =
+    "book 1\nsupply 3 3 3 3 7 7\nreserve 0 0 0 0 0 0\nbidder solo\nbid 1 0 0 0 0 0 5\nend\n";
+
 // A book, the lines of its turns of pricing, and the outcome.
-const PRICED: [(&str, &str, &str); 10] = [
+const PRICED: [(&str, &str, &str); 12] = [
     (
         DAY_CRAMTON,
         "round 1 point 14 12 row 1 2 choice 0 0 1 0 0 excess 6\nround 2 point 17 15 end\n",
@@ -67,6 +75,17 @@ const PRICED: [(&str, &str, &str); 10] = [
         TIE,
         "round 1 point 0 4 end\n",
         "winner east 1 bid 5 vickrey 0 pays 0\nwinner west 1 bid 4 vickrey 4 pays 4\nnet 9\nrevenue 4\n",
+    ),
+    (
+        SIXTEEN,
+        "round 1 point 5 5 5 5 end\n",
+        "winner m1 1 bid 5 vickrey 5 pays 5\nwinner m2 1 bid 5 vickrey 5 pays 5\n\
+            winner m3 1 bid 5 vickrey 5 pays 5\nwinner m4 1 bid 5 vickrey 5 pays 5\nnet 20\nrevenue 20\n",
+    ),
+    (
+        MOST_STATES,
+        "round 1 point 0 end\n",
+        "winner solo 1 0 0 0 0 0 bid 5 vickrey 0 pays 0\nnet 5\nrevenue 0\n",
     ),
     (
         EQUALS,

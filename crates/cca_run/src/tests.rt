@@ -30,9 +30,9 @@ pub const ELEVEN: &str =
 pub const EQUALS: &str =
     "book 1\nsupply 1\nreserve 0\nbidder n1\nbid 1 9\nbidder n2\nbid 1 9\nbidder n3\nbid 1 9\nbidder n4\nbid 1 9\nend\n";
 
-const GREATEST: &str = "book 1\nsupply 7 7 7 7\nreserve 0 0 0 0\nend\n";
+const GREATEST: &str = "book 1\nsupply 3 3 3 3 7 7\nreserve 0 0 0 0 0 0\nend\n";
 
-const TOO_MANY_STATES: &str = "book 1\nsupply 7 7 7 8\nreserve 0 0 0 0\nend\n";
+const TOO_MANY_STATES: &str = "book 1\nsupply 3 3 3 3 7 8\nreserve 0 0 0 0 0 0\nend\n";
 
 const LEADING_ZERO: &str = "book 1\nsupply 1 1\nreserve 0 0\nbidder east\nbid 1 0 028\nend\n";
 
@@ -218,9 +218,9 @@ fn refuses_faulty_books(rt: HostRuntime) -> Result<(), Fail> {
             TOO_MANY_STATES,
             Status::Limit {
                 which: LimitKind::States,
-                count: 4608,
+                count: 18432,
             },
-            "cca: limit states 4608\n",
+            "cca: limit states 18432\n",
         ),
     ];
     for (book, expected, printed) in table {
