@@ -6,6 +6,8 @@ A book is (supply, reserves, bidders), where each bidder is a list of its bids (
 import collections, itertools, re
 
 RANGE = 2 ** 120
+# the sizes up to which a certificate is of version 1, and those of version 2
+FIRST, SECOND = (12, 4096), (16, 16384)
 CHOICE = range(65536)
 SIGNED = re.compile(r"-?[1-9][0-9]*|0")
 LINE = re.compile(r"(\w+) .*")
@@ -41,7 +43,10 @@ def read(text, bidders, states):
         lines.next(word, 0)
         return [lines.next("t", states) for _ in range(bidders + 1)]
 
-    lines.next("cert", 1, lambda numbers: numbers == [1])
+    is_first = bidders <= FIRST[0] and states <= FIRST[1]
+    lines.next("cert", 1, lambda numbers: numbers == [1 if is_first else 2])
+    if not is_first:
+        lines.next("limits", 2, lambda numbers: numbers == list(SECOND))
     cert = {"den": lines.next("den", 1)[0], "value": lines.next("value", 1)[0], "choice": choice(), "table": table("table")}
     cert["without"] = {}
     for j in (j for j, i in enumerate(cert["choice"]) if i):

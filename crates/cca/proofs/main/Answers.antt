@@ -4,8 +4,8 @@ use Rattle.std.specs.Str.{bytes_eq}
 use Rattle.cca_base.proofs.KnownNames.{each-known}
 use Rattle.cca.proofs.main.Goals as goal
 
-pub run-status-requires : goal.run-status-requires
-run-status-requires c = λ k d h.
+pub run-requires : goal.run-requires
+run-requires c = λ k d h.
     let words = c.deref-2.result.now in
     let name = get_or (map string_bytes words) k d in
     let same = c.deref.ensures.value ∙ sym c.deref-2.ensures.value in
