@@ -3,7 +3,7 @@
 
 ghost use Rattle.std.specs.Prelude.{◌≡◌};
 ghost use Rattle.std.specs.Process.{exit_status};
-ghost use Rattle.cca_run.specs.Code.{code_of};
+ghost use Rattle.cca_inputs.specs.Code.{code_of};
 ghost use Rattle.cca.specs.declared.NoWords.{NoWords};
 ghost use Rattle.cca.specs.declared.NoWords.TheVariants.{Memory, NotText};
 
