@@ -241,3 +241,18 @@ def book(award, admitted):
         text.append(f"bidder {name}")
         text += ["bid " + " ".join(map(str, p)) + f" {a}" for p, a in sorted(best.items())]
     return "\n".join(text + ["end"]) + "\n"
+
+
+def main(words):
+    """Prints what `cca auction` has to print for an award and a log, and the book of the log."""
+    award, log = (open(name).read() for name in words)
+    printed, written, status = replay(award, log)
+    print("\n".join(printed))
+    if written:
+        print(written, end="")
+    return status
+
+
+if __name__ == "__main__":
+    import sys
+    sys.exit(main(sys.argv[1:]))
