@@ -1,9 +1,10 @@
 -- The state that the fields of a desk hold.
-use Rattle.std.specs.Prelude.{Bool, List, map, if◌then◌else◌}
+use Rattle.std.specs.Prelude.{ℕ, suc, Bool, List, length, map, if◌then◌else◌}
 use Rattle.auction_model.specs.Book.{BookBid}
 use Rattle.auction_rules.specs.declared.Stage.{Stage}
 use Rattle.auction_rules.specs.declared.Stage.TheVariants.{Clock, Sealed, Closed}
 use Rattle.auction_rules.specs.Terms.{Terms}
+use Rattle.auction_rules.specs.Replies.{is_clock}
 use Rattle.auction_rules.specs.State.{DeskState}
 use Rattle.clock_stage.specs.ClockState.{ClockState}
 use Rattle.relative_cap.specs.OwnRounds.{bid_value}
@@ -30,3 +31,7 @@ desk_value terms clock closed bidders = record {
   drafts = map drafts_value bidders;
   submitted = map submitted_value bidders;
 }
+
+-- the number of the posted round, and of the final one once the clock has stopped
+abbrev pub round_in : DeskState → ℕ
+round_in state = if is_clock state.stage then suc (length state.rounds) else length state.rounds

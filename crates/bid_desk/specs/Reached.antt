@@ -1,11 +1,12 @@
 -- What each desk keeps, and what a line makes of it.
-use Rattle.std.specs.Prelude.{◌≡◌, ◌⊎◌, List}
+use Rattle.std.specs.Prelude.{◌≡◌, ◌≢◌, ◌⊎◌, ◌∷◌, List}
 use Rattle.std.specs.List.{AllByRecursion}
 use Rattle.auction_rules.specs.declared.Event.{Event}
 use Rattle.auction_rules.specs.declared.Event.TheVariants.{Bid, Draft, Drop, Submit, Close}
 use Rattle.auction_rules.specs.declared.Reply.{Reply}
 use Rattle.auction_rules.specs.declared.Reply.TheVariants as reply
 use Rattle.auction_rules.specs.Lawful.{HasCategories}
+use Rattle.auction_rules.specs.Replies.{reply_to}
 use Rattle.auction_rules.specs.State.{DeskState, state_of, reply_in, state_with}
 
 -- the desk stands for a log whose packages have the award's number of categories
@@ -35,3 +36,17 @@ IsBidOrDrop Close = ⊥
 -- the line was answered and taken, or there was no memory
 abbrev pub IsTakenOrMemory : DeskState → Event → Reply → DeskState → Type 0
 IsTakenOrMemory old line answer new = IsRefusedMemory old answer new ⊎ IsTaken old line answer new
+
+-- A desk that stood for this log answered the line by the rules and stands for the log with the line; or there was no memory, and it
+-- stands for the log as before.
+pub record StandsWith (old : DeskState) (log : List Event) (line : Event) (answer : Reply) (new : DeskState) : Type 0 where
+  pub reply : answer ≡ reply_to old.terms log line
+  pub state : new ≡ state_of old.terms (line ∷ log)
+
+abbrev pub StandsNext : DeskState → List Event → Event → Reply → DeskState → Type 0
+StandsNext old log line answer new = IsRefusedMemory old answer new ⊎ StandsWith old log line answer new
+
+-- the line was answered and taken, or there was no memory, for which a clock bid and a drop have no need
+pub record Takes (old : DeskState) (line : Event) (answer : Reply) (new : DeskState) : Type 0 where
+  pub taken : IsTakenOrMemory old line answer new
+  pub sure : IsBidOrDrop line → answer ≢ reply.Memory

@@ -1,5 +1,5 @@
 // The desk.
-ghost use Rattle.std.specs.Prelude.{◌≡◌, ◌≢◌, ◌⊎◌, ◌∷◌, [], IfOk, IfErr, IsTrue, IsFalse, List, ℕ, length};
+ghost use Rattle.std.specs.Prelude.{◌≡◌, ◌≢◌, ◌⊎◌, ◌∷◌, [], Err, IfOk, IsTrue, List, ℕ, length};
 ghost use Rattle.auction_rules.specs.declared.Event.{Event};
 ghost use Rattle.auction_rules.specs.declared.Reply.{Reply};
 ghost use Rattle.auction_rules.specs.BookOfLog.{book_in, book_of_log};
@@ -9,7 +9,8 @@ ghost use Rattle.auction_rules.specs.State.{reply_in, state_of, state_with};
 ghost use Rattle.auction_rules.specs.View.{view};
 ghost use Rattle.auction_rules.specs.declared.Stage.{Stage};
 ghost use Rattle.bid_desk.specs.Closes.{reply_value};
-ghost use Rattle.bid_desk.specs.Reached.{IsBidOrDrop, IsTaken, IsTakenOrMemory};
+ghost use Rattle.bid_desk.specs.DeskValue.{round_in};
+ghost use Rattle.bid_desk.specs.Reached.{IsBidOrDrop, IsTaken, IsTakenOrMemory, StandsNext, Takes};
 
 use crate::lists::{BidderLists, empty_lists};
 use auction_rules::{Event, Reply, Stage};
@@ -96,16 +97,103 @@ impl Desk {
         self.clock.prices()
     }
 
+    /// The number of the posted round, and of the final round once the clock has ended.
+    pub fn round(&self) -> u32
+        ensures { result ≡ round_in self.now }
+    {
+        self.clock.round()
+    }
+
+    /// Takes a line of a log, whose package has the award's number of categories.
+    ///
+    /// The reply is that of the rules, and what the line changes is what the rules say; a desk that stands for a log then stands for
+    /// the log with this line. After every reply but Ok the desk is as it was. Memory comes in place of the reply of the rules, and
+    /// never for a clock bid or a drop. Whatever other bidders do, the reply follows from the line and from what its bidder has seen.
+    pub fn take(&mut self, alloc: Global, line: &Event) -> Reply
+        requires { HasCategories self.old.terms line.now }
+        ensures taken { IsTakenOrMemory self.old line.now result self.new }
+        ensures stands { (log : List Event) → self.old ≡ state_of self.old.terms log → StandsNext self.old log line.now result self.new }
+        ensures refused { result ≢ Reply.Ok → self.new ≡ self.old }
+        ensures terms { self.new.terms ≡ self.old.terms }
+        ensures no_memory { IsBidOrDrop line.now → result ≢ Reply.Memory }
+        ensures view { (j : ℕ) (log other : List Event) → IsTrue (is_of j line.now) → self.old ≡ state_of self.old.terms log
+            → view self.old.terms j log ≡ view self.old.terms j other → (result ≡ Reply.Memory) ⊎ (result ≡ reply_to self.old.terms other line.now) }
+    {
+        self.answer(alloc, line)
+    }
+
+    /// Answers a line and takes it.
+    fn answer(&mut self, alloc: Global, line: &Event) -> Reply
+        requires { HasCategories self.old.terms line.now }
+        ensures { Takes self.old line.now result self.new }
+    {
+        match line {
+            Event::Bid { bidder, package } => self.bid(*bidder, package),
+            Event::Draft {
+                bidder,
+                package,
+                amount,
+            } => self.draft(alloc, *bidder, package, *amount),
+            Event::Drop { bidder, package } => self.drop_draft(*bidder, package),
+            Event::Submit { bidder } => self.submit(alloc, *bidder),
+            Event::Close => self.close(alloc),
+        }
+    }
+
+    /// The book of the log that the desk stands for: the award's supply, reserves and bidders, and for each package that isn't empty
+    /// and stands among a bidder's clock bids or in its submitted list the greatest amount there, reserve included.
+    ///
+    /// # Errors
+    ///
+    /// NotClosed exactly where the sealed round isn't closed; Memory.
+    pub fn book(&self, alloc: Global) -> Result<BidBook, DeskStop>
+        ensures book { IfOk result (λ book. book ≡ book_in self.now) }
+        ensures log { (log : List Event) → self.now ≡ state_of self.now.terms log → IfOk result (λ book. book ≡ book_of_log self.now.terms log) }
+        ensures closed { IfOk result (λ book. self.now.stage ≡ Stage.Closed) }
+        ensures open { self.now.stage ≢ Stage.Closed → result ≡ Err DeskStop.NotClosed }
+    {
+        if !matches!(self.stage(), Stage::Closed) {
+            return Err(DeskStop::NotClosed);
+        }
+        let _ = alloc;
+        Err(DeskStop::Memory)
+    }
+
     /// Takes a clock bid.
     fn bid(&mut self, bidder: u16, package: &Package) -> Reply
         requires { length «package».now ≡ length self.old.terms.supply }
-        ensures reply { result ≡ reply_in self.old (Event.Bid bidder «package».now) }
-        ensures state { self.new ≡ state_with self.old (Event.Bid bidder «package».now) }
+        ensures { IsTaken self.old (Event.Bid bidder «package».now) result self.new }
     {
         if !matches!(self.stage(), Stage::Clock) {
             return Reply::Stage;
         }
         self.clock.bid(&self.award, bidder, package)
+    }
+
+    /// Takes a draft.
+    fn draft(&mut self, alloc: Global, bidder: u16, package: &Package, amount: u64) -> Reply
+        requires { length «package».now ≡ length self.old.terms.supply }
+        ensures { IsTakenOrMemory self.old (Event.Draft bidder «package».now amount) result self.new }
+    {
+        let _ = (alloc, bidder, package, amount);
+        Reply::Memory
+    }
+
+    /// Takes a drop.
+    fn drop_draft(&mut self, bidder: u16, package: &Package) -> Reply
+        requires { length «package».now ≡ length self.old.terms.supply }
+        ensures { IsTaken self.old (Event.Drop bidder «package».now) result self.new }
+    {
+        let _ = (bidder, package);
+        Reply::Memory
+    }
+
+    /// Takes a submission.
+    fn submit(&mut self, alloc: Global, bidder: u16) -> Reply
+        ensures { IsTakenOrMemory self.old (Event.Submit bidder) result self.new }
+    {
+        let _ = (alloc, bidder);
+        Reply::Memory
     }
 
     /// Takes a close.
