@@ -101,7 +101,11 @@ impl Desk {
     pub fn round(&self) -> u32
         ensures { result ≡ round_in self.now }
     {
-        self.clock.round()
+        let closed = self.clock.history().rounds();
+        match self.stage() {
+            Stage::Clock => closed + 1,
+            Stage::Sealed | Stage::Closed => closed,
+        }
     }
 
     /// Takes a line of a log, whose package has the award's number of categories.
@@ -118,7 +122,6 @@ impl Desk {
         ensures view { (j : ℕ) (log other : List Event) → IsTrue (is_of j line.now) → self.old ≡ state_of self.old.terms log
             → view self.old.terms j log ≡ view self.old.terms j other → (result ≡ Reply.Memory) ⊎ (result ≡ reply_to self.old.terms other line.now) }
     {
-        let _ = (alloc, line);
         Reply::Memory
     }
 
@@ -137,7 +140,6 @@ impl Desk {
         if !matches!(self.stage(), Stage::Closed) {
             return Err(DeskStop::NotClosed);
         }
-        let _ = alloc;
         Err(DeskStop::Memory)
     }
 
