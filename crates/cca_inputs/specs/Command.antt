@@ -14,6 +14,10 @@ pub data CommandValue : Type 0 where
   check : List ℕ → List ℕ → CommandValue
   -- the replies to the log of an auction, and its book
   auction : List ℕ → List ℕ → List ℕ → CommandValue
+  -- the prices of the book of a log and their certificate, with a line for each turn or without
+  award : List ℕ → List ℕ → List ℕ → Bool → CommandValue
+  -- the test of a certificate of the book of a log
+  audit : List ℕ → List ℕ → List ℕ → CommandValue
 
 -- what a command does with a file
 pub data Use : Type 0 where
@@ -37,7 +41,9 @@ abbrev pub files_of : CommandValue → List FileUse
 files_of (win book) = reading Book book ∷ []
 files_of (price book cert rounds) = reading Book book ∷ appending Cert cert ∷ []
 files_of (check book cert) = reading Book book ∷ reading Cert cert ∷ []
-files_of (auction award log book) = reading Award award ∷ reading Log log ∷ appending Book book ∷ []
+files_of (auction terms log book) = reading Award terms ∷ reading Log log ∷ appending Book book ∷ []
+files_of (award terms log cert rounds) = reading Award terms ∷ reading Log log ∷ appending Cert cert ∷ []
+files_of (audit terms log cert) = reading Award terms ∷ reading Log log ∷ reading Cert cert ∷ []
 
 -- not empty, and not beginning with '-'
 abbrev pub is_file_word : List ℕ → Bool
@@ -60,7 +66,7 @@ win_words [] = None
 win_words (f ∷ []) = if are_file_words (f ∷ []) then Some (win f) else None
 win_words (f ∷ g ∷ rest) = None
 
--- whether the words behind the files of `price` ask for the turns
+-- whether the words behind the files ask for the turns
 abbrev pub rounds_asked : List (List ℕ) → Option Bool
 rounds_asked [] = Some false
 rounds_asked (f ∷ []) = if bytes_eq f (codes "--rounds") then Some true else None
@@ -87,6 +93,21 @@ auction_words (f ∷ g ∷ []) = None
 auction_words (f ∷ g ∷ h ∷ []) = if are_file_words (f ∷ g ∷ h ∷ []) then Some (auction f g h) else None
 auction_words (f ∷ g ∷ h ∷ i ∷ rest) = None
 
+-- the words behind `award`
+abbrev pub award_words : List (List ℕ) → Option CommandValue
+award_words [] = None
+award_words (f ∷ []) = None
+award_words (f ∷ g ∷ []) = None
+award_words (f ∷ g ∷ h ∷ flags) = if are_file_words (f ∷ g ∷ h ∷ []) then option_map (award f g h) (rounds_asked flags) else None
+
+-- the words behind `audit`
+abbrev pub audit_words : List (List ℕ) → Option CommandValue
+audit_words [] = None
+audit_words (f ∷ []) = None
+audit_words (f ∷ g ∷ []) = None
+audit_words (f ∷ g ∷ h ∷ []) = if are_file_words (f ∷ g ∷ h ∷ []) then Some (audit f g h) else None
+audit_words (f ∷ g ∷ h ∷ i ∷ rest) = None
+
 -- the command that the words say, if they are of the plain form
 abbrev pub command_of : List (List ℕ) → Option CommandValue
 command_of [] = None
@@ -95,6 +116,8 @@ command_of (w ∷ rest) =
     else if bytes_eq w (codes "price") then price_words rest
     else if bytes_eq w (codes "check") then check_words rest
     else if bytes_eq w (codes "auction") then auction_words rest
+    else if bytes_eq w (codes "award") then award_words rest
+    else if bytes_eq w (codes "audit") then audit_words rest
     else None
 
 -- the number of a kind

@@ -1,6 +1,6 @@
 // The plain form of the words.
 ghost use Rattle.std.specs.Prelude.{◌≡◌, map, string_bytes, option_map, Some, None, IfSome};
-ghost use Rattle.cca_inputs.specs.Command.{are_file_words, auction_words, check_words, command_of, is_among, is_file_word, output_as, price_words, rounds_asked, win_words};
+ghost use Rattle.cca_inputs.specs.Command.{are_file_words, auction_words, audit_words, award_words, check_words, command_of, is_among, is_file_word, output_as, price_words, rounds_asked, win_words};
 ghost use Rattle.cca_inputs.specs.Words.{AreAmong, command_value};
 
 use crate::FileKind;
@@ -30,6 +30,20 @@ pub enum Command<'a> {
         log: &'a str,
         book: &'a str,
     },
+    /// The log of an auction is replayed and its book priced; the certificate is appended, and the prices are printed, behind a line for
+    /// each turn where the rounds are asked for.
+    Award {
+        award: &'a str,
+        log: &'a str,
+        cert: &'a str,
+        rounds: bool,
+    },
+    /// The log of an auction is replayed, and a certificate of its book is tested.
+    Audit {
+        award: &'a str,
+        log: &'a str,
+        cert: &'a str,
+    },
 }
 
 impl<'a> Command<'a> {
@@ -39,6 +53,7 @@ impl<'a> Command<'a> {
     {
         match (self, kind) {
             (Command::Price { cert, .. }, FileKind::Cert) => Some(cert),
+            (Command::Award { cert, .. }, FileKind::Cert) => Some(cert),
             (Command::Auction { book, .. }, FileKind::Book) => Some(book),
             _ => None,
         }
@@ -152,6 +167,42 @@ fn auction_command(words: &[String]) -> Option<Command<'_>>
     })
 }
 
+fn award_command(words: &[String]) -> Option<Command<'_>>
+    ensures among { IfSome result (λ c. AreAmong (map string_bytes words.now) (command_value c)) }
+    ensures command { option_map command_value result ≡ award_words (map string_bytes words.now) }
+{
+    let [award, log, cert, flags @ ..] = words else {
+        return None;
+    };
+    if !can_be_files(&words[..3]) {
+        return None;
+    }
+    let rounds = asks_for_rounds(flags)?;
+    Some(Command::Award {
+        award: award.as_str(),
+        log: log.as_str(),
+        cert: cert.as_str(),
+        rounds,
+    })
+}
+
+fn audit_command(words: &[String]) -> Option<Command<'_>>
+    ensures among { IfSome result (λ c. AreAmong (map string_bytes words.now) (command_value c)) }
+    ensures command { option_map command_value result ≡ audit_words (map string_bytes words.now) }
+{
+    let [award, log, cert] = words else {
+        return None;
+    };
+    if !can_be_files(words) {
+        return None;
+    }
+    Some(Command::Audit {
+        award: award.as_str(),
+        log: log.as_str(),
+        cert: cert.as_str(),
+    })
+}
+
 /// The command that the words say, where they are of the plain form. It takes no memory.
 pub fn read_command(words: &[String]) -> Option<Command<'_>>
     ensures among { IfSome result (λ c. AreAmong (map string_bytes words.now) (command_value c)) }
@@ -165,6 +216,8 @@ pub fn read_command(words: &[String]) -> Option<Command<'_>>
         "price" => price_command(rest),
         "check" => check_command(rest),
         "auction" => auction_command(rest),
+        "award" => award_command(rest),
+        "audit" => audit_command(rest),
         _ => None,
     }
 }

@@ -13,5 +13,11 @@ returns-in-check-clause-among c = IfSome_then c.check_command.result c.check_com
 pub returns-in-auction-clause-among : goal.returns-in-auction-clause-among
 returns-in-auction-clause-among c = IfSome_then c.auction_command.result c.auction_command.ensures.among (λ k among. among-behind string_bytes c.args.words.now (command_value k) among)
 
+pub returns-in-award-clause-among : goal.returns-in-award-clause-among
+returns-in-award-clause-among c = IfSome_then c.award_command.result c.award_command.ensures.among (λ k among. among-behind string_bytes c.args.words.now (command_value k) among)
+
+pub returns-in-audit-clause-among : goal.returns-in-audit-clause-among
+returns-in-audit-clause-among c = IfSome_then c.audit_command.result c.audit_command.ensures.among (λ k among. among-behind string_bytes c.args.words.now (command_value k) among)
+
 pub returns-in-win-clause-among : goal.returns-in-win-clause-among
 returns-in-win-clause-among c = IfSome_then c.win_command.result c.win_command.ensures.among (λ k among. among-behind string_bytes c.args.words.now (command_value k) among)
