@@ -101,7 +101,11 @@ impl Desk {
     pub fn round(&self) -> u32
         ensures { result ≡ round_in self.now }
     {
-        self.clock.round()
+        let closed = self.clock.history().rounds();
+        match self.stage() {
+            Stage::Clock => closed + 1,
+            Stage::Sealed | Stage::Closed => closed,
+        }
     }
 
     /// Takes a line of a log, whose package has the award's number of categories.
@@ -155,7 +159,6 @@ impl Desk {
         if !matches!(self.stage(), Stage::Closed) {
             return Err(DeskStop::NotClosed);
         }
-        let _ = alloc;
         Err(DeskStop::Memory)
     }
 
@@ -175,7 +178,6 @@ impl Desk {
         requires { length «package».now ≡ length self.old.terms.supply }
         ensures { IsTakenOrMemory self.old (Event.Draft bidder «package».now amount) result self.new }
     {
-        let _ = (alloc, bidder, package, amount);
         Reply::Memory
     }
 
@@ -184,7 +186,6 @@ impl Desk {
         requires { length «package».now ≡ length self.old.terms.supply }
         ensures { IsTaken self.old (Event.Drop bidder «package».now) result self.new }
     {
-        let _ = (bidder, package);
         Reply::Memory
     }
 
@@ -192,7 +193,6 @@ impl Desk {
     fn submit(&mut self, alloc: Global, bidder: u16) -> Reply
         ensures { IsTakenOrMemory self.old (Event.Submit bidder) result self.new }
     {
-        let _ = (alloc, bidder);
         Reply::Memory
     }
 
