@@ -1,3 +1,4 @@
 pub mod DeskValue
 pub mod Reached
 pub mod Closes
+pub mod BookBids
