@@ -1,2 +1,3 @@
 mod DeskLaws
 mod BestBids
+mod BookLaws
