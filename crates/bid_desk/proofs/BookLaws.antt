@@ -3,22 +3,24 @@ use Rattle.std.proofs.Common.{◌≡◌, ℕ, zero, suc, ◌+◌, ◌-◌, ◌�
 use Rattle.std.specs.Prelude.{if◌then◌else◌, sum}
 use Rattle.std.specs.List.{All, AllByRecursion}
 use Rattle.std.proofs.lemmas.Bool.{cases_Bool, cond-true, cond-false}
-use Rattle.std.proofs.lemmas.List.{drop_more, drop_all, append-nil}
-use Rattle.auction_model.specs.Book.{BookBid}
+use Rattle.std.proofs.lemmas.List.{drop_more, drop_all, get_or-map, length-map}
+use Rattle.auction_model.specs.Book.{BookBid, Bidder}
 use Rattle.auction_model.specs.Package.{cost_of}
 use Rattle.auction_rules.specs.PackageTests.{is_empty, is_same, is_before, InOrder}
 use Rattle.auction_rules.specs.Caps.{clock_bid, greatest}
 use Rattle.auction_rules.specs.Lines.{placed, with_entry}
+use Rattle.auction_rules.specs.Rounds.{listing}
 use Rattle.auction_rules.specs.State.{Round, own_of}
-use Rattle.auction_rules.specs.BookOfLog.{bid_lots, best_bids}
+use Rattle.auction_rules.specs.Terms.{Terms, entrant}
+use Rattle.auction_rules.specs.BookOfLog.{bid_lots, best_bids, book_bidder}
 use Rattle.auction_rules.proofs.PackageLaws.{is_same-true}
 use Rattle.auction_rules.proofs.Drafts.{InOrder-placed}
 use Rattle.lots.specs.declared.«package».Bid.{Bid}
 use Rattle.clock_stage.specs.Kept.{IsHeld, no_round, round_at}
 use Rattle.relative_cap.specs.Asked.{IsEntry}
 use Rattle.relative_cap.specs.OwnRounds.{bid_value, entry_lots, own_in, rounds_of}
-use Rattle.bid_desk.specs.Lists.{IsKept, IsKeptEntry}
-use Rattle.bid_desk.specs.BookBids.{IsBooked, with_most}
+use Rattle.bid_desk.specs.Lists.{IsKept, IsKeptEntry, Lists}
+use Rattle.bid_desk.specs.BookBids.{IsBooked, bids_by, submitted_of, with_most}
 use Rattle.bid_desk.proofs.BestBids.{best_bids-more, best_bids-own}
 
 -- ---- kept lists
@@ -130,3 +132,30 @@ bids-more history j k next list bids new some inside at is made =
     ∙ ap (λ (n : ℕ). with_most (clock_bid (own_of j (get_or history n no_round))) (bids_from history j list (before + 1))) own
     ∙ sym (best_bids-more (clock_bid (own_of j (get_or history before no_round))) (map clock_bid (rounds_of j (drop (before + 1) history)) ++ list))
     ∙ sym (ap (λ (rounds : List Round). best_bids (map clock_bid (rounds_of j rounds) ++ list)) more)
+
+-- ---- the bidders
+
+-- the submitted list of a bidder
+pub booked-at : (categories : ℕ) (lists : List Lists) (k : ℕ) (own : Lists) (list : List BookBid) → All (IsBooked categories) (map submitted_of lists) → k < length lists
+    → own ≡ get_or lists k own → list ≡ own.submitted → IsBooked categories list
+booked-at categories lists k own list booked inside at is =
+    subst (IsBooked categories) (get_or-map submitted_of lists k own own.submitted inside ∙ ap submitted_of (sym at) ∙ sym is)
+    (booked k own.submitted (omega (arith, inside, length-map lists submitted_of)))
+
+abbrev bidder_with : List ℕ → List BookBid → Bidder
+bidder_with name bids = record { name = name; bids = bids }
+
+-- one bidder more
+pub bidders-more : (terms : Terms) (rounds : List Round) (lists : List Lists) (k : ℕ) (own : Lists) (name : List ℕ) (list bids : List BookBid) (before all : List Bidder) → k < length lists
+    → own ≡ get_or lists k own → list ≡ own.submitted → name ≡ (entrant terms (k + 1)).name → bids ≡ best_bids (map clock_bid (rounds_of (k + 1) rounds) ++ list)
+    → before ≡ listing (book_bidder terms (bids_by rounds (map submitted_of lists))) k → all ≡ before ++ bidder_with name bids ∷ []
+    → all ≡ listing (book_bidder terms (bids_by rounds (map submitted_of lists))) (k + 1)
+bidders-more terms rounds lists k own name list bids before all inside at is by_name by_bids so_far more =
+    let F : ℕ → Bidder = book_bidder terms (bids_by rounds (map submitted_of lists)) in
+    let place : k + 1 - 1 ≡ k = omega arith in
+    let listed : get_or (map submitted_of lists) (k + 1 - 1) [] ≡ list
+    = ap (λ (n : ℕ). get_or (map submitted_of lists) n []) place ∙ get_or-map submitted_of lists k own [] inside ∙ ap submitted_of (sym at) ∙ sym is in
+    let own_bids : bids ≡ bids_by rounds (map submitted_of lists) (k + 1) = by_bids ∙ sym (ap (λ (l : List BookBid). best_bids (map clock_bid (rounds_of (k + 1) rounds) ++ l)) listed) in
+    let bidder : bidder_with name bids ≡ F (k + 1) = ap (λ (n : List ℕ). bidder_with n bids) by_name ∙ ap (bidder_with (entrant terms (k + 1)).name) own_bids in
+    let next : suc k ≡ k + 1 = omega arith in
+    more ∙ ap (λ (bs : List Bidder). bs ++ bidder_with name bids ∷ []) so_far ∙ ap (λ (b : Bidder). listing F k ++ b ∷ []) (bidder ∙ sym (ap F next)) ∙ ap (listing F) next
