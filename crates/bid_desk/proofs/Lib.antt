@@ -1,3 +1,4 @@
 mod DeskLaws
 mod BestBids
 mod BookLaws
+mod BookStates
