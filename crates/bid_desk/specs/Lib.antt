@@ -1,3 +1,5 @@
-pub mod DeskValue
 pub mod Reached
+pub mod DeskValue
 pub mod Closes
+pub mod Lists
+pub mod Slots

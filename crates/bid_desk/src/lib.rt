@@ -3,6 +3,7 @@
 
 mod desk;
 mod lists;
+mod slots;
 
 pub use auction_rules::{Event, Reply, Stage};
 pub use desk::{Desk, DeskStop};
