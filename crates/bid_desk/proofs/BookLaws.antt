@@ -25,20 +25,6 @@ use Rattle.bid_desk.proofs.BestBids.{best_bids-more, best_bids-own}
 
 -- ---- kept lists
 
--- the entries of a kept list
-pub entries-kept : (categories : ℕ) (list : List Bid) → AllByRecursion (IsKeptEntry categories) (map bid_value list) → All (IsEntry categories) list
-entries-kept categories [] each k d inside = absurd (omega arith)
-entries-kept categories (b ∷ list) each zero d inside = record { held = record { count = each.0.count; few = each.0.few }; amount = each.0.amount }
-entries-kept categories (b ∷ list) each (suc k) d inside = entries-kept categories list each.1 k d (omega arith)
-
--- their packages
-pub lots-values : (list : List Bid) → map bid_lots (map bid_value list) ≡ map entry_lots list
-lots-values [] = refl
-lots-values (b ∷ list) = ap (λ (ps : List (List ℕ)). b.«package» ∷ ps) (lots-values list)
-
-pub order-kept : (list : List Bid) → InOrder (map bid_lots (map bid_value list)) → InOrder (map entry_lots list)
-order-kept list order = subst InOrder (lots-values list) order
-
 -- each entry of a list with one more
 each-with_entry : (P : BookBid → Type 0) (x : List ℕ) (a : ℕ) (list : List BookBid) → P (record { lots = x; amount = a }) → AllByRecursion P list → AllByRecursion P (with_entry x a list)
 each-with_entry P x a [] new each = (new, tt)

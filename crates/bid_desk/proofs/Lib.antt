@@ -1,4 +1,5 @@
 mod DeskLaws
+mod EntryLaws
 mod BestBids
 mod BookLaws
 mod BookStates

@@ -152,6 +152,7 @@ impl Desk {
         ensures log { (log : List Event) → self.now ≡ state_of self.now.terms log → IfOk result (λ book. book ≡ book_of_log self.now.terms log) }
         ensures closed { IfOk result (λ book. self.now.stage ≡ Stage.Closed) }
         ensures open { self.now.stage ≢ Stage.Closed → result ≡ Err DeskStop.NotClosed }
+        ensures not_closed { result ≡ Err DeskStop.NotClosed → self.now.stage ≢ Stage.Closed }
     {
         if !matches!(self.stage(), Stage::Closed) {
             return Err(DeskStop::NotClosed);
