@@ -1,12 +1,12 @@
 -- The bids of a bidder in the book: what one bid more changes of them.
-use Rattle.std.proofs.Common.{◌≡◌, ℕ, zero, suc, ◌≤◌, ◌<◌, ◌^◌, max, Bool, true, false, not, List, [], ◌∷◌, ◌++◌, Option, Some, None, refl, sym, ◌∙◌, ap, subst, inl, inr, arith, length, map}
-use Rattle.std.specs.Prelude.{if◌then◌else◌, filter}
+use Rattle.std.proofs.Common.{◌≡◌, ℕ, max, true, false, not, List, [], ◌∷◌, Option, Some, refl, sym, ◌∙◌, ap, subst, inl, inr, arith, map}
+use Rattle.std.specs.Prelude.{filter}
 use Rattle.std.specs.List.{AllByRecursion}
 use Rattle.std.proofs.lemmas.Bool.{cases_Bool, cond-true, cond-false}
 use Rattle.auction_model.specs.Book.{BookBid}
-use Rattle.auction_rules.specs.PackageTests.{is_empty, is_same, is_before, AllAfter, InOrder}
+use Rattle.auction_rules.specs.PackageTests.{is_empty, is_same, AllAfter, InOrder}
 use Rattle.auction_rules.specs.Caps.{greatest}
-use Rattle.auction_rules.specs.Lines.{entry_before, in_order, placed, priced, with_entry}
+use Rattle.auction_rules.specs.Lines.{in_order, priced, with_entry}
 use Rattle.auction_rules.specs.BookOfLog.{bid_lots, best_bids}
 use Rattle.auction_rules.proofs.PackageLaws.{is_same-true, is_same-refl, is_before-not_same}
 use Rattle.auction_rules.proofs.Drafts.{InOrder-in_order, priced-placed}

@@ -1,6 +1,5 @@
 -- The bids of a bidder in the book, made from its submitted list and its clock bids.
-use Rattle.std.proofs.Common.{◌≡◌, ℕ, zero, suc, ◌+◌, ◌-◌, ◌≤◌, ◌<◌, ◌^◌, max, Bool, true, false, not, List, [], ◌∷◌, ◌++◌, refl, sym, ◌∙◌, ap, subst, inl, inr, arith, length, map, get_or, drop}
-use Rattle.std.specs.Prelude.{if◌then◌else◌, sum}
+use Rattle.std.proofs.Common.{◌≡◌, ℕ, suc, ◌+◌, ◌-◌, ◌≤◌, ◌<◌, ◌^◌, max, true, false, List, [], ◌∷◌, ◌++◌, refl, sym, ◌∙◌, ap, subst, inl, inr, arith, length, map, get_or, drop}
 use Rattle.std.specs.List.{All, AllByRecursion}
 use Rattle.std.proofs.lemmas.Bool.{cases_Bool, cond-true, cond-false}
 use Rattle.std.proofs.lemmas.List.{drop_more, drop_all, get_or-map, length-map}
@@ -15,10 +14,8 @@ use Rattle.auction_rules.specs.Terms.{Terms, entrant}
 use Rattle.auction_rules.specs.BookOfLog.{bid_lots, best_bids, book_bidder}
 use Rattle.auction_rules.proofs.PackageLaws.{is_same-true}
 use Rattle.auction_rules.proofs.Drafts.{InOrder-placed}
-use Rattle.lots.specs.declared.«package».Bid.{Bid}
 use Rattle.clock_stage.specs.Kept.{IsHeld, no_round, round_at}
-use Rattle.relative_cap.specs.Asked.{IsEntry}
-use Rattle.relative_cap.specs.OwnRounds.{bid_value, entry_lots, own_in, rounds_of}
+use Rattle.relative_cap.specs.OwnRounds.{own_in, rounds_of}
 use Rattle.bid_desk.specs.Lists.{IsKept, IsKeptEntry, Lists}
 use Rattle.bid_desk.specs.BookBids.{IsBooked, bids_by, submitted_of, with_most}
 use Rattle.bid_desk.proofs.BestBids.{best_bids-more, best_bids-own}

@@ -1,5 +1,5 @@
 -- Behind the last round the list alone is left, and each round puts its clock bid in.
-use Rattle.std.proofs.Common.{◌≡◌, ◌+◌, ◌-◌, length, map, refl, subst, sym, arith}
+use Rattle.std.proofs.Common.{◌+◌, ◌-◌, map, refl, subst, sym, arith}
 use Rattle.clock_stage.specs.Kept.{categories_in}
 use Rattle.relative_cap.specs.OwnRounds.{bid_value}
 use Rattle.bid_desk.specs.Lists.{IsKept}

@@ -1,6 +1,5 @@
 -- The state stands for a log, whose book keeps the limits.
-use Rattle.std.proofs.Common.{◌≡◌, ◌∙◌, List, ap, length, map}
-use Rattle.auction_model.specs.Book.{BookBid}
+use Rattle.std.proofs.Common.{◌∙◌, List, ap, length, map}
 use Rattle.auction_rules.specs.BookOfLog.{book_in}
 use Rattle.auction_rules.specs.State.{DeskState}
 use Rattle.bid_desk.specs.BookBids.{submitted_of}
