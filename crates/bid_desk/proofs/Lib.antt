@@ -1,2 +1,6 @@
 mod DeskLaws
 mod TakeLaws
+mod EntryLaws
+mod BestBids
+mod BookLaws
+mod BookStates

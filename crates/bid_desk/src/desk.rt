@@ -12,9 +12,10 @@ ghost use Rattle.bid_desk.specs.Closes.{reply_value};
 ghost use Rattle.bid_desk.specs.DeskValue.{round_in};
 ghost use Rattle.bid_desk.specs.Reached.{IsBidOrDrop, IsTaken, IsTakenOrMemory, StandsNext, Takes};
 
+use crate::book::book_of;
 use crate::lists::{BidderLists, empty_lists};
-use auction_rules::{Event, Reply, Stage};
-use award_file::Award;
+use auction_rules::{Event, Reply, Stage, desk_book, kept_standings};
+use award_file::{Award, book_of_award};
 use bid_book::BidBook;
 use clock_stage::{Clock, Closed};
 use lots::Package;
@@ -155,11 +156,29 @@ impl Desk {
         ensures log { (log : List Event) → self.now ≡ state_of self.now.terms log → IfOk result (λ book. book ≡ book_of_log self.now.terms log) }
         ensures closed { IfOk result (λ book. self.now.stage ≡ Stage.Closed) }
         ensures open { self.now.stage ≢ Stage.Closed → result ≡ Err DeskStop.NotClosed }
+        ensures not_closed { result ≡ Err DeskStop.NotClosed → self.now.stage ≢ Stage.Closed }
     {
         if !matches!(self.stage(), Stage::Closed) {
             return Err(DeskStop::NotClosed);
         }
-        Err(DeskStop::Memory)
+        desk_book();
+        match self.closed_book(alloc) {
+            Ok(book) => Ok(book),
+            Err(_) => Err(DeskStop::Memory),
+        }
+    }
+
+    /// The book, once the sealed round is closed. The only error is want of memory.
+    fn closed_book(&self, alloc: Global) -> Result<BidBook, AllocError>
+        requires { self.now.stage ≡ Stage.Closed }
+        ensures { IfOk result (λ book. book ≡ book_in self.now) }
+    {
+        kept_standings();
+        desk_book();
+        book_of_award();
+        let _kept = self.award.supply();
+        let book = book_of(alloc, &self.award, self.clock.history(), &self.bidders)?;
+        Ok(book)
     }
 
     /// Takes a clock bid.
