@@ -1,2 +1,4 @@
 mod DeskLaws
 mod EntryLaws
+mod ReachedLaws
+mod SealedLaws

@@ -3,3 +3,4 @@ pub mod DeskValue
 pub mod Closes
 pub mod Lists
 pub mod Slots
+pub mod Known

@@ -1,15 +1,17 @@
 // The desk.
-ghost use Rattle.std.specs.Prelude.{◌≡◌, ◌≢◌, ◌⊎◌, ◌∷◌, [], Err, IfOk, IsTrue, List, ℕ, length};
+ghost use Rattle.std.specs.Prelude.{◌≡◌, ◌≢◌, ◌⊎◌, ◌∷◌, ◌&&◌, [], Err, IfOk, IsTrue, List, ℕ, length, nat_le, nat_lt, true};
 ghost use Rattle.auction_rules.specs.declared.Event.{Event};
 ghost use Rattle.auction_rules.specs.declared.Reply.{Reply};
 ghost use Rattle.auction_rules.specs.BookOfLog.{book_in, book_of_log};
 ghost use Rattle.auction_rules.specs.Lawful.{HasCategories};
-ghost use Rattle.auction_rules.specs.Replies.{is_of, reply_to};
-ghost use Rattle.auction_rules.specs.State.{reply_in, state_of, state_with};
+ghost use Rattle.auction_rules.specs.Replies.{is_of, is_sealed, reply_to};
+ghost use Rattle.auction_rules.specs.State.{drafts_of, reply_in, state_of, state_with};
 ghost use Rattle.auction_rules.specs.View.{view};
 ghost use Rattle.auction_rules.specs.declared.Stage.{Stage};
+ghost use Rattle.award_file.specs.Award.{IsAward};
 ghost use Rattle.bid_desk.specs.Closes.{reply_value};
 ghost use Rattle.bid_desk.specs.DeskValue.{round_in};
+ghost use Rattle.bid_desk.specs.Known.{IsKnown, submitted_of};
 ghost use Rattle.bid_desk.specs.Reached.{IsBidOrDrop, IsTaken, IsTakenOrMemory, StandsNext, Takes};
 
 use crate::lists::{BidderLists, empty_lists};
@@ -184,8 +186,56 @@ impl Desk {
         requires { length «package».now ≡ length self.old.terms.supply }
         ensures { IsTaken self.old (Event.Drop bidder «package».now) result self.new }
     {
-        let _ = (bidder, package);
-        Reply::Memory
+        let reply = self.reply_to_drop(bidder, package);
+        if matches!(reply, Reply::Ok) {
+            let lists = &mut self.bidders[bidder as usize - 1];
+            lists.remove(package);
+        }
+        reply
+    }
+
+    /// The reply to a drop.
+    fn reply_to_drop(&self, bidder: u16, package: &Package) -> Reply
+        requires { length «package».now ≡ length self.now.terms.supply }
+        ensures reply { result ≡ reply_in self.now (Event.Drop bidder «package».now) }
+        ensures known { result ≡ Reply.Ok → IsKnown self.now.terms self.now bidder }
+    {
+        if !self.is_sealed() {
+            return Reply::Stage;
+        }
+        if !self.knows(bidder) {
+            return Reply::Unknown;
+        }
+        if !self.lists(bidder).has_draft(package) {
+            return Reply::NoDraft;
+        }
+        Reply::Ok
+    }
+
+    /// Whether the clock has ended and the sealed round isn't closed.
+    fn is_sealed(&self) -> bool
+        ensures { result ≡ is_sealed self.now.stage }
+    {
+        matches!(self.stage(), Stage::Sealed)
+    }
+
+    /// Whether the number is that of a bidder of the award.
+    fn knows(&self, bidder: u16) -> bool
+        ensures knows { result ≡ (nat_lt 0 bidder && nat_le bidder (length self.now.terms.bidders)) }
+        ensures known { result ≡ true → IsKnown self.now.terms self.now bidder }
+        ensures kept { IsAward self.now.terms }
+    {
+        let bidders = self.award.bidders();
+        bidder > 0 && bidder as usize <= bidders
+    }
+
+    /// The lists of a bidder of the award.
+    fn lists(&self, bidder: u16) -> &BidderLists
+        requires { IsKnown self.now.terms self.now bidder }
+        ensures drafts { result.now.drafts ≡ drafts_of self.now bidder }
+        ensures submitted { result.now.submitted ≡ submitted_of self.now bidder }
+    {
+        &self.bidders[bidder as usize - 1]
     }
 
     /// Takes a submission.
