@@ -1,5 +1,5 @@
 -- What drafts, drops and submissions make of the lists of a bidder they make of the state of a desk.
-use Rattle.std.proofs.Common.{◌≡◌, ℕ, ◌-◌, ◌<◌, Bool, true, List, [], length, map, get_or, set, refl, sym, subst, ap, ◌∙◌, arith}
+use Rattle.std.proofs.Common.{◌≡◌, ℕ, ◌-◌, ◌<◌, ◌≤◌, Bool, true, false, List, [], length, map, get_or, set, refl, sym, subst, ap, ◌∙◌, arith}
 use Rattle.std.proofs.lemmas.Bool.{cond-true}
 use Rattle.std.proofs.lemmas.List.{length-map, get_or-map, map-set}
 use Rattle.std.proofs.Math.Seq.{map-set_same}
@@ -9,10 +9,13 @@ use Rattle.auction_rules.specs.declared.Event.TheVariants.{Draft, Drop, Submit}
 use Rattle.auction_rules.specs.declared.Reply.{Reply}
 use Rattle.auction_rules.specs.declared.Reply.TheVariants as reply
 use Rattle.auction_rules.specs.Lines.{with_entry, without_entry}
-use Rattle.auction_rules.specs.Replies.{is_ok_reply}
-use Rattle.auction_rules.specs.State.{DeskState, drafts_of, reply_in, state_with, taken}
+use Rattle.auction_rules.specs.declared.Stage.{Stage}
+use Rattle.auction_rules.specs.declared.Stage.TheVariants as stages
+use Rattle.auction_rules.specs.Replies.{is_clock, is_ok_reply, is_sealed}
+use Rattle.auction_rules.specs.State.{Round, DeskState, drafts_of, reply_in, state_with, taken}
 use Rattle.auction_rules.specs.Terms.{Terms}
 use Rattle.clock_stage.specs.ClockState.{ClockState}
+use Rattle.clock_stage.specs.Kept.{IsFor, categories_in}
 use Rattle.bid_desk.specs.DeskValue.{desk_value}
 use Rattle.bid_desk.specs.Known.{IsKnown}
 use Rattle.bid_desk.specs.Lists.{Lists, lists_with}
@@ -99,3 +102,20 @@ submit-state terms clock closed bidders j d old new ok inside read by =
     ∙ ap (λ (l : Lists). set (map submitted_in bidders) (j - 1) l.submitted) by
     ∙ ap (λ (ds : List BookBid). set (map submitted_in bidders) (j - 1) ds) (drafts-read terms clock closed bidders j d old inside read))
     ∙ sym (cond-true (is_ok_reply (reply_in st (Submit j))) (taken st (Submit j)) st (ap is_ok_reply ok))
+
+-- ---- the sealed round
+
+-- once a desk is in the sealed round, the clock has stopped
+pub sealed-clock : (stage : Stage) → is_sealed stage ≡ true → is_clock stage ≡ false
+sealed-clock stages.Clock sealed = cc
+sealed-clock stages.Sealed sealed = refl
+sealed-clock stages.Closed sealed = cc
+
+-- the history then has the categories of the award
+pub categories-known : (terms : Terms) (clock : ClockState) (closed : Bool) (bidders : List Lists) (j : ℕ) (now : DeskState) (history : List Round)
+    → desk_value terms clock closed bidders ≡ now → is_sealed now.stage ≡ true → IsKnown now.terms now j
+    → (0 < length clock.rounds → categories_in history ≡ length clock.posted.prices) → IsFor terms clock → categories_in history ≡ length now.terms.supply
+categories-known terms clock closed bidders j now history view sealed known by for =
+    let some : 1 ≤ length now.rounds = known.some (sealed-clock now.stage sealed) in
+    let rounds : clock.rounds ≡ now.rounds = ap (λ (s : DeskState). s.rounds) view in
+    by (subst (λ (rs : List Round). 0 < length rs) (sym rounds) some) ∙ for.categories ∙ ap (λ (s : DeskState). length s.terms.supply) view
