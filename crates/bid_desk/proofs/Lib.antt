@@ -4,3 +4,5 @@ mod EntryLaws
 mod BestBids
 mod BookLaws
 mod BookStates
+mod ReachedLaws
+mod SealedLaws

@@ -4,3 +4,4 @@ pub mod Closes
 pub mod Lists
 pub mod Slots
 pub mod BookBids
+pub mod Known
