@@ -1,5 +1,5 @@
 -- What a desk has for each bidder of the award.
-use Rattle.std.specs.Prelude.{◌≡◌, ℕ, ◌-◌, ◌≤◌, ◌<◌, false, List, [], ◌∷◌, None, length, nat_lt, slice_index_or}
+use Rattle.std.specs.Prelude.{◌≡◌, ℕ, ◌-◌, ◌≤◌, ◌<◌, false, List, [], ◌∷◌, Option, None, length, nat_lt, slice_index_or}
 use Rattle.std.specs.List.{AllByRecursion}
 use Rattle.limits.specs.declared.TheConstants.{MOST_AMOUNT}
 use Rattle.auction_model.specs.Book.{BookBid}
@@ -19,6 +19,10 @@ use Rattle.bid_desk.specs.Lists.{IsKept}
 -- the list that bidder j submitted last
 abbrev pub submitted_of : DeskState → ℕ → List BookBid
 submitted_of desk j = slice_index_or desk.submitted (j - 1) []
+
+-- the first entry of a list of bidder j that is above its cap over the list: its number, and the cap
+abbrev pub fault_in : DeskState → ℕ → List BookBid → Option (ℕ × ℕ)
+fault_in desk j list = list_fault (final_cap desk.terms) desk.terms.points (rounds_of j desk.rounds) list
 
 -- Bidder j is one of the award. It has a draft list and a submitted list, both of entries that it may draft; the submitted list is
 -- valid. Once the clock has stopped a round is closed, and in round 1 it was eligible for what the award says.
