@@ -14,7 +14,7 @@ use Rattle.auction_rules.specs.Lawful.{HasCategories, IsDraft, AreDrafts}
 use Rattle.auction_rules.specs.Lines.{draft_list, submitted_list}
 use Rattle.auction_rules.specs.Replies.{Standing, is_clock, admitted, standing}
 use Rattle.auction_rules.specs.State.{Round, DeskState, own_of, state_of, standing_in}
-use Rattle.auction_rules.proofs.KeptStandings.{AreDrafts-drafts, rounds-first, rounds-some}
+use Rattle.auction_rules.proofs.KeptStandings.{AreDrafts-drafts, AreDrafts-submitted, rounds-first, rounds-some}
 use Rattle.auction_rules.proofs.LawfulBids.{each-weaker}
 use Rattle.auction_rules.proofs.Sound.{IsSound-standing}
 use Rattle.auction_rules.proofs.States.{length-listing, standing_in-state_after}
@@ -67,13 +67,16 @@ known-of terms log j lots categories low high =
     let rounds : (is_clock st.stage ≡ false) → 1 ≤ length st.rounds
     = λ over. omega (arith, count, subst (λ (t : Standing). is_clock t.stage ≡ false → 1 ≤ length t.rounds) (sym is) (rounds-some terms log j) over) in
     let drafts : AreDrafts terms j (standing_in st j).drafts = subst (λ (t : Standing). AreDrafts terms j t.drafts) (sym is) (AreDrafts-drafts terms log j categories) in
+    let submitted : AreDrafts terms j (standing_in st j).submitted = subst (λ (t : Standing). AreDrafts terms j t.submitted) (sym is) (AreDrafts-submitted terms log j categories) in
     record {
       first = low;
       last = high;
       drafts_there = omega (arith, drafts-count terms log);
       submitted_there = omega (arith, submitted-count terms log);
-      few = drafts.few;
+      drafts = drafts;
+      submitted = submitted;
       kept = drafts-kept terms j (standing_in st j).drafts lots drafts;
+      kept_last = drafts-kept terms j (standing_in st j).submitted lots submitted;
       points = drafts-points terms j (standing_in st j).drafts drafts;
       valid = subst (λ (t : Standing). list_fault (final_cap terms) terms.points t.rounds t.submitted ≡ None) (sym is) (IsSound-standing terms j log).valid;
       some = rounds;

@@ -6,12 +6,11 @@ ghost use Rattle.auction_rules.specs.declared.Event.{Event};
 ghost use Rattle.auction_rules.specs.declared.Reply.{Reply};
 ghost use Rattle.auction_rules.specs.declared.Stage.{Stage};
 ghost use Rattle.auction_rules.specs.BookOfLog.{book_in, book_of_log};
-ghost use Rattle.auction_rules.specs.Caps.{clock_bid, greatest, list_fault};
+ghost use Rattle.auction_rules.specs.Caps.{clock_bid, greatest};
 ghost use Rattle.auction_rules.specs.Lawful.{HasCategories};
 ghost use Rattle.auction_rules.specs.PackageTests.{is_empty};
 ghost use Rattle.auction_rules.specs.Replies.{has_entry, is_of, is_sealed, reply_to};
 ghost use Rattle.auction_rules.specs.State.{drafts_of, reply_in, state_of, state_with};
-ghost use Rattle.auction_rules.specs.Terms.{final_cap};
 ghost use Rattle.auction_rules.specs.View.{view};
 ghost use Rattle.award_file.specs.Award.{IsAward};
 ghost use Rattle.clock_stage.specs.Kept.{IsHeld};
@@ -19,7 +18,7 @@ ghost use Rattle.relative_cap.specs.Answer.{excess_value};
 ghost use Rattle.relative_cap.specs.OwnRounds.{bid_value, rounds_of};
 ghost use Rattle.bid_desk.specs.Closes.{reply_value};
 ghost use Rattle.bid_desk.specs.DeskValue.{round_in};
-ghost use Rattle.bid_desk.specs.Known.{IsKnown, amount_reply, submitted_of};
+ghost use Rattle.bid_desk.specs.Known.{IsKnown, amount_reply, fault_in, submitted_of};
 ghost use Rattle.bid_desk.specs.Reached.{IsBidOrDrop, IsTaken, IsTakenOrMemory, StandsNext, Takes};
 
 use crate::book::book_of;
@@ -411,7 +410,7 @@ impl Desk {
     fn draft_fault(&self, bidder: u16) -> Option<OverCap>
         requires sealed { is_sealed self.now.stage ≡ true }
         requires known { IsKnown self.now.terms self.now bidder }
-        ensures { option_map excess_value result ≡ list_fault (final_cap self.now.terms) self.now.terms.points (rounds_of bidder self.now.rounds) (drafts_of self.now bidder) }
+        ensures { option_map excess_value result ≡ fault_in self.now bidder (drafts_of self.now bidder) }
     {
         let lists = self.lists(bidder);
         if lists.are_alike() {
@@ -425,7 +424,7 @@ impl Desk {
         requires sealed { is_sealed self.now.stage ≡ true }
         requires known { IsKnown self.now.terms self.now bidder }
         requires drafts { map bid_value drafts.now ≡ drafts_of self.now bidder }
-        ensures { option_map excess_value result ≡ list_fault (final_cap self.now.terms) self.now.terms.points (rounds_of bidder self.now.rounds) (drafts_of self.now bidder) }
+        ensures { option_map excess_value result ≡ fault_in self.now bidder (drafts_of self.now bidder) }
     {
         list_fault(
             self.clock.history(),

@@ -1,9 +1,7 @@
 -- The entries are drafts of a bidder of the award.
-use Rattle.std.proofs.Common.{◌≡◌, ◌∙◌, ℕ, List, length, ap, sym, subst, false}
-use Rattle.std.proofs.lemmas.List.{length-map}
+use Rattle.std.proofs.Common.{◌≡◌, ◌∙◌, List, ap, sym, false}
 use Rattle.auction_rules.specs.Replies.{is_clock}
 use Rattle.auction_rules.specs.State.{DeskState, Round}
-use Rattle.clock_stage.specs.Kept.{categories_in}
 use Rattle.relative_cap.specs.OwnRounds.{eligibility_in}
 use Rattle.bid_desk.proofs.EntryLaws.{entries-of, order-of, points-of}
 use Rattle.bid_desk.proofs.SealedLaws.{sealed-clock, categories-known}
