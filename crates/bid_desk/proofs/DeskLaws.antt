@@ -1,6 +1,8 @@
 -- What bids and closes make of the fields of a desk they make of its state, and a desk that stands for a log stands for one more line.
-use Rattle.std.proofs.Common.{◌≡◌, ℕ, Bool, true, false, List, ◌∷◌, refl, sym, ap, subst, ◌∙◌, inl, inr, map, length, []}
+use Rattle.std.proofs.Common.{◌≡◌, ℕ, zero, suc, ◌+◌, Bool, true, false, List, ◌∷◌, ◌++◌, refl, sym, ap, subst, ◌∙◌, inl, inr, map, length, [], arith}
+use Rattle.std.specs.Prelude.{replicate}
 use Rattle.std.specs.List.{AllByRecursion}
+use Rattle.std.proofs.lemmas.List.{replicate_more}
 use Rattle.std.proofs.lemmas.Bool.{cases_Bool}
 use Rattle.auction_model.specs.Book.{BookBid}
 use Rattle.auction_model.specs.Package.{is_within}
@@ -18,9 +20,9 @@ use Rattle.clock_stage.specs.ClockState.{ClockState, clock_with, clock_of, reply
 use Rattle.clock_stage.specs.declared.closes.Closed.{Closed}
 use Rattle.clock_stage.specs.declared.closes.Closed.TheVariants.{NextRound, StageEnds, Full, PriceTop, Memory}
 use Rattle.clock_stage.specs.Closings.{Tells}
-use Rattle.bid_desk.specs.declared.lists.BidderLists.{BidderLists}
+use Rattle.bid_desk.specs.Lists.{Lists, lists_with}
 use Rattle.bid_desk.specs.Closes.{reply_value}
-use Rattle.bid_desk.specs.DeskValue.{desk_value, stage_value, drafts_value, submitted_value}
+use Rattle.bid_desk.specs.DeskValue.{desk_value, stage_value}
 use Rattle.bid_desk.specs.Reached.{IsReached}
 
 -- a desk in the clock isn't closed, and its clock runs
@@ -42,14 +44,14 @@ runs : (P : ClockState → Type 0) (clock : ClockState) → clock.running ≡ tr
 runs P clock running = subst P (sym (ap (λ (b : Bool). clock_with b clock.rounds clock.posted) running))
 
 -- the reply to a bid
-pub bid-reply : (terms : Terms) (clock : ClockState) (closed : Bool) (bidders : List BidderLists) (j : ℕ) (lots : List ℕ) → clock.running ≡ true → closed ≡ false
+pub bid-reply : (terms : Terms) (clock : ClockState) (closed : Bool) (bidders : List Lists) (j : ℕ) (lots : List ℕ) → clock.running ≡ true → closed ≡ false
     → reply_to_bid terms clock j lots ≡ reply_in (desk_value terms clock closed bidders) (Bid j lots)
 bid-reply terms clock closed bidders j lots running unclosed =
     subst (λ (b : Bool). reply_to_bid terms clock j lots ≡ reply_in (desk_value terms clock b bidders) (Bid j lots)) (sym unclosed)
     (runs (λ (c : ClockState). reply_to_bid terms c j lots ≡ reply_in (desk_value terms c false bidders) (Bid j lots)) clock running refl)
 
 -- the state after a bid, while the clock runs
-bid-running : (terms : Terms) (rounds : List Round) (posted : Round) (bidders : List BidderLists) (j : ℕ) (lots : List ℕ)
+bid-running : (terms : Terms) (rounds : List Round) (posted : Round) (bidders : List Lists) (j : ℕ) (lots : List ℕ)
     → desk_value terms (after_bid terms (clock_with true rounds posted) j lots) false bidders ≡ state_with (desk_value terms (clock_with true rounds posted) false bidders) (Bid j lots)
 bid-running terms rounds posted bidders j lots =
     elim (cases_Bool (is_ok_reply (reply_to_bid terms (clock_with true rounds posted) j lots))) [
@@ -58,7 +60,7 @@ bid-running terms rounds posted bidders j lots =
     ]
 
 -- the state after a bid
-pub bid-state : (terms : Terms) (clock new : ClockState) (closed : Bool) (bidders : List BidderLists) (j : ℕ) (lots : List ℕ) → clock.running ≡ true → closed ≡ false
+pub bid-state : (terms : Terms) (clock new : ClockState) (closed : Bool) (bidders : List Lists) (j : ℕ) (lots : List ℕ) → clock.running ≡ true → closed ≡ false
     → new ≡ after_bid terms clock j lots → desk_value terms new closed bidders ≡ state_with (desk_value terms clock closed bidders) (Bid j lots)
 bid-state terms clock new closed bidders j lots running unclosed is =
     ap (λ (c : ClockState). desk_value terms c closed bidders) is
@@ -67,14 +69,14 @@ bid-state terms clock new closed bidders j lots running unclosed is =
     (bid-running terms clock.rounds clock.posted bidders j lots))
 
 -- the reply to a close
-pub close-reply : (terms : Terms) (clock : ClockState) (closed : Bool) (bidders : List BidderLists) → clock.running ≡ true → closed ≡ false
+pub close-reply : (terms : Terms) (clock : ClockState) (closed : Bool) (bidders : List Lists) → clock.running ≡ true → closed ≡ false
     → reply_to_close terms clock ≡ reply_in (desk_value terms clock closed bidders) Close
 close-reply terms clock closed bidders running unclosed =
     subst (λ (b : Bool). reply_to_close terms clock ≡ reply_in (desk_value terms clock b bidders) Close) (sym unclosed)
     (runs (λ (c : ClockState). reply_to_close terms c ≡ reply_in (desk_value terms c false bidders) Close) clock running refl)
 
 -- the state after a close, while the clock runs
-close-running : (terms : Terms) (rounds : List Round) (posted : Round) (bidders : List BidderLists)
+close-running : (terms : Terms) (rounds : List Round) (posted : Round) (bidders : List Lists)
     → desk_value terms (after_close terms (clock_with true rounds posted)) false bidders ≡ state_with (desk_value terms (clock_with true rounds posted) false bidders) Close
 close-running terms rounds posted bidders =
     elim (cases_Bool (is_ok_reply (reply_to_close terms (clock_with true rounds posted)))) [
@@ -86,7 +88,7 @@ close-running terms rounds posted bidders =
     ]
 
 -- the state after a close
-pub close-state : (terms : Terms) (clock new : ClockState) (closed : Bool) (bidders : List BidderLists) → clock.running ≡ true → closed ≡ false
+pub close-state : (terms : Terms) (clock new : ClockState) (closed : Bool) (bidders : List Lists) → clock.running ≡ true → closed ≡ false
     → new ≡ after_close terms clock → desk_value terms new closed bidders ≡ state_with (desk_value terms clock closed bidders) Close
 close-state terms clock new closed bidders running unclosed is =
     ap (λ (c : ClockState). desk_value terms c closed bidders) is
@@ -111,7 +113,7 @@ reached-next old new line reached categories same is = record {
 }
 
 -- the state after the close of the sealed round
-pub sealed-state : (terms : Terms) (clock : ClockState) (closed : Bool) (bidders : List BidderLists) → stage_value clock.running closed ≡ stage.Sealed
+pub sealed-state : (terms : Terms) (clock : ClockState) (closed : Bool) (bidders : List Lists) → stage_value clock.running closed ≡ stage.Sealed
     → desk_value terms clock true bidders ≡ state_with (desk_value terms clock closed bidders) Close
 sealed-state terms clock closed bidders is =
     let parts : (clock.running ≡ false) × (closed ≡ false) = sealed-stage clock.running closed is in
@@ -136,13 +138,31 @@ start-lists : (terms : Terms) → with_lists terms (clock_of (state_of terms [])
 unfolding state_of
 start-lists terms = refl
 
+-- as many as are listed, all the same
+listing-same : {A : Type 0} (x : A) (n : ℕ) → listing (λ j. x) n ≡ replicate n x
+listing-same x zero = refl
+listing-same x (suc n) =
+    let next : n + 1 ≡ suc n = omega arith in
+    ap (λ (xs : List _). xs ++ x ∷ []) (listing-same x n) ∙ replicate_more n x ∙ ap (λ (k : ℕ). replicate k x) next
+
+map-same : {A B : Type 0} (f : A → B) (n : ℕ) (x : A) → map f (replicate n x) ≡ replicate n (f x)
+map-same f zero x = refl
+map-same f (suc n) x = ap (λ (xs : List _). f x ∷ xs) (map-same f n x)
+
+-- an empty list for each bidder
+empty-each : (f : Lists → List BookBid) (n : ℕ) → f (lists_with [] []) ≡ [] → map f (replicate n (lists_with [] [])) ≡ listing (λ j. []) n
+empty-each f n none = map-same f n (lists_with [] []) ∙ ap (replicate n) none ∙ sym (listing-same {A = List BookBid} [] n)
+
 -- the state of a desk at which no line has been taken
-pub start-state : (terms : Terms) (clock : ClockState) (count : ℕ) (bidders : List BidderLists) → clock ≡ clock_of (state_of terms []) → count ≡ length terms.bidders
-    → map drafts_value bidders ≡ listing (λ j. []) count → map submitted_value bidders ≡ listing (λ j. []) count → desk_value terms clock false bidders ≡ state_of terms []
-start-state terms clock count bidders is all drafts submitted =
+pub start-state : (terms : Terms) (clock : ClockState) (count : ℕ) (bidders : List Lists) → clock ≡ clock_of (state_of terms []) → count ≡ length terms.bidders
+    → bidders ≡ replicate count (lists_with [] []) → desk_value terms clock false bidders ≡ state_of terms []
+start-state terms clock count bidders is all empty =
+    let same : bidders ≡ replicate (length terms.bidders) (lists_with [] []) = empty ∙ ap (λ (n : ℕ). replicate n (lists_with [] [])) all in
     ap (λ (c : ClockState). desk_value terms c false bidders) is
-    ∙ ap (λ (ds : List (List BookBid)). with_lists terms (clock_of (state_of terms [])) ds (map submitted_value bidders)) (drafts ∙ ap (listing (λ j. [])) all)
-    ∙ ap (with_lists terms (clock_of (state_of terms [])) (listing (λ j. []) (length terms.bidders))) (submitted ∙ ap (listing (λ j. [])) all)
+    ∙ ap (λ (ls : List Lists). desk_value terms (clock_of (state_of terms [])) false ls) same
+    ∙ ap (λ (ds : List (List BookBid)). with_lists terms (clock_of (state_of terms [])) ds (map (λ (l : Lists). l.submitted) (replicate (length terms.bidders) (lists_with [] []))))
+    (empty-each (λ (l : Lists). l.drafts) (length terms.bidders) refl)
+    ∙ ap (with_lists terms (clock_of (state_of terms [])) (listing (λ j. []) (length terms.bidders))) (empty-each (λ (l : Lists). l.submitted) (length terms.bidders) refl)
     ∙ start-lists terms
 
 -- a desk in the state of the empty log stands for a log

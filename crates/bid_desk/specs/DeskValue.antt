@@ -1,26 +1,18 @@
 -- The state that the fields of a desk hold.
 use Rattle.std.specs.Prelude.{ℕ, suc, Bool, List, length, map, if◌then◌else◌}
-use Rattle.auction_model.specs.Book.{BookBid}
 use Rattle.auction_rules.specs.declared.Stage.{Stage}
 use Rattle.auction_rules.specs.declared.Stage.TheVariants.{Clock, Sealed, Closed}
 use Rattle.auction_rules.specs.Terms.{Terms}
 use Rattle.auction_rules.specs.Replies.{is_clock}
 use Rattle.auction_rules.specs.State.{DeskState}
 use Rattle.clock_stage.specs.ClockState.{ClockState}
-use Rattle.relative_cap.specs.OwnRounds.{bid_value}
-use Rattle.bid_desk.specs.declared.lists.BidderLists.{BidderLists}
+use Rattle.bid_desk.specs.Lists.{Lists}
 
 -- rounds are posted while the clock runs, and then lists are drafted until the sealed round is closed
 abbrev pub stage_value : Bool → Bool → Stage
 stage_value running closed = if closed then Closed else if running then Clock else Sealed
 
-abbrev pub drafts_value : BidderLists → List BookBid
-drafts_value lists = map bid_value lists.drafts.items
-
-abbrev pub submitted_value : BidderLists → List BookBid
-submitted_value lists = map bid_value lists.submitted.items
-
-abbrev pub desk_value : Terms → ClockState → Bool → List BidderLists → DeskState
+abbrev pub desk_value : Terms → ClockState → Bool → List Lists → DeskState
 desk_value terms clock closed bidders = record {
   terms = terms;
   stage = stage_value clock.running closed;
@@ -28,8 +20,8 @@ desk_value terms clock closed bidders = record {
   prices = clock.posted.prices;
   eligibility = clock.posted.eligibility;
   held = clock.posted.held;
-  drafts = map drafts_value bidders;
-  submitted = map submitted_value bidders;
+  drafts = map (λ l. l.drafts) bidders;
+  submitted = map (λ l. l.submitted) bidders;
 }
 
 -- the number of the posted round, and of the final one once the clock has stopped

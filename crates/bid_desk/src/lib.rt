@@ -1,8 +1,10 @@
 //! The desk of an auction. It takes the lines of a log one by one, answers each, and gives the book of the log.
 #![tactic(auto)]
 
+mod book;
 mod desk;
 mod lists;
+mod slots;
 
 pub use auction_rules::{Event, Reply, Stage};
 pub use desk::{Desk, DeskStop};

@@ -1,31 +1,121 @@
 // The lists of one bidder.
-ghost use Rattle.std.specs.Prelude.{◌≡◌, IfOk, map, []};
-ghost use Rattle.auction_rules.specs.Rounds.{listing};
-ghost use Rattle.bid_desk.specs.DeskValue.{drafts_value, submitted_value};
+ghost use Rattle.std.specs.Prelude.{◌≡◌, [], IfOk, OnErr, OnOk, length, map, replicate, true};
+ghost use Rattle.auction_rules.specs.Lines.{with_entry, without_entry};
+ghost use Rattle.auction_rules.specs.Replies.{has_entry};
+ghost use Rattle.relative_cap.specs.OwnRounds.{bid_value};
+ghost use Rattle.bid_desk.specs.Lists.{IsKept, lists_with};
 
-use lots::Bid;
+use crate::slots::{Slot, copied_entries, has_entry, put_entry, slot_of};
+use lots::{Bid, Package};
 use std::alloc::{AllocError, Global};
+use std::marker::Model;
 
-/// The lists of a bidder, each in the order of its packages, each package once.
+/// The draft list and the submitted list of a bidder, each in the order of its packages, each package once.
 #[derive(Drop)]
 pub struct BidderLists {
-    /// The draft list.
-    pub drafts: Vec<Bid>,
-    /// The list that was submitted last.
-    pub submitted: Vec<Bid>,
+    drafts: Vec<Bid>,
+    submitted: Vec<Bid>,
+    // Only where the two lists have the same entries. A list that was submitted last and hasn't changed since is valid still.
+    alike: bool,
+}
+
+impl Model for BidderLists {
+    ghost use Rattle.std.specs.Prelude.{◌≡◌, map, true};
+    ghost use Rattle.relative_cap.specs.OwnRounds.{bid_value};
+    ghost use Rattle.bid_desk.specs.Lists.{Lists, lists_with};
+
+    ghost Value = { Lists };
+
+    ghost view = { λ l. lists_with (map bid_value l.drafts.items) (map bid_value l.submitted.items) };
+
+    ghost invariant = { λ l. l.alike ≡ true → map bid_value l.drafts.items ≡ map bid_value l.submitted.items };
+}
+
+impl BidderLists {
+    /// Two empty lists. It takes no memory.
+    pub fn new(alloc: Global) -> BidderLists
+        ensures { result ≡ lists_with [] [] }
+    {
+        BidderLists {
+            drafts: Vec::new(alloc),
+            submitted: Vec::new(alloc),
+            alike: true,
+        }
+    }
+
+    /// The entries of the draft list.
+    pub fn drafts(&self) -> &[Bid]
+        ensures { map bid_value result.now ≡ self.now.drafts }
+    {
+        self.drafts.as_slice()
+    }
+
+    /// The entries of the submitted list.
+    pub fn submitted(&self) -> &[Bid]
+        ensures { map bid_value result.now ≡ self.now.submitted }
+    {
+        self.submitted.as_slice()
+    }
+
+    /// Whether the draft list is known to be the submitted one.
+    pub fn are_alike(&self) -> bool
+        ensures { result ≡ true → self.now.drafts ≡ self.now.submitted }
+    {
+        self.alike
+    }
+
+    /// Whether the draft list has an entry for the package. It takes no memory.
+    pub fn has_draft(&self, package: &Package) -> bool
+        requires { IsKept (length «package».now) self.now.drafts }
+        ensures { result ≡ has_entry «package».now self.now.drafts }
+    {
+        has_entry(&self.drafts, package)
+    }
+
+    /// Sets the amount for the package in the draft list. For want of memory the lists stay as they are.
+    pub fn put(&mut self, alloc: Global, package: &Package, amount: u64) -> Result<(), AllocError>
+        requires { IsKept (length «package».now) self.old.drafts }
+        ensures put { OnOk result (self.new ≡ lists_with (with_entry «package».now amount self.old.drafts) self.old.submitted) }
+        ensures unchanged { OnErr result (self.new ≡ self.old) }
+    {
+        put_entry(alloc, &mut self.drafts, package, amount)?;
+        self.alike = false;
+        Ok(())
+    }
+
+    /// Takes the entry for the package out of the draft list. It takes no memory.
+    pub fn remove(&mut self, package: &Package)
+        requires { IsKept (length «package».now) self.old.drafts }
+        ensures { self.new ≡ lists_with (without_entry «package».now self.old.drafts) self.old.submitted }
+    {
+        if let Slot::Taken(place) = slot_of(&self.drafts, package) {
+            let _ = self.drafts.remove(place);
+            self.alike = false;
+        }
+    }
+
+    /// The draft list becomes the submitted list. For want of memory the lists stay as they are, and lists that are known to be
+    /// alike need none.
+    pub fn submit(&mut self, alloc: Global) -> Result<(), AllocError>
+        ensures submitted { OnOk result (self.new ≡ lists_with self.old.drafts self.old.drafts) }
+        ensures unchanged { OnErr result (self.new ≡ self.old) }
+    {
+        if self.alike {
+            return Ok(());
+        }
+        self.submitted = copied_entries(alloc, &self.drafts)?;
+        self.alike = true;
+        Ok(())
+    }
 }
 
 /// The lists of so many bidders, all empty.
 pub fn empty_lists(alloc: Global, bidders: usize) -> Result<Vec<BidderLists>, AllocError>
-    ensures drafts { IfOk result (λ v. map drafts_value v.items ≡ listing (λ j. []) bidders) }
-    ensures submitted { IfOk result (λ v. map submitted_value v.items ≡ listing (λ j. []) bidders) }
+    ensures { IfOk result (λ v. v.items ≡ replicate bidders (lists_with [] [])) }
 {
     let mut lists = Vec::with_capacity(alloc, bidders)?;
     for _ in 0..bidders {
-        lists.push(BidderLists {
-            drafts: Vec::new(alloc),
-            submitted: Vec::new(alloc),
-        })?;
+        lists.push(BidderLists::new(alloc))?;
     }
     Ok(lists)
 }

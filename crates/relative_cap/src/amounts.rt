@@ -62,8 +62,8 @@ pub fn place_of(list: &[Bid], package: &Package) -> usize
     low
 }
 
-/// The amount for the package in the list, and 0 where there is none.
-fn amount_listed(list: &[Bid], package: &Package) -> u64
+/// The amount for the package in a list in the order of packages, and 0 where there is none. It halves, and takes no memory.
+pub fn amount_listed(list: &[Bid], package: &Package) -> u64
     requires list { All (IsEntry (length «package».now)) list.now }
     requires order { InOrder (map entry_lots list.now) }
     ensures greatest { result ≡ greatest «package».now (map bid_value list.now) }

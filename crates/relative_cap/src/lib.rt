@@ -8,7 +8,7 @@ mod levels;
 mod packages;
 mod rounds;
 
-pub use amounts::{highest, place_of};
+pub use amounts::{amount_listed, highest, place_of};
 pub use answer::{Cap, OverCap};
 pub use caps::{cap, list_fault};
 pub use packages::is_same;

@@ -8,9 +8,9 @@ pub invariant_of-result : goal.invariant_of-result
 invariant_of-result c = (
   c.in_ok-clock.ensures.award,
   reached-start c.args.award (desk_value c.args.award c.in_ok-clock.clock false c.in_ok-bidders.bidders.items) refl
-      (start-state c.args.award c.in_ok-clock.clock c.bidders.result c.in_ok-bidders.bidders.items c.in_ok-clock.ensures.clock c.bidders.ensures.bidders c.in_ok-bidders.ensures.drafts c.in_ok-bidders.ensures.submitted),
+      (start-state c.args.award c.in_ok-clock.clock c.bidders.result c.in_ok-bidders.bidders.items c.in_ok-clock.ensures.clock c.bidders.ensures.bidders c.in_ok-bidders.ensures),
 )
 
 pub returns : goal.returns
 returns c =
-    start-state c.args.award c.in_ok-clock.clock c.bidders.result c.in_ok-bidders.bidders.items c.in_ok-clock.ensures.clock c.bidders.ensures.bidders c.in_ok-bidders.ensures.drafts c.in_ok-bidders.ensures.submitted
+    start-state c.args.award c.in_ok-clock.clock c.bidders.result c.in_ok-bidders.bidders.items c.in_ok-clock.ensures.clock c.bidders.ensures.bidders c.in_ok-bidders.ensures

@@ -1,0 +1,82 @@
+// The places of entries in a list.
+ghost use Rattle.std.specs.Prelude.{◌≡◌, IfOk, OnErr, OnOk, length, map};
+ghost use Rattle.auction_rules.specs.Lines.{with_entry};
+ghost use Rattle.auction_rules.specs.Replies.{has_entry};
+ghost use Rattle.relative_cap.specs.OwnRounds.{bid_value};
+ghost use Rattle.bid_desk.specs.Lists.{IsKept};
+ghost use Rattle.bid_desk.specs.Slots.{IsSlot};
+
+use lots::{Bid, Package};
+use relative_cap::{is_same, place_of};
+use std::alloc::{AllocError, Global};
+
+/// Where the entry for a package stands in a list in the order of packages, or would stand. Places are counted from 0.
+#[derive(Clone, Copy)]
+pub enum Slot {
+    /// The entry for the package stands here.
+    Taken(usize),
+    /// There is none; it would stand before the entry that is here.
+    Free(usize),
+}
+
+/// The slot of a package in a list. It takes no memory.
+pub fn slot_of(list: &[Bid], package: &Package) -> Slot
+    requires { IsKept (length «package».now) (map bid_value list.now) }
+    ensures { IsSlot (map bid_value list.now) «package».now result }
+{
+    let place = place_of(list, package);
+    if place < list.len() && is_same(&list[place].package, package) {
+        Slot::Taken(place)
+    } else {
+        Slot::Free(place)
+    }
+}
+
+/// Whether a list has an entry for the package. It takes no memory.
+pub fn has_entry(list: &[Bid], package: &Package) -> bool
+    requires { IsKept (length «package».now) (map bid_value list.now) }
+    ensures { result ≡ has_entry «package».now (map bid_value list.now) }
+{
+    match slot_of(list, package) {
+        Slot::Taken(_) => true,
+        Slot::Free(_) => false,
+    }
+}
+
+/// Sets the amount for the package in a list. For want of memory the list stays as it is.
+pub fn put_entry(
+    alloc: Global,
+    list: &mut Vec<Bid>,
+    package: &Package,
+    amount: u64,
+) -> Result<(), AllocError>
+    requires { IsKept (length «package».now) (map bid_value list.old.items) }
+    ensures put { OnOk result (map bid_value list.new.items ≡ with_entry «package».now amount (map bid_value list.old.items)) }
+    ensures unchanged { OnErr result (list.new.items ≡ list.old.items) }
+{
+    let entry = Bid {
+        package: package.copied(alloc)?,
+        amount,
+    };
+    match slot_of(list, package) {
+        Slot::Taken(place) => {
+            list[place] = entry;
+            Ok(())
+        }
+        Slot::Free(place) => Ok(list.insert(place, entry)?),
+    }
+}
+
+/// The same entries once more.
+pub fn copied_entries(alloc: Global, list: &[Bid]) -> Result<Vec<Bid>, AllocError>
+    ensures { IfOk result (λ v. map bid_value v.items ≡ map bid_value list.now) }
+{
+    let mut copies = Vec::with_capacity(alloc, list.len())?;
+    for bid in list {
+        copies.push(Bid {
+            package: bid.package.copied(alloc)?,
+            amount: bid.amount,
+        })?;
+    }
+    Ok(copies)
+}
