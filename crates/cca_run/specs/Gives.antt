@@ -27,7 +27,7 @@ use Rattle.print_form.specs.Turns.{AreTurnLines}
 use Rattle.row_laws.specs.Turns.{IsLastPoint}
 use Rattle.row_laws.specs.Winners.{winners_in}
 use Rattle.cca_inputs.specs.Answers.{AwardAnswers, BookAnswers, CertAnswers, LogAnswers}
-use Rattle.cca_inputs.specs.Command.{CommandValue, win, price, check, auction, command_of, contents_of}
+use Rattle.cca_inputs.specs.Command.{CommandValue, win, price, check, auction, award, audit, command_of, contents_of}
 use Rattle.cca_inputs.specs.Outcome.{InputGives, Outcome, done, stopped, stopped_after}
 use Rattle.cca_inputs.specs.declared.file_text.FileText.{FileText}
 use Rattle.cca_inputs.specs.declared.status.FileKind.{FileKind}
@@ -137,7 +137,11 @@ abbrev pub CommandGives : CommandValue → (FileKind → Option (List ℕ)) → 
 CommandGives (win book) contents outcome = BookGives (contents Book) WinGives outcome
 CommandGives (price book cert rounds) contents outcome = BookGives (contents Book) (λ b. PriceGives b (ones b) rounds) outcome
 CommandGives (check book cert) contents outcome = BookGives (contents Book) (λ b. CertGives b (contents Cert) (VerdictGives b (ones b))) outcome
-CommandGives (auction award log book) contents outcome = AwardGives (contents Award) (λ terms. LogGives terms (contents Log) (AuctionGives terms)) outcome
+CommandGives (auction terms log book) contents outcome = AwardGives (contents Award) (λ t. LogGives t (contents Log) (AuctionGives t)) outcome
+CommandGives (award terms log cert rounds) contents outcome =
+    AwardGives (contents Award) (λ t. LogGives t (contents Log) (λ events. BookOfLogGives t events (λ b. PriceGives b (ones b) rounds))) outcome
+CommandGives (audit terms log cert) contents outcome =
+    AwardGives (contents Award) (λ t. LogGives t (contents Log) (λ events. BookOfLogGives t events (λ b. CertGives b (contents Cert) (VerdictGives b (ones b))))) outcome
 
 -- what a command gives by the files
 abbrev pub FilesGive : CommandValue → (List ℕ → Option (List ℕ)) → Outcome → Type 0

@@ -1,6 +1,11 @@
 -- From a command to what it prints and appends, and how a run ends that has a command.
-use Rattle.std.specs.Prelude.{◌≡◌, ◌⊎◌, ◌<◌, ◌≤◌, ℕ, Bool, true, false, IsTrue, IsSome, Option, Some, None, Result, Ok, Err, List, [], length, map, unwrap_or}
+use Rattle.std.specs.Prelude.{◌≡◌, ◌⊎◌, ◌<◌, ◌≤◌, ℕ, Bool, true, false, IsTrue, IsSome, Option, Some, None, Result, Ok, Err, List, [], length, map, reverse, unwrap_or}
 use Rattle.std.specs.List.{AllByRecursion}
+use Rattle.auction_model.specs.Book.{Book}
+use Rattle.auction_rules.specs.Terms.{Terms}
+use Rattle.auction_rules.specs.declared.Event.{Event}
+use Rattle.log_replay.specs.ReplyLines.{end_of}
+use Rattle.log_replay.specs.declared.results.ReplayStop.{ReplayStop}
 use Rattle.cca_base.specs.Faults.{Rose}
 use Rattle.cca_base.specs.Files.{Folder, KeepsFiles}
 use Rattle.cca_base.specs.Sink.{Output, Puts}
@@ -16,7 +21,7 @@ use Rattle.cca_inputs.specs.declared.status.FileKind.{FileKind}
 use Rattle.cca_inputs.specs.declared.status.FileKind.TheVariants.{Out}
 use Rattle.cca_inputs.specs.declared.status.Status.{Status}
 use Rattle.cca_inputs.specs.declared.status.Status.TheVariants.{Done, Words, ReadFault, WriteFault, Memory, Limit}
-use Rattle.cca_run.specs.Gives.{FilesGive, WordsGive}
+use Rattle.cca_run.specs.Gives.{FilesGive, WordsGive, replay_status}
 use Rattle.cca_run.specs.Run.{Appended, AppendsAll, AppendsUpTo, Changes, CountsAmong, FailsToRead, IsHindrance, IsReadFault, IsWriteFault, inputs, outputs}
 use Rattle.cca_run.specs.declared.work.Stop.{Stop}
 use Rattle.cca_run.specs.declared.work.Work.{Work}
@@ -37,6 +42,12 @@ text_before stop = unwrap_or stop.before []
 abbrev pub IsWork : (Outcome → Type 0) → List FileKind → Result Work Stop → Type 0
 IsWork gives kinds (Ok work) = gives (done work.printed work.appended.items) × (map (λ t. t.kind) work.appended.items ≡ kinds)
 IsWork gives kinds (Err stop) = (stop ≡ bare Memory) ⊎ (IsStop stop.status × gives (stopped_after (text_before stop) stop.status))
+
+-- the book that the events of a log lead to; a stop is want of memory, or why they lead to none
+abbrev pub HasBook : Terms → List Event → Result Book Stop → Type 0
+HasBook terms events (Ok book) = end_of terms (reverse events) ≡ Ok book
+HasBook terms events (Err stop) =
+    (stop ≡ bare Memory) ⊎ ((why : ReplayStop) × (end_of terms (reverse events) ≡ Err why) × (stop ≡ bare (replay_status (length events) why)))
 
 -- how the way from the files to the work stops: for want of memory, by a fault of reading that was counted, or by what the files give
 abbrev pub StopsBy : CommandValue → Folder → Folder → Stop → Type 0

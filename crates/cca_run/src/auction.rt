@@ -4,7 +4,7 @@ ghost use Rattle.std.specs.List.{AllByRecursion};
 ghost use Rattle.auction_rules.specs.Lawful.{HasCategories};
 ghost use Rattle.cca_inputs.specs.declared.status.FileKind.{FileKind};
 ghost use Rattle.cca_run.specs.Gives.{AuctionGives, RepliesGive, replay_status};
-ghost use Rattle.cca_run.specs.Works.{IsWork};
+ghost use Rattle.cca_run.specs.Works.{HasBook, IsWork};
 
 use crate::work::{Stop, Work};
 use crate::{FileKind, Status};
@@ -27,6 +27,18 @@ pub fn replayed(alloc: Global, award: Award, log: &Events) -> Result<Work, Stop>
     match end {
         Ok(book) => with_book(alloc, records, replies, &book),
         Err(stop) => Err(stop_of(records, replies, stop)),
+    }
+}
+
+/// The book of a log, or why it has none.
+pub fn logged_book(alloc: Global, award: Award, log: &Events) -> Result<BidBook, Stop>
+    requires { AllByRecursion (HasCategories award) log.now }
+    ensures { HasBook award log.now result }
+{
+    let records = log.items().len() as u64;
+    match replay(alloc, award, log)?.end {
+        Ok(book) => Ok(book),
+        Err(stop) => Err(Stop::from(status_of(records, stop))),
     }
 }
 

@@ -1,11 +1,11 @@
 // The work of each command.
 ghost use Rattle.std.specs.Prelude.{ℕ, List, [], IsTrue};
-ghost use Rattle.cca_inputs.specs.Command.{win, price, check, auction};
+ghost use Rattle.cca_inputs.specs.Command.{win, price, check, auction, award, audit};
 ghost use Rattle.cca_inputs.specs.Words.{KnowsFiles, command_value};
 ghost use Rattle.cca_run.specs.Gives.{WinGives};
 ghost use Rattle.cca_run.specs.Works.{IsWork, Works};
 
-use crate::auction::replayed;
+use crate::auction::{logged_book, replayed};
 use crate::pricing::price_alike;
 use crate::verdict::verdict_alike;
 use crate::win::win_of;
@@ -71,6 +71,42 @@ fn auction_work<F: Files>(
     replayed(alloc, award, &log)
 }
 
+fn award_work<F: Files>(
+    alloc: Global,
+    files: &mut F,
+    award: &str,
+    log: &str,
+    rounds: bool,
+) -> Result<Work, Stop>
+    requires award { IsTrue ((F.folder files.old).knows award.now) }
+    requires log { IsTrue ((F.folder files.old).knows log.now) }
+    ensures { (cert : List ℕ) → Works (award award.now log.now cert rounds) (F.folder files.old) (F.folder files.new) result }
+{
+    let terms = read_input(alloc, files, award, &AwardInput)?;
+    let events = read_input(alloc, files, log, &LogInput { award: &terms })?;
+    let book = logged_book(alloc, terms, &events)?;
+    price_alike(alloc, &book, rounds)
+}
+
+fn audit_work<F: Files>(
+    alloc: Global,
+    files: &mut F,
+    award: &str,
+    log: &str,
+    cert: &str,
+) -> Result<Work, Stop>
+    requires award { IsTrue ((F.folder files.old).knows award.now) }
+    requires log { IsTrue ((F.folder files.old).knows log.now) }
+    requires cert { IsTrue ((F.folder files.old).knows cert.now) }
+    ensures { Works (audit award.now log.now cert.now) (F.folder files.old) (F.folder files.new) result }
+{
+    let terms = read_input(alloc, files, award, &AwardInput)?;
+    let events = read_input(alloc, files, log, &LogInput { award: &terms })?;
+    let book = logged_book(alloc, terms, &events)?;
+    let cert = read_input(alloc, files, cert, &CertInput { book: &book })?;
+    verdict_alike(alloc, &book, &cert)
+}
+
 /// What the command prints and appends, or the stop on the way to it.
 pub fn work_out<F: Files>(alloc: Global, files: &mut F, command: Command<'_>) -> Result<Work, Stop>
     requires { KnowsFiles (F.folder files.old) (command_value command) }
@@ -81,5 +117,9 @@ pub fn work_out<F: Files>(alloc: Global, files: &mut F, command: Command<'_>) ->
         Command::Price { book, rounds, .. } => price_work(alloc, files, book, rounds),
         Command::Check { book, cert } => check_work(alloc, files, book, cert),
         Command::Auction { award, log, .. } => auction_work(alloc, files, award, log),
+        Command::Award {
+            award, log, rounds, ..
+        } => award_work(alloc, files, award, log, rounds),
+        Command::Audit { award, log, cert } => audit_work(alloc, files, award, log, cert),
     }
 }
