@@ -13,6 +13,7 @@ use crate::work::{Stop, Work};
 use bid_book::BidBook;
 use cca_base::Files;
 use cca_inputs::{AwardInput, BookInput, CertInput, Command, LogInput, read_input};
+use log_file::packages_of_log;
 use std::alloc::Global;
 
 fn winners(alloc: Global, book: &BidBook) -> Result<Work, Stop>
@@ -68,6 +69,7 @@ fn auction_work<F: Files>(
 {
     let award = read_input(alloc, files, award, &AwardInput)?;
     let log = read_input(alloc, files, log, &LogInput { award: &award })?;
+    packages_of_log();
     replayed(alloc, award, &log)
 }
 
