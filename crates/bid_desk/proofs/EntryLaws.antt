@@ -5,6 +5,7 @@ use Rattle.std.specs.List.{All, AllByRecursion, insert, remove}
 use Rattle.std.proofs.lemmas.Bool.{cases_Bool, false≢true}
 use Rattle.std.proofs.lemmas.List.{length-map, map-set}
 use Rattle.auction_model.specs.Book.{BookBid}
+use Rattle.auction_model.specs.Package.{cost_of}
 use Rattle.auction_rules.specs.BookOfLog.{bid_lots}
 use Rattle.auction_rules.specs.Lines.{with_entry, without_entry}
 use Rattle.auction_rules.specs.PackageTests.{is_same, is_before, AllAfter, InOrder}
@@ -218,3 +219,26 @@ pub removed-by : (list read new : List Bid) (lots : List ℕ) (place : ℕ) → 
 removed-by list read new lots place same is by =
     let own : IsTakenAt (map bid_value list) lots place = subst (λ (xs : List Bid). IsTakenAt (map bid_value xs) lots place) same is in
     ap (map bid_value) by ∙ map-remove bid_value list place ∙ sym own.removed
+
+-- entries whose values are kept, where there are as many categories
+pub entries-of : (list : List Bid) (values : List BookBid) (categories count : ℕ) → map bid_value list ≡ values → IsKept count values → categories ≡ count → All (IsEntry categories) list
+entries-of list values categories count is kept same =
+    kept-entries categories list (subst (λ (n : ℕ). IsKept n (map bid_value list)) (sym same) (subst (IsKept count) (sym is) kept))
+
+-- and their order
+pub order-of : (list : List Bid) (values : List BookBid) (count : ℕ) → map bid_value list ≡ values → IsKept count values → InOrder (map entry_lots list)
+order-of list values count is kept = kept-order count list (subst (IsKept count) (sym is) kept)
+
+points-each : (list : List Bid) (points : List ℕ) (most : ℕ) → AllByRecursion (λ (b : BookBid). cost_of points b.lots ≤ most) (map bid_value list) → All (λ (b : Bid). cost_of points b.«package» ≤ most) list
+points-each [] points most each k d inside = absurd (omega arith)
+points-each (b ∷ list) points most each zero d inside = each.0
+points-each (b ∷ list) points most each (suc k) d inside = points-each list points most each.1 k d (omega arith)
+
+-- entries whose values have no more points than this
+pub points-of : (list : List Bid) (values : List BookBid) (points own : List ℕ) (most top : ℕ) → map bid_value list ≡ values → points ≡ own → most ≡ top
+    → AllByRecursion (λ (b : BookBid). cost_of own b.lots ≤ most) values → All (λ (b : Bid). cost_of points b.«package» ≤ top) list
+points-of list values points own most top is same bound each =
+    let here : AllByRecursion (λ (b : BookBid). cost_of own b.lots ≤ most) (map bid_value list) = subst (AllByRecursion (λ (b : BookBid). cost_of own b.lots ≤ most)) (sym is) each in
+    let by_points : AllByRecursion (λ (b : BookBid). cost_of points b.lots ≤ most) (map bid_value list)
+    = subst (λ (ps : List ℕ). AllByRecursion (λ (b : BookBid). cost_of ps b.lots ≤ most) (map bid_value list)) (sym same) here in
+    points-each list points top (subst (λ (n : ℕ). AllByRecursion (λ (b : BookBid). cost_of points b.lots ≤ n) (map bid_value list)) bound by_points)

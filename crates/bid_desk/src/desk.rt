@@ -1,24 +1,35 @@
 // The desk.
-ghost use Rattle.std.specs.Prelude.{◌≡◌, ◌≢◌, ◌⊎◌, ◌∷◌, [], Err, IfOk, IsTrue, List, ℕ, length};
+ghost use Rattle.std.specs.Prelude.{◌≡◌, ◌≢◌, ◌⊎◌, ◌∷◌, ◌&&◌, [], Err, IfOk, IsTrue, List, ℕ, length, map, nat_le, nat_lt, not, option_map, true, false};
+ghost use Rattle.limits.specs.declared.TheConstants.{MOST_DRAFTS};
+ghost use Rattle.auction_model.specs.Package.{cost_of};
 ghost use Rattle.auction_rules.specs.declared.Event.{Event};
 ghost use Rattle.auction_rules.specs.declared.Reply.{Reply};
-ghost use Rattle.auction_rules.specs.BookOfLog.{book_in, book_of_log};
-ghost use Rattle.auction_rules.specs.Lawful.{HasCategories};
-ghost use Rattle.auction_rules.specs.Replies.{is_of, reply_to};
-ghost use Rattle.auction_rules.specs.State.{reply_in, state_of, state_with};
-ghost use Rattle.auction_rules.specs.View.{view};
 ghost use Rattle.auction_rules.specs.declared.Stage.{Stage};
+ghost use Rattle.auction_rules.specs.BookOfLog.{book_in, book_of_log};
+ghost use Rattle.auction_rules.specs.Caps.{clock_bid, greatest};
+ghost use Rattle.auction_rules.specs.Lawful.{HasCategories};
+ghost use Rattle.auction_rules.specs.PackageTests.{is_empty};
+ghost use Rattle.auction_rules.specs.Replies.{has_entry, is_of, is_sealed, reply_to};
+ghost use Rattle.auction_rules.specs.State.{drafts_of, reply_in, state_of, state_with};
+ghost use Rattle.auction_rules.specs.View.{view};
+ghost use Rattle.award_file.specs.Award.{IsAward};
+ghost use Rattle.clock_stage.specs.Kept.{IsHeld};
+ghost use Rattle.relative_cap.specs.Answer.{excess_value};
+ghost use Rattle.relative_cap.specs.OwnRounds.{bid_value, rounds_of};
 ghost use Rattle.bid_desk.specs.Closes.{reply_value};
 ghost use Rattle.bid_desk.specs.DeskValue.{round_in};
+ghost use Rattle.bid_desk.specs.Known.{IsKnown, amount_reply, fault_in, submitted_of};
 ghost use Rattle.bid_desk.specs.Reached.{IsBidOrDrop, IsTaken, IsTakenOrMemory, StandsNext, Takes};
 
 use crate::book::book_of;
 use crate::lists::{BidderLists, empty_lists};
-use auction_rules::{Event, Reply, Stage, desk_book, kept_standings};
+use auction_rules::{Event, Reply, Stage, desk_book};
 use award_file::{Award, book_of_award};
 use bid_book::BidBook;
-use clock_stage::{Clock, Closed};
-use lots::Package;
+use clock_stage::{Clock, Closed, reply_to_package};
+use limits::{MOST_AMOUNT, MOST_DRAFTS};
+use lots::{Bid, Package};
+use relative_cap::{OverCap, highest, list_fault};
 use std::alloc::{AllocError, Global};
 use std::marker::Model;
 
@@ -169,7 +180,6 @@ impl Desk {
         requires { self.now.stage ≡ Stage.Closed }
         ensures { IfOk result (λ book. book ≡ book_in self.now) }
     {
-        kept_standings();
         desk_book();
         book_of_award();
         let _kept = self.award.supply();
@@ -193,8 +203,101 @@ impl Desk {
         requires { length «package».now ≡ length self.old.terms.supply }
         ensures { IsTakenOrMemory self.old (Event.Draft bidder «package».now amount) result self.new }
     {
-        let _ = (alloc, bidder, package, amount);
-        Reply::Memory
+        let reply = self.reply_to_draft(bidder, package, amount);
+        if matches!(reply, Reply::Ok) {
+            return self.put_draft(alloc, bidder, package, amount);
+        }
+        reply
+    }
+
+    /// Puts an admitted draft into the draft list of its bidder.
+    fn put_draft(&mut self, alloc: Global, bidder: u16, package: &Package, amount: u64) -> Reply
+        requires categories { length «package».now ≡ length self.old.terms.supply }
+        requires admitted { reply_in self.old (Event.Draft bidder «package».now amount) ≡ Reply.Ok }
+        requires known { IsKnown self.old.terms self.old bidder }
+        ensures { IsTakenOrMemory self.old (Event.Draft bidder «package».now amount) result self.new }
+    {
+        let lists = &mut self.bidders[bidder as usize - 1];
+        if lists.put(alloc, package, amount).is_err() {
+            return Reply::Memory;
+        }
+        Reply::Ok
+    }
+
+    /// The reply to a draft.
+    fn reply_to_draft(&self, bidder: u16, package: &Package, amount: u64) -> Reply
+        requires { length «package».now ≡ length self.now.terms.supply }
+        ensures reply { result ≡ reply_in self.now (Event.Draft bidder «package».now amount) }
+        ensures known { result ≡ Reply.Ok → IsKnown self.now.terms self.now bidder }
+    {
+        if !self.is_sealed() {
+            return Reply::Stage;
+        }
+        if !self.knows(bidder) {
+            return Reply::Unknown;
+        }
+        let eligible = self.award.eligibility(bidder);
+        let reply = reply_to_package(&self.award, eligible, bidder, package);
+        if !matches!(reply, Reply::Ok) {
+            return reply;
+        }
+        self.reply_to_amount(bidder, package, amount)
+    }
+
+    /// The reply to a draft of a package for which the bidder is eligible.
+    fn reply_to_amount(&self, bidder: u16, package: &Package, amount: u64) -> Reply
+        requires sealed { is_sealed self.now.stage ≡ true }
+        requires known { IsKnown self.now.terms self.now bidder }
+        requires package { IsHeld (length self.now.terms.supply) «package».now }
+        ensures { result ≡ amount_reply self.now.terms (rounds_of bidder self.now.rounds) (drafts_of self.now bidder) «package».now amount }
+    {
+        if package.is_empty() {
+            return Reply::Empty;
+        }
+        let reserve = self.price_at_reserves(package);
+        if amount < reserve {
+            return Reply::BelowReserve(reserve);
+        }
+        let clock = self.greatest_clock(bidder, package);
+        if amount < clock {
+            return Reply::BelowClock(clock);
+        }
+        if self.is_full(bidder, package) {
+            return Reply::Full(MOST_DRAFTS);
+        }
+        if amount > MOST_AMOUNT {
+            return Reply::AmountTop(MOST_AMOUNT);
+        }
+        Reply::Ok
+    }
+
+    /// The price of a package at the reserves.
+    fn price_at_reserves(&self, package: &Package) -> u64
+        requires { length «package».now ≡ length self.now.terms.supply }
+        ensures { result ≡ cost_of self.now.terms.reserves «package».now }
+    {
+        package.cost(self.award.reserves())
+    }
+
+    /// The greatest clock bid of the bidder for a package that isn't empty, and 0 where there is none.
+    fn greatest_clock(&self, bidder: u16, package: &Package) -> u64
+        requires sealed { is_sealed self.now.stage ≡ true }
+        requires known { IsKnown self.now.terms self.now bidder }
+        requires package { IsHeld (length self.now.terms.supply) «package».now }
+        requires some { is_empty «package».now ≡ false }
+        ensures { result ≡ greatest «package».now (map clock_bid (rounds_of bidder self.now.rounds)) }
+    {
+        highest(self.clock.history(), bidder, &[], package)
+    }
+
+    /// Whether the bidder's draft list has as many entries as it may, and none for the package.
+    fn is_full(&self, bidder: u16, package: &Package) -> bool
+        requires known { IsKnown self.now.terms self.now bidder }
+        requires categories { length «package».now ≡ length self.now.terms.supply }
+        ensures { result ≡ (not (has_entry «package».now (drafts_of self.now bidder)) && nat_le MOST_DRAFTS (length (drafts_of self.now bidder))) }
+    {
+        let lists = self.lists(bidder);
+        !lists.has_draft(package) && lists.drafts().len() as u64 >= MOST_DRAFTS
     }
 
     /// Takes a drop.
@@ -202,16 +305,129 @@ impl Desk {
         requires { length «package».now ≡ length self.old.terms.supply }
         ensures { IsTaken self.old (Event.Drop bidder «package».now) result self.new }
     {
-        let _ = (bidder, package);
-        Reply::Memory
+        let reply = self.reply_to_drop(bidder, package);
+        if matches!(reply, Reply::Ok) {
+            let lists = &mut self.bidders[bidder as usize - 1];
+            lists.remove(package);
+        }
+        reply
+    }
+
+    /// The reply to a drop.
+    fn reply_to_drop(&self, bidder: u16, package: &Package) -> Reply
+        requires { length «package».now ≡ length self.now.terms.supply }
+        ensures reply { result ≡ reply_in self.now (Event.Drop bidder «package».now) }
+        ensures known { result ≡ Reply.Ok → IsKnown self.now.terms self.now bidder }
+    {
+        if !self.is_sealed() {
+            return Reply::Stage;
+        }
+        if !self.knows(bidder) {
+            return Reply::Unknown;
+        }
+        if !self.lists(bidder).has_draft(package) {
+            return Reply::NoDraft;
+        }
+        Reply::Ok
+    }
+
+    /// Whether the clock has ended and the sealed round isn't closed.
+    fn is_sealed(&self) -> bool
+        ensures { result ≡ is_sealed self.now.stage }
+    {
+        matches!(self.stage(), Stage::Sealed)
+    }
+
+    /// Whether the number is that of a bidder of the award.
+    fn knows(&self, bidder: u16) -> bool
+        ensures knows { result ≡ (nat_lt 0 bidder && nat_le bidder (length self.now.terms.bidders)) }
+        ensures known { result ≡ true → IsKnown self.now.terms self.now bidder }
+        ensures kept { IsAward self.now.terms }
+    {
+        let bidders = self.award.bidders();
+        bidder > 0 && bidder as usize <= bidders
+    }
+
+    /// The lists of a bidder of the award.
+    fn lists(&self, bidder: u16) -> &BidderLists
+        requires { IsKnown self.now.terms self.now bidder }
+        ensures drafts { result.now.drafts ≡ drafts_of self.now bidder }
+        ensures submitted { result.now.submitted ≡ submitted_of self.now bidder }
+    {
+        &self.bidders[bidder as usize - 1]
     }
 
     /// Takes a submission.
     fn submit(&mut self, alloc: Global, bidder: u16) -> Reply
         ensures { IsTakenOrMemory self.old (Event.Submit bidder) result self.new }
     {
-        let _ = (alloc, bidder);
-        Reply::Memory
+        let reply = self.reply_to_submit(bidder);
+        if matches!(reply, Reply::Ok) {
+            return self.submit_list(alloc, bidder);
+        }
+        reply
+    }
+
+    /// Puts the draft list of a bidder, whose submission is admitted, in place of its submitted list.
+    fn submit_list(&mut self, alloc: Global, bidder: u16) -> Reply
+        requires admitted { reply_in self.old (Event.Submit bidder) ≡ Reply.Ok }
+        requires known { IsKnown self.old.terms self.old bidder }
+        ensures { IsTakenOrMemory self.old (Event.Submit bidder) result self.new }
+    {
+        let lists = &mut self.bidders[bidder as usize - 1];
+        if lists.submit(alloc).is_err() {
+            return Reply::Memory;
+        }
+        Reply::Ok
+    }
+
+    /// The reply to a submission.
+    fn reply_to_submit(&self, bidder: u16) -> Reply
+        ensures reply { result ≡ reply_in self.now (Event.Submit bidder) }
+        ensures known { result ≡ Reply.Ok → IsKnown self.now.terms self.now bidder }
+    {
+        if !self.is_sealed() {
+            return Reply::Stage;
+        }
+        if !self.knows(bidder) {
+            return Reply::Unknown;
+        }
+        match self.draft_fault(bidder) {
+            Some(over) => Reply::RelativeCap {
+                entry: over.entry,
+                limit: over.limit,
+            },
+            None => Reply::Ok,
+        }
+    }
+
+    /// The first entry of the bidder's draft list that is above its cap. A list that was submitted last has none.
+    fn draft_fault(&self, bidder: u16) -> Option<OverCap>
+        requires sealed { is_sealed self.now.stage ≡ true }
+        requires known { IsKnown self.now.terms self.now bidder }
+        ensures { option_map excess_value result ≡ fault_in self.now bidder (drafts_of self.now bidder) }
+    {
+        let lists = self.lists(bidder);
+        if lists.are_alike() {
+            return None;
+        }
+        self.fault_of(bidder, lists.drafts())
+    }
+
+    /// The first entry above its cap of a list that is the draft list of a bidder.
+    fn fault_of(&self, bidder: u16, drafts: &[Bid]) -> Option<OverCap>
+        requires sealed { is_sealed self.now.stage ≡ true }
+        requires known { IsKnown self.now.terms self.now bidder }
+        requires drafts { map bid_value drafts.now ≡ drafts_of self.now bidder }
+        ensures { option_map excess_value result ≡ fault_in self.now bidder (drafts_of self.now bidder) }
+    {
+        list_fault(
+            self.clock.history(),
+            self.award.points(),
+            self.award.final_cap(),
+            bidder,
+            drafts,
+        )
     }
 
     /// Takes a close.

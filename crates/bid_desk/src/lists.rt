@@ -94,11 +94,15 @@ impl BidderLists {
         }
     }
 
-    /// The draft list becomes the submitted list. For want of memory the lists stay as they are.
+    /// The draft list becomes the submitted list. For want of memory the lists stay as they are, and lists that are known to be
+    /// alike need none.
     pub fn submit(&mut self, alloc: Global) -> Result<(), AllocError>
         ensures submitted { OnOk result (self.new ≡ lists_with self.old.drafts self.old.drafts) }
         ensures unchanged { OnErr result (self.new ≡ self.old) }
     {
+        if self.alike {
+            return Ok(());
+        }
         self.submitted = copied_entries(alloc, &self.drafts)?;
         self.alike = true;
         Ok(())
