@@ -1,7 +1,8 @@
 mod DeskLaws
+mod TakeLaws
 mod EntryLaws
-mod ReachedLaws
-mod SealedLaws
 mod BestBids
 mod BookLaws
 mod BookStates
+mod ReachedLaws
+mod SealedLaws

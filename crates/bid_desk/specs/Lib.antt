@@ -3,5 +3,5 @@ pub mod DeskValue
 pub mod Closes
 pub mod Lists
 pub mod Slots
-pub mod Known
 pub mod BookBids
+pub mod Known

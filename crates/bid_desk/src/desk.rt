@@ -113,7 +113,11 @@ impl Desk {
     pub fn round(&self) -> u32
         ensures { result ≡ round_in self.now }
     {
-        self.clock.round()
+        let closed = self.clock.history().rounds();
+        match self.stage() {
+            Stage::Clock => closed + 1,
+            Stage::Sealed | Stage::Closed => closed,
+        }
     }
 
     /// Takes a line of a log, whose package has the award's number of categories.

@@ -3,6 +3,7 @@ ghost use Rattle.std.specs.Prelude.{◌≡◌, ◌<◌, ◌≤◌, ℕ, List, Op
 ghost use Rattle.auction_model.specs.Book.{Book};
 ghost use Rattle.cert_laws.specs.Tests.{bidders_of};
 ghost use Rattle.core_price.specs.Weights.{FewWin, ManyWin};
+ghost use Rattle.limits.specs.declared.TheConstants.{MOST_WINNERS};
 ghost use Rattle.row_laws.specs.Winners.{winners_in};
 ghost use Rattle.cca_inputs.specs.Outcome.{Outcome};
 ghost use Rattle.cca_run.specs.Gives.{Gives, ones};
@@ -33,6 +34,6 @@ pub fn one_outcome()
 
 /// With weights of 1 too many win exactly where more than six do. The choice has a number for each bidder.
 pub fn limit_of_ones()
-    ensures few { (book : Book) (z : List ℕ) → length z ≡ bidders_of book → winners_in z ≤ 6 → FewWin z (ones book) }
-    ensures many { (book : Book) (z : List ℕ) → length z ≡ bidders_of book → ManyWin z (ones book) → 6 < winners_in z }
+    ensures few { (book : Book) (z : List ℕ) → length z ≡ bidders_of book → winners_in z ≤ MOST_WINNERS → FewWin z (ones book) }
+    ensures many { (book : Book) (z : List ℕ) → length z ≡ bidders_of book → ManyWin z (ones book) → MOST_WINNERS < winners_in z }
 {}

@@ -5,6 +5,7 @@ ghost use Rattle.auction_model.specs.Market.{worth_in};
 ghost use Rattle.auction_model.specs.Menu.{is_known_after};
 ghost use Rattle.bid_book.specs.Kept.{IsBidBook};
 ghost use Rattle.cert_laws.specs.Tests.{bidders_of};
+ghost use Rattle.limits.specs.declared.TheConstants.{MOST_AMOUNT};
 
 use bid_book::BidBook;
 use choices::Choice;
@@ -15,7 +16,7 @@ pub(crate) fn won(book: &BidBook, choice: &Choice, j: u16) -> i128
     requires bidder { (0 < j) × (j ≤ bidders_of book.now) }
     ensures won { result ≡ worth_in (market_of book.now) choice.now j }
     ensures least { pos 0 ≤ℤ result }
-    ensures most { result ≤ℤ pos (2 ^ 42) }
+    ensures most { result ≤ℤ pos MOST_AMOUNT }
     ensures kept { IsBidBook book.now }
 {
     let _bidders = book.bidders();

@@ -9,6 +9,7 @@ ghost use Rattle.cert_laws.specs.Tests.{bidders_of, states};
 ghost use Rattle.cert_text.specs.CertValues.{cert_value};
 ghost use Rattle.cert_check.specs.Places.{IsFirstFailing};
 ghost use Rattle.cert_check.specs.EarlierBids.{StaysBelow, AllStayBelow, NoneEarlier};
+ghost use Rattle.limits.specs.declared.TheConstants.{MOST_AMOUNT};
 
 use bid_book::BidBook;
 use cert_text::Certificate;
@@ -100,7 +101,7 @@ fn net_at(book: &BidBook, j: u16, i: u16) -> i128
     requires bidder { (0 < j) × (j ≤ bidders_of book.now) }
     requires bid { i ≤ length (bids_of book.now j) }
     ensures net { result ≡ net_of book.now j i }
-    ensures size { unsigned_abs result ≤ 2 ^ 42 }
+    ensures size { unsigned_abs result ≤ MOST_AMOUNT }
 {
     let _bidders = book.bidders();
     if i == 0 { 0 } else { book.net(j, i) }

@@ -3,6 +3,7 @@
 ghost use Rattle.std.specs.Prelude.{◌≡◌, ◌≤◌, ◌<◌, length, IsTrue};
 ghost use Rattle.auction_model.specs.Place.{states_of, widths_of};
 ghost use Rattle.cert_check.specs.Growth.{Grows, RisesBy};
+ghost use Rattle.limits.specs.declared.TheConstants.{MOST_STATES};
 
 /// Whether no number is below the one `width` places before it.
 fn rises_by(line: &[i128], width: usize) -> bool
@@ -20,7 +21,7 @@ fn rises_by(line: &[i128], width: usize) -> bool
 pub fn is_growing(supply: &[u16], widths: &[usize], line: &[i128]) -> bool
     requires widths { widths.now ≡ widths_of supply.now }
     requires some { 0 < length supply.now }
-    requires states { states_of supply.now ≤ 16384 }
+    requires states { states_of supply.now ≤ MOST_STATES }
     requires places { length line.now ≡ states_of supply.now }
     ensures { IsTrue result → Grows supply.now line.now }
 {

@@ -10,9 +10,13 @@ use crate::growth::is_growing;
 use crate::offers::Offers;
 use crate::rule::{LinePair, LineRule};
 use crate::walk::{block_fault, run_fault, used_categories};
+use limits::MOST_STATES;
 
 /// The greatest number with which the rules are tested in 64 bits.
 const MOST_NARROW: u128 = 1 << 61;
+
+/// Room for the longest line.
+const MOST_ROOM: usize = MOST_STATES as usize;
 
 /// The first place at which the last line is below 0, and its length where there is none.
 pub fn last_fault(line: &[i128]) -> usize
@@ -149,6 +153,6 @@ pub fn line_fault(offers: &Offers, j: u16, line: &[i128], below: &[i128]) -> usi
     } else if line.len() <= 4096 {
         roomy_fault::<4096>(offers, j, line, below)
     } else {
-        roomy_fault::<16384>(offers, j, line, below)
+        roomy_fault::<MOST_ROOM>(offers, j, line, below)
     }
 }

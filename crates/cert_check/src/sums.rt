@@ -11,6 +11,7 @@ ghost use Rattle.cert_form.specs.CertText.{AllInRange, AreRows};
 ghost use Rattle.cert_form.specs.Certificate.{is_member};
 ghost use Rattle.cert_laws.specs.Tests.{bidders_of, sum_holding};
 ghost use Rattle.cert_text.specs.Parts.{row_value};
+ghost use Rattle.limits.specs.declared.TheConstants.{MOST_BIDDERS};
 
 use crate::amounts::{counted, won};
 use crate::members::is_among;
@@ -27,7 +28,7 @@ pub(crate) enum Multiplier {
 
 /// What the members pay.
 pub(crate) fn paid_by(payments: &[i128], members: &[u16]) -> i128
-    requires count { length payments.now ≤ 16 }
+    requires count { length payments.now ≤ MOST_BIDDERS }
     requires range { AllInRange payments.now }
     ensures { result ≡ sum_over (is_member members.now) (of_bidder payments.now) (length payments.now) }
 {

@@ -6,6 +6,7 @@ ghost use Rattle.cert_form.specs.CertText.{AllInRange};
 ghost use Rattle.cert_laws.specs.Tests.{bidders_of, states, C1, C2, C3, C9};
 ghost use Rattle.cert_text.specs.CertValues.{cert_value, IsFor};
 ghost use Rattle.cert_check.specs.Places.{IsFirstFailing};
+ghost use Rattle.limits.specs.declared.TheConstants.{MOST_BIDDERS};
 
 use crate::earlier::earlier_fault;
 use crate::grids::table_test;
@@ -56,7 +57,7 @@ pub(crate) fn lowered_test(book: &BidBook, cert: &Certificate) -> Option<u64>
 }
 
 fn sum_paid(payments: &[i128]) -> i128
-    requires few { length payments.now ≤ 16 }
+    requires few { length payments.now ≤ MOST_BIDDERS }
     requires sizes { AllInRange payments.now }
     ensures { result ≡ sum_over everyone (of_bidder payments.now) (length payments.now) }
 {

@@ -6,6 +6,7 @@ use Rattle.auction_model.specs.Market.{Market, value_of}
 use Rattle.auction_model.specs.Prices.{AreVickreyPrices, IsUnblocked, weight_of}
 use Rattle.auction_model.specs.PricingRun.{GoOn, Turn as BidderTurn, single_rows}
 use Rattle.far_num.specs.declared.Row.{Row}
+use Rattle.limits.specs.declared.TheConstants.{MOST_AMOUNT}
 use Rattle.nearest_point.specs.Problem.{AreBounds, AreTargets, HasSingles, bounds, row_at}
 use Rattle.row_laws.specs.Rows.{IsGivenBy, row_in}
 use Rattle.row_laws.specs.Winners.{for_bidders, winners_in}
@@ -22,7 +23,7 @@ pub record CanTurn (m : Market) (z : List ℕ) (prices : List ℤ) (weights : Li
   pub members : m.bidders ≤ 64
   pub few : FewWin z weights
   pub weighing : CanWeigh m z weights
-  pub worth : value_of m z ≤ℤ pos (winners_in z * 2 ^ 42)
+  pub worth : value_of m z ≤ℤ pos (winners_in z * MOST_AMOUNT)
   pub long : length prices ≡ winners_in z
   pub vickrey : AreVickreyPrices m z (of_bidder (for_bidders z prices))
   pub targets : AreTargets prices

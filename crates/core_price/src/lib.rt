@@ -7,6 +7,7 @@ ghost use Rattle.choices.specs.Singles.{AreSingles};
 ghost use Rattle.core_price.specs.Priced.{IsPriced};
 ghost use Rattle.core_price.specs.Stops.{IsStop};
 ghost use Rattle.core_price.specs.Weights.{FewWin};
+ghost use Rattle.limits.specs.declared.TheConstants.{MOST_AMOUNT};
 ghost use Rattle.row_laws.specs.Surplus.{surpluses_of};
 ghost use Rattle.row_laws.specs.Winners.{for_bidders, winners_in};
 ghost use Rattle.std.specs.Prelude.{IfErr, IfOk, length, pos, ◌*◌, ◌^◌, ◌≡◌, ◌≤ℤ◌, ◌≤◌};
@@ -60,7 +61,7 @@ pub fn price<C: Chooser>(
     requires singles { AreSingles (C.market chooser.now) (C.chosen chooser.now) singles.now }
     requires weights { (length weights.now ≡ (C.market chooser.now).bidders) × AreWeights (C.market chooser.now) (weight_of weights.now) }
     requires members { (C.market chooser.now).bidders ≤ 64 }
-    requires worth { value_of (C.market chooser.now) (C.chosen chooser.now) ≤ℤ pos (winners_in (C.chosen chooser.now) * 2 ^ 42) }
+    requires worth { value_of (C.market chooser.now) (C.chosen chooser.now) ≤ℤ pos (winners_in (C.chosen chooser.now) * MOST_AMOUNT) }
     ensures priced { IfOk result (IsPriced (C.market chooser.now) (C.chosen chooser.now) weights.now singles.now) }
     ensures table { IfOk result (λ p. C.is_table chooser.now p.den
         (surpluses_of (C.market chooser.now) (C.chosen chooser.now) p.den (for_bidders (C.chosen chooser.now) p.at)) p.last.table) }
@@ -83,7 +84,7 @@ fn few_priced<C: Chooser>(
     requires singles { AreSingles (C.market chooser.now) (C.chosen chooser.now) singles.now }
     requires weights { (length weights.now ≡ (C.market chooser.now).bidders) × AreWeights (C.market chooser.now) (weight_of weights.now) }
     requires members { (C.market chooser.now).bidders ≤ 64 }
-    requires worth { value_of (C.market chooser.now) (C.chosen chooser.now) ≤ℤ pos (winners_in (C.chosen chooser.now) * 2 ^ 42) }
+    requires worth { value_of (C.market chooser.now) (C.chosen chooser.now) ≤ℤ pos (winners_in (C.chosen chooser.now) * MOST_AMOUNT) }
     requires few { FewWin (C.chosen chooser.now) weights.now }
     ensures priced { IfOk result (IsPriced (C.market chooser.now) (C.chosen chooser.now) weights.now singles.now) }
     ensures table { IfOk result (λ p. C.is_table chooser.now p.den

@@ -2,6 +2,7 @@
 // count with what the place leaves.
 ghost use Rattle.std.specs.Prelude.{◌≡◌, ℕ, suc, ◌-◌, ◌^◌, ◌≤◌, ◌<◌, length, IfOk, slice_index_or, pos, ◌+ℤ◌, unsigned_abs, map};
 ghost use Rattle.auction_model.specs.Table.{IsEntry};
+ghost use Rattle.limits.specs.declared.TheConstants.{MOST_STATES};
 ghost use Rattle.value_table.specs.BookTable.{IsBookTable};
 ghost use Rattle.value_table.specs.Counted.{counted_bids, counted, IsCountedLine, AreCountedLines, IsCountedTable};
 
@@ -74,7 +75,7 @@ fn next_line(
 
 /// The line of no bidder.
 fn last_line(alloc: Global, states: usize) -> Result<Vec<i128>, AllocError>
-    requires { states ≤ 16384 }
+    requires { states ≤ MOST_STATES }
     ensures places { IfOk result (λ v. length v.items ≡ states) }
     ensures zeros { IfOk result (λ v. (s : ℕ) → s < states → slice_index_or v.items s (pos 0) ≡ pos 0) }
 {

@@ -1,5 +1,6 @@
 // Lines in numbers of 64 bits, where no sum is larger: they take half the room.
 ghost use Rattle.std.specs.Prelude.{◌≡◌, ℕ, ◌-◌, ◌^◌, ◌≤◌, ◌<◌, length, IfOk, slice_index_or, pos, ◌+ℤ◌, unsigned_abs};
+ghost use Rattle.limits.specs.declared.TheConstants.{MOST_STATES};
 ghost use Rattle.value_table.specs.Counted.{counted_bids, counted, IsCountedLine, IsNarrow};
 
 use crate::lowering::Lowering;
@@ -8,7 +9,7 @@ use std::alloc::{AllocError, Global};
 
 /// The numbers in 64 bits each.
 fn narrowed(alloc: Global, line: &[i128]) -> Result<Vec<i64>, AllocError>
-    requires few { length line.now ≤ 16384 }
+    requires few { length line.now ≤ MOST_STATES }
     requires sizes { (s : ℕ) → unsigned_abs (slice_index_or line.now s (pos 0)) ≤ 2 ^ 62 }
     ensures { IfOk result (λ v. v.items ≡ line.now) }
 {
@@ -29,7 +30,7 @@ fn narrow_into(numbers: &mut [i64], line: &[i128])
 
 /// The numbers in 128 bits each.
 fn widened(alloc: Global, line: &[i64]) -> Result<Vec<i128>, AllocError>
-    requires few { length line.now ≤ 16384 }
+    requires few { length line.now ≤ MOST_STATES }
     ensures { IfOk result (λ v. v.items ≡ line.now) }
 {
     let mut numbers = vec![in alloc; 0i128; line.len()]?;

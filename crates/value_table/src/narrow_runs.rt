@@ -4,6 +4,7 @@ ghost use Rattle.std.specs.Prelude.{◌≡◌, ℕ, ◌^◌, ◌≤◌, ◌<◌,
 ghost use Rattle.std.specs.Int.{int_max};
 ghost use Rattle.auction_model.specs.Place.{states_of, widths_of};
 ghost use Rattle.auction_model.specs.Steps.{raised};
+ghost use Rattle.limits.specs.declared.TheConstants.{MOST_STATES};
 
 use crate::runs::used_categories;
 use lots::{Package, Supply};
@@ -32,7 +33,7 @@ fn raise_one(
     requires widths { widths.now ≡ widths_of supply.now }
     requires one { length counts.now ≡ 1 }
     requires categories { length counts.now ≤ length supply.now }
-    requires states { states_of supply.now ≤ 16384 }
+    requires states { states_of supply.now ≤ MOST_STATES }
     requires places { length below.now ≡ states_of supply.now }
     requires line { length line.old ≡ states_of supply.now }
     requires worth { unsigned_abs worth ≤ 2 ^ 61 }
@@ -58,7 +59,7 @@ fn raise_two(
     requires widths { widths.now ≡ widths_of supply.now }
     requires two { length counts.now ≡ 2 }
     requires categories { length counts.now ≤ length supply.now }
-    requires states { states_of supply.now ≤ 16384 }
+    requires states { states_of supply.now ≤ MOST_STATES }
     requires places { length below.now ≡ states_of supply.now }
     requires line { length line.old ≡ states_of supply.now }
     requires worth { unsigned_abs worth ≤ 2 ^ 61 }
@@ -93,7 +94,7 @@ fn raise_block(
     requires widths { widths.now ≡ widths_of supply.now }
     requires some { 0 < length counts.now }
     requires categories { length counts.now ≤ length supply.now }
-    requires states { states_of supply.now ≤ 16384 }
+    requires states { states_of supply.now ≤ MOST_STATES }
     requires places { length below.now ≡ states_of supply.now }
     requires line { length line.old ≡ states_of supply.now }
     requires worth { unsigned_abs worth ≤ 2 ^ 61 }

@@ -6,6 +6,7 @@ ghost use Rattle.auction_model.specs.Greatest.{IsFirstGreatest, IsWinning};
 ghost use Rattle.auction_model.specs.Book.{net_of, market_of};
 ghost use Rattle.auction_model.specs.Lowered.{lowered};
 ghost use Rattle.auction_model.specs.Table.{entry_at, IsEntry};
+ghost use Rattle.limits.specs.declared.TheConstants.{MOST_BIDDERS};
 ghost use Rattle.value_table.specs.BookTable.{menu_without, IsInRange};
 ghost use Rattle.value_table.specs.TableValue.{IsTableOf, IsPlain, IsPlainWithout};
 
@@ -142,7 +143,7 @@ impl ValueTable {
 }
 
 fn zeros(alloc: Global, count: usize) -> Result<Vec<i128>, AllocError>
-    requires { count ≤ 16 }
+    requires { count ≤ MOST_BIDDERS }
     ensures count { IfOk result (λ v. length v.items ≡ count) }
     ensures zeros { IfOk result (λ v. (k : ℕ) → slice_index_or v.items k (pos 0) ≡ pos 0) }
 {

@@ -1,0 +1,23 @@
+//! What an auction ends with, by the quadratic core-selecting rule: the winners and what they pay, with the distance from the Vickrey
+//! point as a plain sum of squares. No code stands here.
+//!
+//! Each function here is a law: it does nothing, and its contract is what holds of every market. (Day and Cramton, Quadratic
+//! core-selecting payment rules for combinatorial auctions, Operations Research 60, 2012, with the seller's value at reserve.)
+#![tactic(auto)]
+
+ghost use Rattle.std.specs.Prelude.{◌≡◌, ℕ, ◌<◌, ◌≤◌, List};
+ghost use Rattle.auction_model.specs.Greatest.{IsWinning};
+ghost use Rattle.auction_model.specs.Market.{Market};
+ghost use Rattle.auction_model.specs.Prices.{IsCoreOutcome, Point};
+ghost use Rattle.auction_outcome.specs.Outcome.{IsAuctionOutcome};
+
+use auction_model::{core_outcome, weighted_distance};
+
+/// Where each bidder weighs 1, the weighted distance is the plain one: the core outcome with these weights, at the winning choice, is
+/// the outcome of the auction.
+pub fn plain_outcome()
+    ensures { (m : Market) (w : ℕ → ℕ) (z : List ℕ) (p : Point) → ((j : ℕ) → 0 < j → j ≤ m.bidders → w j ≡ 1) → IsWinning m z → IsCoreOutcome m w z p → IsAuctionOutcome m z p }
+{
+    core_outcome();
+    weighted_distance();
+}
