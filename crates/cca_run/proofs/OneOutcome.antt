@@ -47,7 +47,7 @@ printed-same : (t u : List ℕ) (a b : List FileText) → t ≡ u → Same (done
 printed-same t u a b e = (refl, e)
 
 -- an input has one answer
-one-answer : {V : Type 0} (most : ℕ) (says : List ℕ → Answer V → Type 0) (one : (bytes : List ℕ) (a b : Answer V) → says bytes a → says bytes b → a ≡ b) (bytes : List ℕ) (a b : Answer V)
+pub one-answer : {V : Type 0} (most : ℕ) (says : List ℕ → Answer V → Type 0) (one : (bytes : List ℕ) (a b : Answer V) → says bytes a → says bytes b → a ≡ b) (bytes : List ℕ) (a b : Answer V)
     → FileAnswers most says bytes a → FileAnswers most says bytes b → a ≡ b
 one-answer most says one bytes a b x y =
     elim (cases_lt most (length bytes)) [
