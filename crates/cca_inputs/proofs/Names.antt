@@ -1,5 +1,5 @@
 -- The names of a command are among the words.
-use Rattle.std.proofs.Common.{ℕ, suc, ◌-◌, ◌≤◌, List, [], ◌∷◌, length, map, take, drop, subst, arith}
+use Rattle.std.proofs.Common.{◌≡◌, ◌∙◌, ℕ, zero, suc, ◌-◌, ◌<◌, ◌≤◌, List, [], ◌∷◌, length, map, take, drop, get_or, sym, ap, subst, arith}
 use Rattle.std.specs.Prelude.{Contains}
 use Rattle.std.specs.List.{AllByRecursion}
 use Rattle.std.proofs.lemmas.List.{take_all}
@@ -23,3 +23,9 @@ rest-length (w ∷ ws) = omega arith
 -- names behind the first word are among all words
 pub among-behind : {A : Type 0} (f : A → List ℕ) (ws : List A) (c : CommandValue) → AreAmong (map f (take (length ws - 1) (drop 1 ws))) c → AreAmong (map f ws) c
 among-behind {A} f ws c a = all-behind f ws (files_of c) (subst (λ (rest : List A). AreAmong (map f rest) c) (take_all (length ws - 1) (drop 1 ws) (rest-length ws)) a)
+
+-- the text of an element is among those of all
+pub among-at : {A : Type 0} (f : A → List ℕ) (ws : List A) (k : ℕ) (w : A) (name : List ℕ) → k < length ws → w ≡ get_or ws k w → f w ≡ name → Contains (map f ws) name
+among-at f [] k w name lt is same = absurd (omega (arith, lt))
+among-at f (x ∷ ws) zero w name lt is same = (0, omega arith, ap f (sym is) ∙ same)
+among-at f (x ∷ ws) (suc k) w name lt is same = let rest = among-at f ws k w name (omega (arith, lt)) is same in (suc rest.0, (let l = rest.1 in omega (arith, l)), rest.2)

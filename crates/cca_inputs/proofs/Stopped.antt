@@ -1,5 +1,5 @@
 -- What the stops of the readers say of the bytes.
-use Rattle.std.proofs.Common.{inl, inr, ◌≡◌, ◌⊎◌, ℕ, List, refl}
+use Rattle.std.proofs.Common.{inl, inr, ◌≡◌, ◌⊎◌, ℕ, List, refl, sym, ap}
 use Rattle.line_text.specs.LineText.{faulty, beyond, Says}
 use Rattle.auction_model.specs.Book.{Book as BookValue}
 use Rattle.book_form.specs.BookForm.{IsBook}
@@ -11,10 +11,17 @@ use Rattle.cert_laws.specs.Tests.{bidders_of, states}
 use Rattle.cert_text.specs.Stops.{StopsAt}
 use Rattle.cert_text.specs.declared.stop.CertStop.{CertStop}
 use Rattle.cert_text.specs.declared.stop.CertStop.TheVariants as cert
-use Rattle.cca_inputs.specs.Answers.{BookAnswers, CertAnswers}
+use Rattle.auction_rules.specs.Terms.{Terms}
+use Rattle.award_file.specs.Reading as award_reading
+use Rattle.award_file.specs.declared.read.AwardStop.{AwardStop}
+use Rattle.award_file.specs.declared.read.AwardStop.TheVariants as award
+use Rattle.log_file.specs.LogReading as log_reading
+use Rattle.log_file.specs.declared.LogStop.{LogStop}
+use Rattle.log_file.specs.declared.LogStop.TheVariants as log
+use Rattle.cca_inputs.specs.Answers.{AwardAnswers, BookAnswers, CertAnswers, LogAnswers, award_answer}
 use Rattle.cca_inputs.specs.Outcome.{stops}
 use Rattle.cca_inputs.specs.Statuses.{IsStop}
-use Rattle.cca_inputs.specs.Stops.{book_status, cert_status}
+use Rattle.cca_inputs.specs.Stops.{award_status, book_status, cert_status, log_status}
 use Rattle.cca_inputs.specs.declared.status.Status.TheVariants.{Memory}
 
 -- the stop of a book is want of memory, or what its bytes answer
@@ -32,3 +39,18 @@ pub cert-stop : (b : BookValue) (bytes : List ℕ) (stop : CertStop) → StopsAt
 cert-stop b bytes (cert.Form place) says = inr (tt, (faulty place, says, refl))
 cert-stop b bytes (cert.Range place) says = inr (tt, (beyond place, says, refl))
 cert-stop b bytes cert.Memory says = inl refl
+
+-- the stop of an award is want of memory, or what its bytes answer
+pub award-stop : (bytes : List ℕ) (stop : AwardStop) → award_reading.IsStop (award_reading.reading bytes) stop
+    → (award_status stop ≡ Memory) ⊎ (IsStop (award_status stop) × AwardAnswers bytes (stops (award_status stop)))
+award-stop bytes award.Text is = inr (tt, sym (ap award_answer is))
+award-stop bytes (award.Field number entry) is = inr (tt, sym (ap award_answer is))
+award-stop bytes (award.Limit kind count) is = inr (tt, sym (ap award_answer is))
+award-stop bytes award.Memory is = inl refl
+
+-- the stop of a log is want of memory, or what its bytes answer
+pub log-stop : (terms : Terms) (bytes : List ℕ) (stop : LogStop) → log_reading.IsStop terms (log_reading.log_records bytes) stop
+    → (log_status stop ≡ Memory) ⊎ (IsStop (log_status stop) × LogAnswers terms bytes (stops (log_status stop)))
+log-stop terms bytes (log.Form number) is = inr (tt, inl (number, is, refl))
+log-stop terms bytes (log.Limit kind count) is = inr (tt, inr (is.0, cc (is.1, is.2)))
+log-stop terms bytes log.Memory is = inl refl

@@ -1,14 +1,20 @@
 -- What the bytes of each input say.
-use Rattle.std.specs.Prelude.{◌≡◌, ℕ, List}
+use Rattle.std.specs.Prelude.{◌≡◌, ◌⊎◌, ℕ, suc, List}
+use Rattle.limits.specs.declared.LimitKind.TheVariants.{Records}
+use Rattle.limits.specs.declared.TheConstants.{MOST_RECORDS}
 use Rattle.line_text.specs.LineText.{Said, stated, faulty, beyond, Says}
 use Rattle.auction_model.specs.Book.{Book as BookValue}
 use Rattle.book_form.specs.BookForm.{IsBook}
 use Rattle.book_form.specs.BookLines.{Excess, lines}
+use Rattle.auction_rules.specs.Terms.{Terms}
+use Rattle.auction_rules.specs.declared.Event.{Event}
+use Rattle.award_file.specs.Reading as award
+use Rattle.log_file.specs.LogReading.{AreLog, AreTooMany, IsFirstFault, log_records}
 use Rattle.cert_form.specs.Certificate.{CertValue}
 use Rattle.cert_form.specs.Says.{CertSays}
 use Rattle.cert_laws.specs.Tests.{bidders_of, states}
 use Rattle.cca_inputs.specs.Outcome.{Answer, value, stops}
-use Rattle.cca_inputs.specs.declared.status.FileKind.TheVariants.{Book, Cert}
+use Rattle.cca_inputs.specs.declared.status.FileKind.TheVariants.{Award, Log, Book, Cert}
 use Rattle.cca_inputs.specs.declared.status.Status.TheVariants.{Refused, Limit}
 
 -- a faulty line refuses the file, and a quantity above its limit is told
@@ -30,3 +36,25 @@ cert_answer (beyond place) = stops (Refused Cert place 0)
 -- what the bytes of a certificate of this book say
 abbrev pub CertAnswers : BookValue → List ℕ → Answer CertValue → Type 0
 CertAnswers book bytes answer = (said : Said CertValue ℕ) × CertSays (bidders_of book) (states book) bytes said × (answer ≡ cert_answer said)
+
+-- a broken rule refuses the file by its field and table, a text that isn't TOML refuses it by none, and a quantity above its limit is told
+abbrev pub award_answer : award.Reading → Answer Terms
+award_answer award.no_toml = stops (Refused Award 0 0)
+award_answer (award.broken number entry) = stops (Refused Award number entry)
+award_answer (award.too_many kind count) = stops (Limit kind count)
+award_answer (award.states terms) = value terms
+
+-- what the bytes of an award say
+abbrev pub AwardAnswers : List ℕ → Answer Terms → Type 0
+AwardAnswers bytes answer = answer ≡ award_answer (award.reading bytes)
+
+-- What the records of a log of this award say: their events; or the first faulty record refuses the file, or there are more than there
+-- may be.
+abbrev pub RecordsAnswer : Terms → List (List (List ℕ)) → Answer (List Event) → Type 0
+RecordsAnswer terms rows (value events) = AreLog terms rows events
+RecordsAnswer terms rows (stops status) =
+    ((number : ℕ) × IsFirstFault terms rows number × (status ≡ Refused Log number 0)) ⊎ (AreTooMany terms rows × (status ≡ Limit Records (suc MOST_RECORDS)))
+
+-- what the bytes of a log of this award say
+abbrev pub LogAnswers : Terms → List ℕ → Answer (List Event) → Type 0
+LogAnswers terms bytes answer = RecordsAnswer terms (log_records bytes) answer

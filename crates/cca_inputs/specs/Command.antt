@@ -12,6 +12,8 @@ pub data CommandValue : Type 0 where
   price : List ℕ → List ℕ → Bool → CommandValue
   -- the test of a certificate of a book
   check : List ℕ → List ℕ → CommandValue
+  -- the replies to the log of an auction, and its book
+  auction : List ℕ → List ℕ → List ℕ → CommandValue
 
 -- what a command does with a file
 pub data Use : Type 0 where
@@ -35,6 +37,7 @@ abbrev pub files_of : CommandValue → List FileUse
 files_of (win book) = reading Book book ∷ []
 files_of (price book cert rounds) = reading Book book ∷ appending Cert cert ∷ []
 files_of (check book cert) = reading Book book ∷ reading Cert cert ∷ []
+files_of (auction award log book) = reading Award award ∷ reading Log log ∷ appending Book book ∷ []
 
 -- not empty, and not beginning with '-'
 abbrev pub is_file_word : List ℕ → Bool
@@ -76,11 +79,23 @@ check_words (f ∷ []) = None
 check_words (f ∷ g ∷ []) = if are_file_words (f ∷ g ∷ []) then Some (check f g) else None
 check_words (f ∷ g ∷ h ∷ rest) = None
 
+-- the words behind `auction`
+abbrev pub auction_words : List (List ℕ) → Option CommandValue
+auction_words [] = None
+auction_words (f ∷ []) = None
+auction_words (f ∷ g ∷ []) = None
+auction_words (f ∷ g ∷ h ∷ []) = if are_file_words (f ∷ g ∷ h ∷ []) then Some (auction f g h) else None
+auction_words (f ∷ g ∷ h ∷ i ∷ rest) = None
+
 -- the command that the words say, if they are of the plain form
 abbrev pub command_of : List (List ℕ) → Option CommandValue
 command_of [] = None
 command_of (w ∷ rest) =
-    if bytes_eq w (codes "win") then win_words rest else if bytes_eq w (codes "price") then price_words rest else if bytes_eq w (codes "check") then check_words rest else None
+    if bytes_eq w (codes "win") then win_words rest
+    else if bytes_eq w (codes "price") then price_words rest
+    else if bytes_eq w (codes "check") then check_words rest
+    else if bytes_eq w (codes "auction") then auction_words rest
+    else None
 
 -- the number of a kind
 abbrev pub kind_number : FileKind → ℕ

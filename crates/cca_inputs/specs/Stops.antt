@@ -7,8 +7,12 @@ use Rattle.bid_book.specs.declared.BookStop.{BookStop}
 use Rattle.bid_book.specs.declared.BookStop.TheVariants as book
 use Rattle.cert_text.specs.declared.stop.CertStop.{CertStop}
 use Rattle.cert_text.specs.declared.stop.CertStop.TheVariants as cert
+use Rattle.award_file.specs.declared.read.AwardStop.{AwardStop}
+use Rattle.award_file.specs.declared.read.AwardStop.TheVariants as award
+use Rattle.log_file.specs.declared.LogStop.{LogStop}
+use Rattle.log_file.specs.declared.LogStop.TheVariants as log
 use Rattle.cca_inputs.specs.declared.status.FileKind.{FileKind}
-use Rattle.cca_inputs.specs.declared.status.FileKind.TheVariants.{Book, Cert}
+use Rattle.cca_inputs.specs.declared.status.FileKind.TheVariants.{Award, Log, Book, Cert}
 use Rattle.cca_inputs.specs.declared.status.Status.{Status}
 use Rattle.cca_inputs.specs.declared.status.Status.TheVariants.{Refused, ReadFault, Memory, Limit}
 
@@ -27,3 +31,16 @@ abbrev pub cert_status : CertStop → Status
 cert_status (cert.Form place) = Refused Cert place 0
 cert_status (cert.Range place) = Refused Cert place 0
 cert_status cert.Memory = Memory
+
+-- the place of an award is the number of the field, and its entry the number of the table
+abbrev pub award_status : AwardStop → Status
+award_status award.Text = Refused Award 0 0
+award_status (award.Field number entry) = Refused Award number entry
+award_status (award.Limit which count) = Limit which count
+award_status award.Memory = Memory
+
+-- the place of a log is the number of the record
+abbrev pub log_status : LogStop → Status
+log_status (log.Form number) = Refused Log number 0
+log_status (log.Limit which count) = Limit which count
+log_status log.Memory = Memory

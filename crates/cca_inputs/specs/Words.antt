@@ -3,13 +3,14 @@ use Rattle.std.specs.Prelude.{ℕ, List, Contains, IsTrue}
 use Rattle.std.specs.List.{AllByRecursion}
 use Rattle.cca_base.specs.Files.{Folder}
 use Rattle.cca_inputs.specs.declared.words.Command.{Command}
-use Rattle.cca_inputs.specs.declared.words.Command.TheVariants.{Win, Price, Check}
-use Rattle.cca_inputs.specs.Command.{CommandValue, win, price, check, files_of}
+use Rattle.cca_inputs.specs.declared.words.Command.TheVariants.{Win, Price, Check, Auction}
+use Rattle.cca_inputs.specs.Command.{CommandValue, win, price, check, auction, files_of}
 
 abbrev pub command_value : Command → CommandValue
 command_value (Win book) = win book.now
 command_value (Price book cert rounds) = price book.now cert.now rounds
 command_value (Check book cert) = check book.now cert.now
+command_value (Auction award log book) = auction award.now log.now book.now
 
 -- the names of its files are among the words
 abbrev pub AreAmong : List (List ℕ) → CommandValue → Type 0

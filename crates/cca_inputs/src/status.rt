@@ -31,7 +31,9 @@ pub enum Status {
     },
     /// The words aren't of the plain form.
     Words,
-    /// A file isn't of its form. For a book and a certificate the place is the byte where the first faulty line begins.
+    /// A file isn't of its form, or a log isn't complete. For a book and a certificate the place is the byte where the first faulty line
+    /// begins, and for a log the number of the first faulty record, or of the one that would follow. For an award the place is the number
+    /// of the field whose rule is broken first, with that of its table as the entry, or 0 where it isn't TOML.
     Refused {
         file: FileKind,
         place: u64,

@@ -1,13 +1,15 @@
 // The statuses of the stops of the readers.
 ghost use Rattle.std.specs.Prelude.{◌≡◌, ◌<◌, ◌^◌};
-ghost use Rattle.cca_inputs.specs.Stops.{book_status, cert_status, read_status};
+ghost use Rattle.cca_inputs.specs.Stops.{award_status, book_status, cert_status, log_status, read_status};
 ghost use Rattle.cca_inputs.specs.declared.status.Status.TheVariants.{Memory};
 
 use crate::{FileKind, Status};
+use award_file::AwardStop;
 use bid_book::BookStop;
 use cca_base::ReadStop;
 use cert_text::CertStop;
 use limits::LimitKind;
+use log_file::LogStop;
 use std::alloc::{AllocError, AllocFailed};
 
 /// The status of a stop of reading a file of this kind, which has at most so many bytes.
@@ -62,6 +64,36 @@ impl From<CertStop> for Status {
             CertStop::Form(place) => refused(FileKind::Cert, place),
             CertStop::Range(place) => refused(FileKind::Cert, place),
             CertStop::Memory => Status::Memory,
+        }
+    }
+}
+
+// A fault of the text is one of the award as a whole.
+impl From<AwardStop> for Status {
+    ghost from_gives = { λ stop status. status ≡ award_status stop };
+
+    fn from(stop: AwardStop) -> Status {
+        match stop {
+            AwardStop::Text => refused(FileKind::Award, 0),
+            AwardStop::Field { number, entry } => Status::Refused {
+                file: FileKind::Award,
+                place: number as u64,
+                entry,
+            },
+            AwardStop::Limit(which, count) => Status::Limit { which, count },
+            AwardStop::Memory => Status::Memory,
+        }
+    }
+}
+
+impl From<LogStop> for Status {
+    ghost from_gives = { λ stop status. status ≡ log_status stop };
+
+    fn from(stop: LogStop) -> Status {
+        match stop {
+            LogStop::Form(number) => refused(FileKind::Log, number),
+            LogStop::Limit(which, count) => Status::Limit { which, count },
+            LogStop::Memory => Status::Memory,
         }
     }
 }

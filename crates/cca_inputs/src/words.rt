@@ -1,6 +1,6 @@
 // The plain form of the words.
 ghost use Rattle.std.specs.Prelude.{◌≡◌, map, string_bytes, option_map, Some, None, IfSome};
-ghost use Rattle.cca_inputs.specs.Command.{are_file_words, check_words, command_of, is_among, is_file_word, output_as, price_words, rounds_asked, win_words};
+ghost use Rattle.cca_inputs.specs.Command.{are_file_words, auction_words, check_words, command_of, is_among, is_file_word, output_as, price_words, rounds_asked, win_words};
 ghost use Rattle.cca_inputs.specs.Words.{AreAmong, command_value};
 
 use crate::FileKind;
@@ -24,6 +24,12 @@ pub enum Command<'a> {
         book: &'a str,
         cert: &'a str,
     },
+    /// The log of an auction is replayed; its book is appended, and the replies to its lines are printed.
+    Auction {
+        award: &'a str,
+        log: &'a str,
+        book: &'a str,
+    },
 }
 
 impl<'a> Command<'a> {
@@ -33,6 +39,7 @@ impl<'a> Command<'a> {
     {
         match (self, kind) {
             (Command::Price { cert, .. }, FileKind::Cert) => Some(cert),
+            (Command::Auction { book, .. }, FileKind::Book) => Some(book),
             _ => None,
         }
     }
@@ -128,6 +135,23 @@ fn check_command(words: &[String]) -> Option<Command<'_>>
     })
 }
 
+fn auction_command(words: &[String]) -> Option<Command<'_>>
+    ensures among { IfSome result (λ c. AreAmong (map string_bytes words.now) (command_value c)) }
+    ensures command { option_map command_value result ≡ auction_words (map string_bytes words.now) }
+{
+    let [award, log, book] = words else {
+        return None;
+    };
+    if !can_be_files(words) {
+        return None;
+    }
+    Some(Command::Auction {
+        award: award.as_str(),
+        log: log.as_str(),
+        book: book.as_str(),
+    })
+}
+
 /// The command that the words say, where they are of the plain form. It takes no memory.
 pub fn read_command(words: &[String]) -> Option<Command<'_>>
     ensures among { IfSome result (λ c. AreAmong (map string_bytes words.now) (command_value c)) }
@@ -140,6 +164,7 @@ pub fn read_command(words: &[String]) -> Option<Command<'_>>
         "win" => win_command(rest),
         "price" => price_command(rest),
         "check" => check_command(rest),
+        "auction" => auction_command(rest),
         _ => None,
     }
 }

@@ -4,6 +4,7 @@ mod Counts
 mod Finished
 mod Moved
 mod Named
+mod OneLog
 mod OneOutcome
 mod Ones
 mod Priced

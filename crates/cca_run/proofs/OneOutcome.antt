@@ -21,15 +21,20 @@ use Rattle.print_form.specs.Prices.{IsPriceText}
 use Rattle.print_form.specs.Turns.{AreTurnLines}
 use Rattle.row_laws.specs.Winners.{winners_in}
 use Rattle.core_price.specs.Weights.{FewWin}
+use Rattle.std.specs.Prelude.{Result, Ok, Err}
+use Rattle.auction_rules.specs.Terms.{Terms}
+use Rattle.auction_rules.specs.declared.Event.{Event}
+use Rattle.log_replay.specs.declared.results.ReplayStop.{ReplayStop}
+use Rattle.cca_run.proofs.OneLog.{one-award-answer}
 use Rattle.cca_run.proofs.Ones.{not_few_and_many, ones-weigh}
-use Rattle.cca_inputs.specs.Answers.{BookAnswers, CertAnswers, book_answer, cert_answer}
-use Rattle.cca_inputs.specs.Command.{CommandValue, win, price, check, command_of, contents_of}
+use Rattle.cca_inputs.specs.Answers.{AwardAnswers, BookAnswers, CertAnswers, LogAnswers, book_answer, cert_answer}
+use Rattle.cca_inputs.specs.Command.{CommandValue, win, price, check, auction, command_of, contents_of}
 use Rattle.cca_inputs.specs.Outcome.{Answer, AnswerGives, FileAnswers, InputGives, Outcome, done, stopped, stops, value}
 use Rattle.cca_inputs.specs.declared.file_text.FileText.{FileText}
 use Rattle.cca_inputs.specs.declared.status.FileKind.{FileKind}
-use Rattle.cca_inputs.specs.declared.status.FileKind.TheVariants.{Book as BookFile, Cert}
-use Rattle.limits.specs.declared.TheConstants.{BOOK_BYTES, CERT_BYTES}
-use Rattle.cca_run.specs.Gives.{AreRounds, CertGives, CommandGives, Gives, HasTooMany, IsPricing, IsYesText, PriceGives, VerdictGives, WinGives, WordsGive, cert_file, ones}
+use Rattle.cca_inputs.specs.declared.status.FileKind.TheVariants.{Award, Log, Book as BookFile, Cert}
+use Rattle.limits.specs.declared.TheConstants.{AWARD_BYTES, LOG_BYTES, BOOK_BYTES, CERT_BYTES}
+use Rattle.cca_run.specs.Gives.{AreRounds, AuctionGives, CertGives, CommandGives, Gives, HasTooMany, IsPricing, IsYesText, LogGives, PriceGives, RepliesGive, VerdictGives, WinGives, WordsGive, book_file, cert_file, ones}
 use Rattle.cca_inputs.specs.declared.status.Status.TheVariants.{No, Limit}
 use Rattle.limits.specs.declared.LimitKind.TheVariants.{Winners}
 
@@ -45,6 +50,12 @@ equal o p x a b = both o p x x a b (refl, refl)
 
 printed-same : (t u : List ℕ) (a b : List FileText) → t ≡ u → Same (done t a) (done u b)
 printed-same t u a b e = (refl, e)
+
+-- what a log leads to gives one status and one text
+one-end : (records : ℕ) (replies : List ℕ) (end : Result Book ReplayStop) (o p : Outcome) → RepliesGive records replies end o → RepliesGive records replies end p → Same o p
+one-end records replies (Ok book) o p x y =
+    both o p (done replies (book_file x.0 ∷ [])) (done replies (book_file y.0 ∷ [])) x.2 y.2 (printed-same replies replies (book_file x.0 ∷ []) (book_file y.0 ∷ []) refl)
+one-end records replies (Err stop) o p x y = equal o p _ x y
 
 -- an input has one answer
 pub one-answer : {V : Type 0} (most : ℕ) (says : List ℕ → Answer V → Type 0) (one : (bytes : List ℕ) (a b : Answer V) → says bytes a → says bytes b → a ≡ b) (bytes : List ℕ) (a b : Answer V)
@@ -73,6 +84,7 @@ one-input {V} kind most says follows one (Some bytes) o p same x y =
 
 -- what the laws of the crates below say
 module _ (one_book : (bytes : List ℕ) (x y : Said Book Excess) → Says IsBook lines bytes x → Says IsBook lines bytes y → x ≡ y)
+    (one_log_answer : (terms : Terms) (bytes : List ℕ) (x y : Answer (List Event)) → LogAnswers terms bytes x → LogAnswers terms bytes y → x ≡ y)
     (one_cert : (bidders number : ℕ) (bytes : List ℕ) (x y : Said CertValue ℕ) → CertSays bidders number bytes x → CertSays bidders number bytes y → x ≡ y)
     (one_verdict : (book : Book) (w : ℕ → ℕ) (c : CertValue) (t p u q : ℕ) → FailsFirst book w c t p → FailsFirst book w c u q → (t ≡ u) × (p ≡ q))
     (not_both : (book : Book) (w : ℕ → ℕ) (c : CertValue) (t p : ℕ) → Holds book w c → FailsFirst book w c t p → ⊥)
@@ -165,6 +177,9 @@ module _ (one_book : (bytes : List ℕ) (x y : Said Book Excess) → Says IsBook
   one-of (check name cert) contents o p x y = one-input BookFile BOOK_BYTES BookAnswers (λ book. CertGives book (contents Cert) (VerdictGives book (ones book))) one-book-answer (contents BookFile) o p
       (λ book bytes says x y. one-input Cert CERT_BYTES (CertAnswers book) (VerdictGives book (ones book)) (one-cert-answer book) (contents Cert) o p
       (λ c of says_it a b. one-judged book (ones book) c o p (lawful bytes book says) a b) x y) x y
+  one-of (auction award log book) contents o p x y = one-input Award AWARD_BYTES AwardAnswers (λ terms. LogGives terms (contents Log) (AuctionGives terms)) one-award-answer (contents Award) o p
+      (λ terms bytes says x y. one-input Log LOG_BYTES (LogAnswers terms) (AuctionGives terms) (one_log_answer terms) (contents Log) o p
+      (λ events of says_it a b. one-end _ _ _ o p a b) x y) x y
 
   one-words : (command : Option CommandValue) (file : List ℕ → Option (List ℕ)) (o p : Outcome) → WordsGive command file o → WordsGive command file p → Same o p
   one-words None file o p x y = equal o p _ x y

@@ -1,9 +1,17 @@
 -- What each command gives, by the bytes of its inputs.
-use Rattle.std.specs.Prelude.{◌≡◌, ◌⊎◌, ℕ, Bool, true, false, Option, Some, None, List, [], ◌∷◌, ◌++◌, codes, replicate}
+use Rattle.std.specs.Prelude.{◌≡◌, ◌⊎◌, ℕ, suc, Bool, true, false, Option, Some, None, Result, Ok, Err, List, [], ◌∷◌, ◌++◌, codes, length, replicate, reverse}
+use Rattle.line_text.specs.LineText.{Says, stated}
 use Rattle.auction_model.specs.Greatest.{IsWinning}
 use Rattle.auction_model.specs.Book.{market_of, Book as BookValue}
 use Rattle.auction_model.specs.Prices.{weight_of}
 use Rattle.auction_model.specs.PricingRun.{Turn, IsPricingRun}
+use Rattle.auction_rules.specs.Terms.{Terms}
+use Rattle.auction_rules.specs.declared.Event.{Event}
+use Rattle.book_form.specs.BookForm.{IsBook}
+use Rattle.book_form.specs.BookLines.{lines}
+use Rattle.log_replay.specs.ReplyLines.{end_of, reply_lines}
+use Rattle.log_replay.specs.declared.results.ReplayStop.{ReplayStop}
+use Rattle.log_replay.specs.declared.results.ReplayStop.TheVariants as replay
 use Rattle.print_form.specs.WinText.{win_text}
 use Rattle.cert_form.specs.Certificate.{CertValue}
 use Rattle.cert_form.specs.CertText.{IsCertificate}
@@ -12,19 +20,20 @@ use Rattle.cert_laws.specs.Priced.{IsPricedCert}
 use Rattle.cert_laws.specs.Sound.{IsSound, cert_point, cert_prices}
 use Rattle.cert_laws.specs.Tests.{FailsFirst, Holds, bidders_of, states}
 use Rattle.core_price.specs.Weights.{FewWin, ManyWin}
-use Rattle.limits.specs.declared.LimitKind.TheVariants.{Winners}
-use Rattle.limits.specs.declared.TheConstants.{BOOK_BYTES, CERT_BYTES}
+use Rattle.limits.specs.declared.LimitKind.TheVariants.{Rounds, Price, Winners}
+use Rattle.limits.specs.declared.TheConstants.{AWARD_BYTES, LOG_BYTES, BOOK_BYTES, CERT_BYTES}
 use Rattle.print_form.specs.Prices.{IsPriceText}
 use Rattle.print_form.specs.Turns.{AreTurnLines}
 use Rattle.row_laws.specs.Turns.{IsLastPoint}
 use Rattle.row_laws.specs.Winners.{winners_in}
-use Rattle.cca_inputs.specs.Answers.{BookAnswers, CertAnswers}
-use Rattle.cca_inputs.specs.Command.{CommandValue, win, price, check, command_of, contents_of}
-use Rattle.cca_inputs.specs.Outcome.{InputGives, Outcome, done, stopped}
+use Rattle.cca_inputs.specs.Answers.{AwardAnswers, BookAnswers, CertAnswers, LogAnswers}
+use Rattle.cca_inputs.specs.Command.{CommandValue, win, price, check, auction, command_of, contents_of}
+use Rattle.cca_inputs.specs.Outcome.{InputGives, Outcome, done, stopped, stopped_after}
 use Rattle.cca_inputs.specs.declared.file_text.FileText.{FileText}
 use Rattle.cca_inputs.specs.declared.status.FileKind.{FileKind}
-use Rattle.cca_inputs.specs.declared.status.FileKind.TheVariants.{Book, Cert}
-use Rattle.cca_inputs.specs.declared.status.Status.TheVariants.{No, Words, Limit}
+use Rattle.cca_inputs.specs.declared.status.FileKind.TheVariants.{Award, Log, Book, Cert}
+use Rattle.cca_inputs.specs.declared.status.Status.{Status}
+use Rattle.cca_inputs.specs.declared.status.Status.TheVariants.{No, Words, Refused, Limit}
 
 -- each bidder of the book weighs 1
 abbrev pub ones : BookValue → List ℕ
@@ -80,6 +89,42 @@ VerdictGives book weights c outcome =
     (Holds book (weight_of weights) c × IsSound book (weight_of weights) c × ((text : List ℕ) × IsYesText book c text × (outcome ≡ done text [])))
     ⊎ ((test place : ℕ) × FailsFirst book (weight_of weights) c test place × (outcome ≡ stopped (No test place)))
 
+-- a text that is appended to the book's file
+abbrev pub book_file : List ℕ → FileText
+book_file text = record { kind = Book; text = text }
+
+-- The status of a log of so many records that leads to no book. For a log that isn't complete the place is behind its last record.
+abbrev pub replay_status : ℕ → ReplayStop → Status
+replay_status records (replay.Rounds count) = Limit Rounds count
+replay_status records (replay.Price count) = Limit Price count
+replay_status records replay.Open = Refused Log (suc records) 0
+
+-- What a log of so many records gives with these reply lines, by what it leads to: the lines are printed and the text of the book is
+-- appended; or the lines are printed, and the line of the stop behind them, and nothing is appended.
+abbrev pub RepliesGive : ℕ → List ℕ → Result BookValue ReplayStop → Outcome → Type 0
+RepliesGive records replies (Ok book) outcome = (text : List ℕ) × Says IsBook lines text (stated book) × (outcome ≡ done replies (book_file text ∷ []))
+RepliesGive records replies (Err stop) outcome = outcome ≡ stopped_after replies (replay_status records stop)
+
+-- what an auction gives, by its events in the order of the file
+abbrev pub AuctionGives : Terms → List Event → Outcome → Type 0
+AuctionGives terms events outcome = RepliesGive (length events) (reply_lines terms (reverse events)) (end_of terms (reverse events)) outcome
+
+-- what follows for the book of a log of so many records, where it leads to one
+abbrev pub EndGives : ℕ → Result BookValue ReplayStop → (BookValue → Outcome → Type 0) → Outcome → Type 0
+EndGives records (Ok book) follows outcome = follows book outcome
+EndGives records (Err stop) follows outcome = outcome ≡ stopped (replay_status records stop)
+
+-- what an auction gives whose replies aren't told, where this follows for its book
+abbrev pub BookOfLogGives : Terms → List Event → (BookValue → Outcome → Type 0) → Outcome → Type 0
+BookOfLogGives terms events follows outcome = EndGives (length events) (end_of terms (reverse events)) follows outcome
+
+-- what the award, and a log of an award, gives by its bytes, where this follows
+abbrev pub AwardGives : Option (List ℕ) → (Terms → Outcome → Type 0) → Outcome → Type 0
+AwardGives content follows outcome = InputGives Award AWARD_BYTES AwardAnswers content follows outcome
+
+abbrev pub LogGives : Terms → Option (List ℕ) → (List Event → Outcome → Type 0) → Outcome → Type 0
+LogGives terms content follows outcome = InputGives Log LOG_BYTES (LogAnswers terms) content follows outcome
+
 -- what the book, and a certificate of a book, gives by its bytes, where this follows
 abbrev pub BookGives : Option (List ℕ) → (BookValue → Outcome → Type 0) → Outcome → Type 0
 BookGives content follows outcome = InputGives Book BOOK_BYTES BookAnswers content follows outcome
@@ -92,6 +137,7 @@ abbrev pub CommandGives : CommandValue → (FileKind → Option (List ℕ)) → 
 CommandGives (win book) contents outcome = BookGives (contents Book) WinGives outcome
 CommandGives (price book cert rounds) contents outcome = BookGives (contents Book) (λ b. PriceGives b (ones b) rounds) outcome
 CommandGives (check book cert) contents outcome = BookGives (contents Book) (λ b. CertGives b (contents Cert) (VerdictGives b (ones b))) outcome
+CommandGives (auction award log book) contents outcome = AwardGives (contents Award) (λ terms. LogGives terms (contents Log) (AuctionGives terms)) outcome
 
 -- what a command gives by the files
 abbrev pub FilesGive : CommandValue → (List ℕ → Option (List ℕ)) → Outcome → Type 0

@@ -1,17 +1,19 @@
 // The work of each command.
 ghost use Rattle.std.specs.Prelude.{ℕ, List, [], IsTrue};
-ghost use Rattle.cca_inputs.specs.Command.{win, price, check};
+ghost use Rattle.cca_inputs.specs.Command.{win, price, check, auction};
 ghost use Rattle.cca_inputs.specs.Words.{KnowsFiles, command_value};
 ghost use Rattle.cca_run.specs.Gives.{WinGives};
 ghost use Rattle.cca_run.specs.Works.{IsWork, Works};
 
+use crate::auction::replayed;
 use crate::pricing::price_alike;
 use crate::verdict::verdict_alike;
 use crate::win::win_of;
 use crate::work::{Stop, Work};
 use bid_book::BidBook;
 use cca_base::Files;
-use cca_inputs::{BookInput, CertInput, Command, read_input};
+use cca_inputs::{AwardInput, BookInput, CertInput, Command, LogInput, read_input};
+use log_file::packages_of_log;
 use std::alloc::Global;
 
 fn winners(alloc: Global, book: &BidBook) -> Result<Work, Stop>
@@ -55,6 +57,22 @@ fn check_work<F: Files>(alloc: Global, files: &mut F, book: &str, cert: &str) ->
     verdict_alike(alloc, &book, &cert)
 }
 
+fn auction_work<F: Files>(
+    alloc: Global,
+    files: &mut F,
+    award: &str,
+    log: &str,
+) -> Result<Work, Stop>
+    requires award { IsTrue ((F.folder files.old).knows award.now) }
+    requires log { IsTrue ((F.folder files.old).knows log.now) }
+    ensures { (book : List ℕ) → Works (auction award.now log.now book) (F.folder files.old) (F.folder files.new) result }
+{
+    let award = read_input(alloc, files, award, &AwardInput)?;
+    let log = read_input(alloc, files, log, &LogInput { award: &award })?;
+    packages_of_log();
+    replayed(alloc, award, &log)
+}
+
 /// What the command prints and appends, or the stop on the way to it.
 pub fn work_out<F: Files>(alloc: Global, files: &mut F, command: Command<'_>) -> Result<Work, Stop>
     requires { KnowsFiles (F.folder files.old) (command_value command) }
@@ -64,5 +82,6 @@ pub fn work_out<F: Files>(alloc: Global, files: &mut F, command: Command<'_>) ->
         Command::Win { book } => win_work(alloc, files, book),
         Command::Price { book, rounds, .. } => price_work(alloc, files, book, rounds),
         Command::Check { book, cert } => check_work(alloc, files, book, cert),
+        Command::Auction { award, log, .. } => auction_work(alloc, files, award, log),
     }
 }

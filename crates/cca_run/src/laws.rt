@@ -15,6 +15,7 @@ use auction_model::{book_market, core_outcome, vickrey_prices, winning_choice};
 use bid_book::one_book;
 use cert_form::{one_cert, text_of_cert};
 use cert_laws::{one_verdict, short_text, sound_yes};
+use log_file::one_reading;
 use print_form::{one_price_text, one_run_text};
 
 /// The words and the bytes of the files give at most one status and one printed text. So each status that is decided comes exactly
@@ -24,6 +25,7 @@ pub fn one_outcome()
         → (o.status ≡ p.status) × (o.printed ≡ p.printed) }
 {
     one_book();
+    one_reading();
     one_cert();
     one_verdict();
     sound_yes();

@@ -2,6 +2,7 @@
 #![tactic(auto)]
 
 mod append;
+mod auction;
 mod commands;
 mod laws;
 mod pricing;

@@ -6,3 +6,4 @@ mod ReplyLaws
 mod OneEvent
 mod OneReading
 mod WorkedCases
+mod Categories

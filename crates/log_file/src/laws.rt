@@ -1,5 +1,7 @@
 // Laws of the form of logs. Each function here does nothing, and its contract is the law.
 ghost use Rattle.std.specs.Prelude.{◌≡◌, ℕ, List};
+ghost use Rattle.std.specs.List.{AllByRecursion};
+ghost use Rattle.auction_rules.specs.Lawful.{HasCategories};
 ghost use Rattle.auction_rules.specs.Terms.{Terms};
 ghost use Rattle.auction_rules.specs.declared.Event.{Event};
 ghost use Rattle.log_file.specs.LogForm.{States};
@@ -14,4 +16,9 @@ pub fn one_reading()
     ensures no_fault { (terms : Terms) (rows : List (List (List ℕ))) (events : List Event) (n : ℕ) → AreLog terms rows events → IsFirstFault terms rows n → ⊥ }
     ensures not_many { (terms : Terms) (rows : List (List (List ℕ))) (events : List Event) → AreLog terms rows events → AreTooMany terms rows → ⊥ }
     ensures few_before { (terms : Terms) (rows : List (List (List ℕ))) (n : ℕ) → IsFirstFault terms rows n → AreTooMany terms rows → ⊥ }
+{}
+
+/// The packages of a log have the award's number of categories.
+pub fn packages_of_log()
+    ensures { (terms : Terms) (rows : List (List (List ℕ))) (events : List Event) → AreLog terms rows events → AllByRecursion (HasCategories terms) events }
 {}

@@ -15,7 +15,7 @@ mod tests;
 
 pub use auction_rules::{Event, Reply};
 pub use events::Events;
-pub use laws::one_reading;
+pub use laws::{one_reading, packages_of_log};
 pub use limits::LimitKind;
 pub use read::read_log;
 pub use reply::reply_line;

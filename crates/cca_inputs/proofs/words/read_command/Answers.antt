@@ -9,3 +9,9 @@ returns-in-price-clause-among c = IfSome_then c.price_command.result c.price_com
 
 pub returns-in-check-clause-among : goal.returns-in-check-clause-among
 returns-in-check-clause-among c = IfSome_then c.check_command.result c.check_command.ensures.among (λ k among. among-behind string_bytes c.args.words.now (command_value k) among)
+
+pub returns-in-auction-clause-among : goal.returns-in-auction-clause-among
+returns-in-auction-clause-among c = IfSome_then c.auction_command.result c.auction_command.ensures.among (λ k among. among-behind string_bytes c.args.words.now (command_value k) among)
+
+pub returns-in-win-clause-among : goal.returns-in-win-clause-among
+returns-in-win-clause-among c = IfSome_then c.win_command.result c.win_command.ensures.among (λ k among. among-behind string_bytes c.args.words.now (command_value k) among)

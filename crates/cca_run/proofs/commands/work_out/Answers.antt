@@ -3,3 +3,6 @@ use Rattle.cca_run.proofs.commands.work_out.Goals as goal
 
 pub returns-in-Price : goal.returns-in-Price
 returns-in-Price g c = let works = c.price_work.ensures c.in-Price.cert.now in search rules
+
+pub returns-in-Auction : goal.returns-in-Auction
+returns-in-Auction g c = let works = c.auction_work.ensures c.in-Auction.book.now in search rules

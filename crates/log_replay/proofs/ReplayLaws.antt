@@ -1,0 +1,83 @@
+-- What a replay makes of one line more, and where it ends.
+use Rattle.std.proofs.Common.{◌≡◌, ℕ, zero, suc, ◌+◌, ◌<◌, ◌≤◌, true, false, List, [], ◌∷◌, ◌++◌, length, take, reverse, get_or, refl, sym, ap, subst, ◌∙◌, inl, inr, arith}
+use Rattle.std.specs.Prelude.{Ok, Err}
+use Rattle.std.specs.List.{AllByRecursion}
+use Rattle.std.proofs.lemmas.List.{length-reverse, length-take, reverse-append, take_all, take_more}
+use Rattle.auction_model.specs.Book.{Book}
+use Rattle.auction_rules.specs.BookOfLog.{book_of_log, is_complete}
+use Rattle.auction_rules.specs.Lawful.{HasCategories}
+use Rattle.auction_rules.specs.Replies.{is_closed}
+use Rattle.auction_rules.specs.State.{DeskState, state_of}
+use Rattle.auction_rules.specs.Terms.{Terms}
+use Rattle.auction_rules.specs.declared.Event.{Event}
+use Rattle.auction_rules.specs.declared.Reply.{Reply}
+use Rattle.auction_rules.specs.declared.Reply.TheVariants as reply
+use Rattle.auction_rules.specs.declared.Stage.TheVariants as stage
+use Rattle.bid_desk.specs.Reached.{StandsNext}
+use Rattle.log_replay.specs.Course.{Answers, IsAnswered, IsCourse, TakesLine}
+use Rattle.log_replay.specs.ReplyLines.{book_or_open}
+use Rattle.log_replay.specs.declared.lines.Course.{Course}
+use Rattle.log_replay.specs.declared.results.ReplayStop.TheVariants.{Open}
+
+-- a state keeps its terms
+terms-of : (terms : Terms) (log : List Event) → (state_of terms log).terms ≡ terms
+unfolding state_of
+terms-of terms log = refl
+
+pub terms-in : (terms : Terms) (log : List Event) (desk : DeskState) → desk ≡ state_of terms log → desk.terms ≡ terms
+terms-in terms log desk is = ap (λ (d : DeskState). d.terms) is ∙ terms-of terms log
+
+-- a desk that stands for a log, by its own terms
+stands-for : (terms : Terms) (log : List Event) (desk : DeskState) → desk ≡ state_of terms log → desk ≡ state_of desk.terms log
+stands-for terms log desk is = is ∙ ap (λ (t : Terms). state_of t log) (sym (terms-in terms log desk is))
+
+-- a reply other than Memory is that of the rules
+pub answers : (old new : DeskState) (line : Event) (answer : Reply) → ((log : List Event) → old ≡ state_of old.terms log → StandsNext old log line answer new) → (answer ≡ reply.Memory → ⊥) → Answers old line answer new
+answers old new line answer stands not-memory terms log is = by (stands log (stands-for terms log old is))
+  where
+    by : StandsNext old log line answer new → IsAnswered terms log line answer new
+    by (inl memory) = absurd (not-memory memory.reply)
+    by (inr next) = subst (λ (t : Terms). IsAnswered t log line answer new) (terms-in terms log old is) (record { reply = next.reply; state = next.state })
+
+-- the book of a desk that is closed
+pub book-closed : (desk : DeskState) (book : Book) → desk.stage ≡ stage.Closed → ((log : List Event) → desk ≡ state_of desk.terms log → book ≡ book_of_log desk.terms log)
+    → (terms : Terms) (log : List Event) → desk ≡ state_of terms log → Ok book ≡ book_or_open terms log
+book-closed desk book closed made terms log is =
+    let complete : is_complete terms log ≡ true = ap (λ (d : DeskState). is_closed d.stage) (sym is) ∙ ap is_closed closed in
+    let same : book ≡ book_of_log terms log = made log (stands-for terms log desk is) ∙ ap (λ (t : Terms). book_of_log t log) (terms-in terms log desk is) in
+    rw complete (ap Ok same)
+
+-- a desk that isn't closed has none
+pub book-open : (desk : DeskState) → is_closed desk.stage ≡ false → (terms : Terms) (log : List Event) → desk ≡ state_of terms log → Err Open ≡ book_or_open terms log
+book-open desk unclosed terms log is =
+    let incomplete : is_complete terms log ≡ false = ap (λ (d : DeskState). is_closed d.stage) (sym is) ∙ unclosed in
+    rw incomplete refl
+
+-- a course over one more line of the events, of which so many were taken
+pub takes-next : (terms : Terms) (events given : List Event) (i : ℕ) (line : Event) (old new : Course) → given ≡ events → i < length given → line ≡ get_or given i line
+    → IsCourse terms (reverse (take i events)) old → TakesLine old (i + 1) line new → IsCourse terms (reverse (take (i + 1) events)) new
+takes-next terms events given i line old new same lt is had takes =
+    let inside : i < length events = omega (arith, lt, ap length same) in
+    let count : i + 1 ≡ suc (length (reverse (take i events))) = omega (arith, length-reverse (take i events), length-take i events, inside) in
+    let at : line ≡ get_or events i line = is ∙ ap (λ (es : List Event). get_or es i line) same in
+    let more : take (i + 1) events ≡ take i events ++ line ∷ [] = take_more events i line inside ∙ ap (λ (e : Event). take i events ++ e ∷ []) (sym at) in
+    let behind : reverse (take (i + 1) events) ≡ line ∷ reverse (take i events) = ap reverse more ∙ reverse-append (take i events) (line ∷ []) in
+    subst (λ (log : List Event). IsCourse terms log new) (sym behind) (takes terms (reverse (take i events)) had count)
+
+-- behind the last line
+pub takes-all : (terms : Terms) (events given : List Event) (i : ℕ) (course : Course) → given ≡ events → length given ≤ i
+    → IsCourse terms (reverse (take i events)) course → IsCourse terms (reverse events) course
+takes-all terms events given i course same le had =
+    subst (λ (es : List Event). IsCourse terms (reverse es) course) (take_all i events (omega (arith, le, ap length same))) had
+
+-- the line at a place has the award's number of categories
+pub line-at : (terms : Terms) (events given : List Event) (i : ℕ) (line : Event) (desk : DeskState) → given ≡ events → i < length given → line ≡ get_or given i line
+    → desk ≡ state_of terms (reverse (take i events)) → AllByRecursion (HasCategories terms) events → HasCategories desk.terms line
+line-at terms events given i line desk same lt is stands all =
+    subst (λ (t : Terms). HasCategories t line) (sym (terms-in terms (reverse (take i events)) desk stands))
+    (subst (HasCategories terms) (sym is) (by given i line (subst (AllByRecursion (HasCategories terms)) (sym same) all) lt))
+  where
+    by : (es : List Event) (i : ℕ) (d : Event) → AllByRecursion (HasCategories terms) es → i < length es → HasCategories terms (get_or es i d)
+    by [] i d all lt = absurd (omega (arith, lt))
+    by (e ∷ es) zero d all lt = all.0
+    by (e ∷ es) (suc i) d all lt = by es i d all.1 (omega (arith, lt))

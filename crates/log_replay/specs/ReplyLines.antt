@@ -1,0 +1,70 @@
+-- What a log is answered by, line for line, and where it leads. A log has its newest line first.
+use Rattle.std.specs.Prelude.{ℕ, suc, Option, Some, None, Result, Ok, Err, List, [], ◌∷◌, ◌++◌, length, if◌then◌else◌}
+use Rattle.std.specs.Option.{option_or}
+use Rattle.limits.specs.declared.TheConstants.{MOST_ROUNDS}
+use Rattle.auction_model.specs.Book.{Book}
+use Rattle.auction_rules.specs.BookOfLog.{book_of_log, is_complete}
+use Rattle.auction_rules.specs.Replies.{reply_to}
+use Rattle.auction_rules.specs.State.{DeskState, state_of}
+use Rattle.auction_rules.specs.Terms.{Terms}
+use Rattle.auction_rules.specs.declared.Event.{Event}
+use Rattle.auction_rules.specs.declared.Event.TheVariants.{Close}
+use Rattle.auction_rules.specs.declared.Reply.{Reply}
+use Rattle.auction_rules.specs.declared.Reply.TheVariants as reply
+use Rattle.auction_rules.specs.declared.Stage.{Stage}
+use Rattle.auction_rules.specs.declared.Stage.TheVariants as stage
+use Rattle.bid_desk.specs.DeskValue.{round_in}
+use Rattle.log_file.specs.ReplyText.{reply_line}
+use Rattle.log_file.specs.declared.CloseDone.{CloseDone}
+use Rattle.log_file.specs.declared.CloseDone.TheVariants as done
+use Rattle.log_replay.specs.declared.results.ReplayStop.{ReplayStop}
+use Rattle.log_replay.specs.declared.results.ReplayStop.TheVariants.{Rounds, Price, Open}
+
+-- what an admitted close did, by the stage behind it and the number of the round that is posted there
+abbrev pub done_at : Stage → ℕ → CloseDone
+done_at stage.Clock round = done.Round round
+done_at stage.Sealed round = done.Sealed
+done_at stage.Closed round = done.Closed
+
+-- the same by the state behind it
+abbrev pub done_in : DeskState → CloseDone
+done_in after = done_at after.stage (round_in after)
+
+-- what a line did that got this reply and led to this state: something is told of an admitted close alone
+abbrev pub done_by : Event → Reply → DeskState → Option CloseDone
+done_by Close reply.Ok after = Some (done_in after)
+done_by line answer after = None
+
+-- the line that is printed of the line of this number with this reply, which led to this state
+abbrev pub line_of : ℕ → Event → Reply → DeskState → List ℕ
+line_of number line answer after = reply_line number answer (done_by line answer after) after.prices
+
+-- the reply lines of a log, in the order of its lines, which are numbered from 1
+abbrev pub reply_lines : Terms → List Event → List ℕ
+reply_lines terms [] = []
+reply_lines terms (line ∷ log) = reply_lines terms log ++ line_of (suc (length log)) line (reply_to terms log line) (state_of terms (line ∷ log))
+
+-- The limit for which a close is refused: rounds, of which there would be one more than there may be, or a price, with what it would be
+-- raised to. A draft that is refused for a full list meets no limit of the auction.
+abbrev pub refusal_of : Event → Reply → Option ReplayStop
+refusal_of Close (reply.Full count) = Some (Rounds (suc MOST_ROUNDS))
+refusal_of Close (reply.PriceTop category price) = Some (Price price)
+refusal_of line answer = None
+
+-- that of the first close of a log that is refused for a limit
+abbrev pub first_refusal : Terms → List Event → Option ReplayStop
+first_refusal terms [] = None
+first_refusal terms (line ∷ log) = option_or (first_refusal terms log) (refusal_of line (reply_to terms log line))
+
+-- the book of a complete log
+abbrev pub book_or_open : Terms → List Event → Result Book ReplayStop
+book_or_open terms log = if is_complete terms log then Ok (book_of_log terms log) else Err Open
+
+-- the limit that was met, or what else there is
+abbrev pub stopped_or : Option ReplayStop → Result Book ReplayStop → Result Book ReplayStop
+stopped_or (Some stop) result = Err stop
+stopped_or None result = result
+
+-- what a log leads to: its book, or why there is none
+abbrev pub end_of : Terms → List Event → Result Book ReplayStop
+end_of terms log = stopped_or (first_refusal terms log) (book_or_open terms log)

@@ -1,0 +1,115 @@
+// One line of a log after the other.
+ghost use Rattle.std.specs.Prelude.{◌≡◌, [], IfOk, OnOk};
+ghost use Rattle.std.specs.Option.{option_or};
+ghost use Rattle.auction_rules.specs.Lawful.{HasCategories};
+ghost use Rattle.log_replay.specs.Course.{Answers, IsCourse, TakesLine};
+ghost use Rattle.log_replay.specs.ReplyLines.{done_by, done_in, line_of, refusal_of};
+
+use crate::ReplayStop;
+use auction_rules::{Event, Reply, Stage};
+use award_file::Award;
+use bid_desk::Desk;
+use limits::MOST_ROUNDS;
+use log_file::{CloseDone, reply_line};
+use std::alloc::{AllocError, Global};
+use wide_num::Text;
+
+/// How far a replay is: the desk, the lines of the replies, and the first limit for which a close was refused.
+#[derive(Drop)]
+pub struct Course {
+    pub desk: Desk,
+    pub replies: Text,
+    pub stop: Option<ReplayStop>,
+}
+
+/// The replay of an award at which no line has been taken.
+pub fn start(alloc: Global, award: Award) -> Result<Course, AllocError>
+    ensures { IfOk result (IsCourse award []) }
+{
+    let desk = Desk::new(alloc, award)?;
+    Ok(Course {
+        desk,
+        replies: Text::new(alloc),
+        stop: None,
+    })
+}
+
+/// Takes the line of this number, counted from 1. The only error is want of memory.
+pub fn take_line(
+    alloc: Global,
+    course: &mut Course,
+    number: u64,
+    line: &Event,
+) -> Result<(), AllocError>
+    requires { HasCategories course.old.desk.terms line.now }
+    ensures { OnOk result (TakesLine course.old number line.now course.new) }
+{
+    let reply = answer(alloc, &mut course.desk, line)?;
+    let text = text_of(alloc, &course.desk, number, line, reply)?;
+    course.replies.add(text.items())?;
+    course.stop = course.stop.or(refusal_of(line, reply));
+    Ok(())
+}
+
+/// What the desk answers to a line.
+fn answer(alloc: Global, desk: &mut Desk, line: &Event) -> Result<Reply, AllocError>
+    requires { HasCategories desk.old.terms line.now }
+    ensures { IfOk result (λ reply. Answers desk.old line.now reply desk.new) }
+{
+    match desk.take(alloc, line) {
+        Reply::Memory => Err(AllocError),
+        reply => Ok(reply),
+    }
+}
+
+/// The line that is printed of a line that got this reply and led to this desk.
+fn text_of(
+    alloc: Global,
+    desk: &Desk,
+    number: u64,
+    line: &Event,
+    reply: Reply,
+) -> Result<Text, AllocError>
+    ensures { IfOk result (λ text. text ≡ line_of number line.now reply desk.now) }
+{
+    let text = reply_line(
+        alloc,
+        number,
+        &reply,
+        done_by(desk, line, reply),
+        desk.prices(),
+    )?;
+    Ok(text)
+}
+
+/// What the line did that led to this desk, where it is an admitted close.
+fn done_by(desk: &Desk, line: &Event, reply: Reply) -> Option<CloseDone>
+    ensures { result ≡ done_by line.now reply desk.now }
+{
+    match (line, reply) {
+        (Event::Close, Reply::Ok) => Some(done_in(desk)),
+        _ => None,
+    }
+}
+
+/// What the close did that led to this desk.
+fn done_in(desk: &Desk) -> CloseDone
+    ensures { result ≡ done_in desk.now }
+{
+    match desk.stage() {
+        Stage::Clock => CloseDone::Round(desk.round()),
+        Stage::Sealed => CloseDone::Sealed,
+        Stage::Closed => CloseDone::Closed,
+    }
+}
+
+/// The limit for which the line was refused, where it is a close.
+fn refusal_of(line: &Event, reply: Reply) -> Option<ReplayStop>
+    ensures { result ≡ refusal_of line.now reply }
+{
+    match (line, reply) {
+        (Event::Close, Reply::Full(_)) => Some(ReplayStop::Rounds(MOST_ROUNDS + 1)),
+        (Event::Close, Reply::PriceTop { price, .. }) => Some(ReplayStop::Price(price)),
+        _ => None,
+    }
+}
