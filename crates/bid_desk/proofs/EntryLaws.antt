@@ -1,6 +1,5 @@
 -- Lists of entries in the order of their packages: the place of a package in them.
-use Rattle.std.proofs.Common.{◌≡◌, ◌⊎◌, ℕ, zero, suc, ◌+◌, ◌<◌, ◌≤◌, Bool, true, false, not, ◌||◌, List, [], ◌∷◌, ◌++◌, length, map, get_or, set, refl, sym, subst, ◌∙◌, ap, inl, inr, arith}
-use Rattle.std.specs.Prelude.{sum, filter}
+use Rattle.std.proofs.Common.{◌≡◌, ℕ, zero, suc, ◌<◌, ◌≤◌, true, false, List, [], ◌∷◌, length, map, set, refl, sym, subst, ◌∙◌, ap, inl, inr, arith}
 use Rattle.std.specs.List.{All, AllByRecursion, insert, remove}
 use Rattle.std.proofs.lemmas.Bool.{cases_Bool, false≢true}
 use Rattle.std.proofs.lemmas.List.{length-map, map-set}

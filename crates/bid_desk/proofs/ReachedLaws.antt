@@ -1,5 +1,5 @@
 -- What a desk that stands for a log has for each bidder of the award.
-use Rattle.std.proofs.Common.{◌≡◌, ℕ, zero, suc, ◌-◌, ◌<◌, ◌≤◌, false, List, [], ◌∷◌, None, length, map, refl, sym, subst, ap, ◌∙◌, arith}
+use Rattle.std.proofs.Common.{◌≡◌, ℕ, zero, suc, ◌≤◌, false, List, [], ◌∷◌, None, length, map, refl, sym, subst, ◌∙◌, arith}
 use Rattle.std.specs.Prelude.{sum}
 use Rattle.std.specs.List.{AllByRecursion}
 use Rattle.std.proofs.lemmas.List.{length-map}
@@ -7,7 +7,6 @@ use Rattle.auction_model.specs.Book.{BookBid}
 use Rattle.auction_model.specs.Package.{cost_of}
 use Rattle.auction_rules.specs.declared.Event.{Event}
 use Rattle.auction_rules.specs.Terms.{Terms, entrant, final_cap}
-use Rattle.auction_rules.specs.Rounds.{OwnRound}
 use Rattle.auction_rules.specs.Caps as caps
 use Rattle.auction_rules.specs.Caps.{list_fault}
 use Rattle.auction_rules.specs.Lawful.{HasCategories, IsDraft, AreDrafts}
@@ -35,7 +34,7 @@ unfolding state_of
 drafts-count terms log = length-listing (λ j. draft_list j (admitted terms log)) (length terms.bidders)
 
 -- there is a submitted list for each bidder
-submitted-count : (terms : Terms) (log : List Event) → length (state_of terms log).submitted ≡ length terms.bidders
+pub submitted-count : (terms : Terms) (log : List Event) → length (state_of terms log).submitted ≡ length terms.bidders
 unfolding state_of
 submitted-count terms log = length-listing (λ j. submitted_list j (admitted terms log)) (length terms.bidders)
 

@@ -6,7 +6,6 @@ use Rattle.std.proofs.Math.Seq.{map-set_same}
 use Rattle.auction_model.specs.Book.{BookBid}
 use Rattle.auction_rules.specs.declared.Event.{Event}
 use Rattle.auction_rules.specs.declared.Event.TheVariants.{Draft, Drop, Submit}
-use Rattle.auction_rules.specs.declared.Reply.{Reply}
 use Rattle.auction_rules.specs.declared.Reply.TheVariants as reply
 use Rattle.auction_rules.specs.Lines.{with_entry, without_entry}
 use Rattle.auction_rules.specs.declared.Stage.{Stage}

@@ -1,5 +1,5 @@
 -- What a desk that answers and takes a line by its state does with the log that it stands for.
-use Rattle.std.proofs.Common.{◌≡◌, ◌≢◌, ◌⊎◌, ℕ, Bool, true, false, List, [], ◌∷◌, Option, Some, None, refl, sym, ap, subst, ◌∙◌, inl, inr}
+use Rattle.std.proofs.Common.{◌≡◌, ◌≢◌, ◌⊎◌, ℕ, Bool, true, false, List, [], ◌∷◌, Option, Some, None, refl, sym, ap, ◌∙◌, inl, inr}
 use Rattle.std.proofs.lemmas.Bool.{cases_Bool}
 use Rattle.std.specs.Prelude.{not, ◌&&◌, length, nat_le, nat_lt}
 use Rattle.auction_model.specs.Package.{cost_of, is_within}
@@ -15,7 +15,7 @@ use Rattle.auction_rules.specs.Terms.{broken_cap}
 use Rattle.auction_rules.specs.View.{view}
 use Rattle.auction_rules.proofs.Stands.{reply_in-state_of, state_with-state_of}
 use Rattle.auction_rules.proofs.Views.{reply_to-same_view}
-use Rattle.bid_desk.specs.Reached.{IsBidOrDrop, IsRefusedMemory, IsTaken, IsTakenOrMemory, StandsNext, StandsWith, Takes}
+use Rattle.bid_desk.specs.Reached.{IsBidOrDrop, IsTaken, IsTakenOrMemory, StandsNext, Takes}
 
 -- the reply Ok
 ok-is : (r : Reply) → is_ok_reply r ≡ true → r ≡ reply.Ok

@@ -12,9 +12,13 @@ use Rattle.clock_stage.specs.Kept.{bidders_in, categories_in}
 use Rattle.relative_cap.specs.OwnRounds.{rounds_of}
 use Rattle.bid_desk.specs.Lists.{IsKept, Lists}
 
--- the list with the greater of the bid's amount and the list's own for its package; a bid for the empty package changes nothing
+-- the list with the greater of this amount and the list's own for the package
+abbrev pub with_greater : List ℕ → ℕ → List BookBid → List BookBid
+with_greater lots amount list = with_entry lots (max amount (greatest lots list)) list
+
+-- the list with a bid, unless that is for the empty package
 abbrev pub with_most : BookBid → List BookBid → List BookBid
-with_most b list = if is_empty b.lots then list else with_entry b.lots (max b.amount (greatest b.lots list)) list
+with_most b list = if is_empty b.lots then list else with_greater b.lots b.amount list
 
 -- a list of so many categories that may stand in a book: no entry is for the empty package
 pub record IsBooked (categories : ℕ) (list : List BookBid) : Type 0 where
@@ -22,8 +26,8 @@ pub record IsBooked (categories : ℕ) (list : List BookBid) : Type 0 where
   pub some : AllByRecursion (λ b. is_empty b.lots ≡ false) list
 
 -- the submitted list
-abbrev pub submitted_of : Lists → List BookBid
-submitted_of lists = lists.submitted
+abbrev pub submitted_in : Lists → List BookBid
+submitted_in lists = lists.submitted
 
 -- the bids of bidder j in the book, by the closed rounds and the submitted lists of all bidders
 abbrev pub bids_by : List Round → List (List BookBid) → ℕ → List BookBid

@@ -1,15 +1,14 @@
 // The book.
-ghost use Rattle.std.specs.Prelude.{◌≡◌, ◌≤◌, ◌++◌, max, IfOk, OnOk, length, map};
+ghost use Rattle.std.specs.Prelude.{◌≡◌, ◌≤◌, ◌++◌, IfOk, OnOk, length, map};
 ghost use Rattle.book_form.specs.BookLines.{IsBookWithinLimits};
 ghost use Rattle.auction_rules.specs.BookOfLog.{best_bids, book_bidder, book_by};
-ghost use Rattle.auction_rules.specs.Caps.{clock_bid, greatest};
-ghost use Rattle.auction_rules.specs.Lines.{with_entry};
+ghost use Rattle.auction_rules.specs.Caps.{clock_bid};
 ghost use Rattle.auction_rules.specs.Rounds.{listing};
 ghost use Rattle.auction_rules.specs.Terms.{entrant};
 ghost use Rattle.clock_stage.specs.Kept.{categories_in};
 ghost use Rattle.relative_cap.specs.Asked.{IsBidderOf};
 ghost use Rattle.relative_cap.specs.OwnRounds.{bid_value, own_in, rounds_of};
-ghost use Rattle.bid_desk.specs.BookBids.{AreBooked, IsBooked, bids_by, submitted_of, with_most};
+ghost use Rattle.bid_desk.specs.BookBids.{AreBooked, IsBooked, bids_by, submitted_in, with_greater, with_most};
 ghost use Rattle.bid_desk.specs.Lists.{IsKept};
 
 use crate::lists::BidderLists;
@@ -29,15 +28,15 @@ fn put_most(
     amount: u64,
 ) -> Result<(), AllocError>
     requires { IsKept (length «package».now) (map bid_value list.old.items) }
-    ensures { OnOk result (map bid_value list.new.items ≡ with_entry «package».now (max amount (greatest «package».now (map bid_value list.old.items))) (map bid_value list.old.items)) }
+    ensures { OnOk result (map bid_value list.new.items ≡ with_greater «package».now amount (map bid_value list.old.items)) }
 {
     let most = amount.max(amount_listed(list, package));
     put_entry(alloc, list, package, most)?;
     Ok(())
 }
 
-/// Puts the clock bid of bidder `j` in round `r` into the list, unless it is for the empty package or the list has as much for its
-/// package.
+/// Puts the clock bid of bidder `j` in round `r` into the list, unless it is for the empty package or the list's own amount is
+/// greater.
 fn put_clock_bid(
     alloc: Global,
     history: &History,
@@ -116,8 +115,8 @@ fn bidders_of(
     history: &History,
     lists: &[BidderLists],
 ) -> Result<Bidders, AllocError>
-    requires { AreBooked award.now history.now (map submitted_of lists.now) }
-    ensures { IfOk result (λ b. b ≡ listing (book_bidder award.now (bids_by history.now (map submitted_of lists.now))) (length award.now.bidders)) }
+    requires { AreBooked award.now history.now (map submitted_in lists.now) }
+    ensures { IfOk result (λ b. b ≡ listing (book_bidder award.now (bids_by history.now (map submitted_in lists.now))) (length award.now.bidders)) }
 {
     let _most = award.bidders();
     let mut bidders = Bidders::new(alloc);
@@ -156,9 +155,9 @@ pub fn book_of(
     history: &History,
     lists: &[BidderLists],
 ) -> Result<BidBook, AllocError>
-    requires booked { AreBooked award.now history.now (map submitted_of lists.now) }
-    requires limits { IsBookWithinLimits (book_by award.now (bids_by history.now (map submitted_of lists.now))) }
-    ensures { IfOk result (λ book. book ≡ book_by award.now (bids_by history.now (map submitted_of lists.now))) }
+    requires booked { AreBooked award.now history.now (map submitted_in lists.now) }
+    requires limits { IsBookWithinLimits (book_by award.now (bids_by history.now (map submitted_in lists.now))) }
+    ensures { IfOk result (λ book. book ≡ book_by award.now (bids_by history.now (map submitted_in lists.now))) }
 {
     let supply = supply_copied(alloc, award.supply())?;
     let reserves = reserves_copied(alloc, award.reserves())?;

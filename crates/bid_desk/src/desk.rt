@@ -23,7 +23,7 @@ ghost use Rattle.bid_desk.specs.Reached.{IsBidOrDrop, IsTaken, IsTakenOrMemory, 
 
 use crate::book::book_of;
 use crate::lists::{BidderLists, empty_lists};
-use auction_rules::{Event, Reply, Stage, desk_book, kept_standings};
+use auction_rules::{Event, Reply, Stage, desk_book};
 use award_file::{Award, book_of_award};
 use bid_book::BidBook;
 use clock_stage::{Clock, Closed, reply_to_package};
@@ -184,7 +184,6 @@ impl Desk {
         requires { self.now.stage ≡ Stage.Closed }
         ensures { IfOk result (λ book. book ≡ book_in self.now) }
     {
-        kept_standings();
         desk_book();
         book_of_award();
         let _kept = self.award.supply();

@@ -1,3 +1,4 @@
+mod Accepted
 mod Appends
 mod Counts
 mod Finished

@@ -1,3 +1,4 @@
 pub mod Gives
 pub mod Run
 pub mod Works
+pub mod Later

@@ -1,17 +1,20 @@
 // What holds of the definitions of a run, whoever runs it.
-ghost use Rattle.std.specs.Prelude.{◌≡◌, ◌<◌, ◌≤◌, ℕ, List, Option, length};
+ghost use Rattle.std.specs.Prelude.{◌≡◌, ◌<◌, ◌≤◌, ◌++◌, ℕ, Bool, false, List, Option, codes, length};
 ghost use Rattle.auction_model.specs.Book.{Book};
 ghost use Rattle.cert_laws.specs.Tests.{bidders_of};
 ghost use Rattle.core_price.specs.Weights.{FewWin, ManyWin};
 ghost use Rattle.limits.specs.declared.TheConstants.{MOST_WINNERS};
 ghost use Rattle.row_laws.specs.Winners.{winners_in};
+ghost use Rattle.cca_inputs.specs.Command.{price, check};
 ghost use Rattle.cca_inputs.specs.Outcome.{Outcome};
-ghost use Rattle.cca_run.specs.Gives.{Gives, ones};
+ghost use Rattle.cca_inputs.specs.declared.status.Status.TheVariants.{Done};
+ghost use Rattle.cca_run.specs.Gives.{FilesGive, Gives, ones};
+ghost use Rattle.cca_run.specs.Later.{HoldsCert};
 
 use auction_model::{book_market, core_outcome, vickrey_prices, winning_choice};
 use bid_book::one_book;
-use cert_form::one_cert;
-use cert_laws::{one_verdict, sound_yes};
+use cert_form::{one_cert, text_of_cert};
+use cert_laws::{one_verdict, short_text, sound_yes};
 use log_file::one_reading;
 use print_form::{one_price_text, one_run_text};
 
@@ -39,3 +42,20 @@ pub fn limit_of_ones()
     ensures few { (book : Book) (z : List ℕ) → length z ≡ bidders_of book → winners_in z ≤ MOST_WINNERS → FewWin z (ones book) }
     ensures many { (book : Book) (z : List ℕ) → length z ≡ bidders_of book → ManyWin z (ones book) → MOST_WINNERS < winners_in z }
 {}
+
+/// What `price` writes, `check` accepts. Where the file of the certificate holds just the text that `price` appended, and that of the
+/// book what it held, `check` gives Done, and nothing else. Without `--rounds` it prints `yes` and then what `price` printed.
+pub fn written_cert_passes()
+    ensures passes { (book cert : List ℕ) (rounds : Bool) (file later : List ℕ → Option (List ℕ)) (o p : Outcome)
+        → FilesGive (price book cert rounds) file o → HoldsCert book cert file later o → FilesGive (check book cert) later p → p.status ≡ Done }
+    ensures prints { (book cert : List ℕ) (file later : List ℕ → Option (List ℕ)) (o p : Outcome)
+        → FilesGive (price book cert false) file o → HoldsCert book cert file later o → FilesGive (check book cert) later p
+        → p.printed ≡ codes "yes\n" ++ o.printed }
+{
+    one_book();
+    one_cert();
+    text_of_cert();
+    short_text();
+    one_verdict();
+    one_price_text();
+}

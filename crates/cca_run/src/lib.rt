@@ -13,7 +13,7 @@ mod win;
 mod work;
 
 pub use cca_inputs::{FileKind, Status};
-pub use laws::{limit_of_ones, one_outcome};
+pub use laws::{limit_of_ones, one_outcome, written_cert_passes};
 pub use top::run;
 
 #[cfg(test)]

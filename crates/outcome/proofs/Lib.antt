@@ -10,3 +10,6 @@ mod Vickrey
 mod Revenue
 mod TurnLaws
 mod WinLines
+mod JsonLists
+mod PlainTexts
+mod Reserves

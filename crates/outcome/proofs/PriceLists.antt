@@ -13,7 +13,7 @@ use Rattle.choices.specs.Singles.{winners_after}
 use Rattle.print_form.specs.Prices.{reserve_of, priced_line, ArePricedLines}
 use Rattle.outcome.specs.declared.prices.WinnerPrice.{WinnerPrice}
 use Rattle.outcome.specs.Fractions.{fraction_text}
-use Rattle.outcome.specs.Prices.{IsWinnerPrice, AreWinnerPrices, line_of, lines_of, reserves_of, HasBid}
+use Rattle.outcome.specs.Prices.{IsWinnerPrice, AreWinnerPrices, line_of, lines_of, reserves_of, CanPrintPrice}
 
 parts-of : (z : List ℕ) (k x : ℕ) (c : List ℕ) → x ∷ c ≡ drop k z → (get_or z k 0 ≡ x) × (c ≡ drop (suc k) z)
 parts-of [] zero x c e = absurd (lie e)
@@ -48,7 +48,7 @@ module _ (book : Book) (z : List ℕ) (v : ℕ → ℤ) (p : Point) where
   prices-length (i ∷ js) (x ∷ ws) are = ap suc (prices-length js ws are.1)
 
   -- the choice from a bidder on
-  head-of : (k x : ℕ) (c : List ℕ) → x ∷ c ≡ drop k z → (number_of z (suc k) ≡ x) × (c ≡ drop (suc k) z)
+  pub head-of : (k x : ℕ) (c : List ℕ) → x ∷ c ≡ drop k z → (number_of z (suc k) ≡ x) × (c ≡ drop (suc k) z)
   head-of k x c e = let parts = parts-of z k x c e in let same : suc k - 1 ≡ k = omega arith in (ap (λ (n : ℕ). get_or z n 0) same ∙ parts.0, parts.1)
 
   own-line : (k i : ℕ) (w : WinnerPrice) → number_of z (suc k) ≡ suc i → IsWinnerPrice book z v p (suc k) w
@@ -73,8 +73,8 @@ module _ (book : Book) (z : List ℕ) (v : ℕ → ℤ) (p : Point) where
       )
 
   -- each has a bid of the book
-  pub have-bids : (k : ℕ) (c : List ℕ) (ws : List WinnerPrice) → c ≡ drop k z → IsTrue (is_known_after (menu_of book) k c) → AreWinnerPrices book z v p (winners_after k c) ws → AllByRecursion (HasBid book) ws
-  have-bids k [] ws at known are = subst (AllByRecursion (HasBid book)) (sym are) tt
+  pub have-bids : (k : ℕ) (c : List ℕ) (ws : List WinnerPrice) → c ≡ drop k z → IsTrue (is_known_after (menu_of book) k c) → AreWinnerPrices book z v p (winners_after k c) ws → AllByRecursion (CanPrintPrice book) ws
+  have-bids k [] ws at known are = subst (AllByRecursion (CanPrintPrice book)) (sym are) tt
   have-bids k (zero ∷ c) ws at known are = have-bids (suc k) c ws (head-of k zero c at).1 (and_parts (nat_le 0 (length (bids_of book (suc k)))) (is_known_after (menu_of book) (suc k) c) known).1 are
   have-bids k (suc i ∷ c) [] at known are = absurd are
   have-bids k (suc i ∷ c) (w ∷ ws) at known are =
@@ -85,7 +85,7 @@ module _ (book : Book) (z : List ℕ) (v : ℕ → ℤ) (p : Point) where
       let bid : w.bid ≡ suc i = are.0.bid_is ∙ head.0 in
       let most : suc i ≤ length (bids_of book (suc k)) = leb-true (suc i) (length (bids_of book (suc k))) parts.0 in
       let own : suc i ≤ length (bids_of book w.bidder) = subst (λ (j : ℕ). suc i ≤ length (bids_of book j)) (sym bidder) most in (
-        record { bidder_in = (omega (arith, bidder), omega (arith, bidder, long)); bid_in = (omega (arith, bid), omega (arith, bid, own)) },
+        record { bidder_in = (omega (arith, bidder), omega (arith, bidder, long)); bid_in = (omega (arith, bid), omega (arith, bid, own)); vickrey_small = are.0.vickrey_small },
         have-bids (suc k) c ws head.1 parts.1 are.1,
       )
 

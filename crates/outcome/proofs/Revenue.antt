@@ -1,5 +1,5 @@
 -- The revenue, and the text of an outcome as a whole.
-use Rattle.std.proofs.Common.{◌≡◌, ℕ, zero, suc, ◌-◌, ◌≤◌, IsTrue, List, ◌++◌, codes, length, ℤ, pos, ◌+ℤ◌, ◌*ℤ◌, refl, sym, ap, subst, ◌∙◌, arith}
+use Rattle.std.proofs.Common.{◌≡◌, ℕ, zero, suc, ◌-◌, ◌≤◌, IsTrue, List, ◌++◌, codes, length, ℤ, pos, ◌+ℤ◌, ◌*ℤ◌, refl, sym, ap, ◌∙◌, arith}
 use Rattle.std.proofs.Math.IntN.{*ℤ-zero}
 use Rattle.auction_model.specs.Book.{Book, market_of, menu_of}
 use Rattle.auction_model.specs.Lowered.{of_bidder}
@@ -42,19 +42,19 @@ module _ (book : Book) (z : List ℕ) (v : ℕ → ℤ) (p : Point) (ws : List W
       ap (sum_over everyone (λ j. reserve_of book j (number_of z j))) (sym long) ∙ over-is everyone (λ j. reserve_of book j (number_of z j)) (length z)
       ∙ sym (choice-is (reserve_of book) z) ∙ reserves-are book z v p 0 z ws refl are
 
-  revenue-is : total (length p.at) (nth p.at) +ℤ (p.den *ℤ pos (reserves_of ws)) ≡ revenue_of book z p (length book.bidders)
+  pub revenue-is : total (length p.at) (nth p.at) +ℤ (p.den *ℤ pos (reserves_of ws)) ≡ revenue_of book z p (length book.bidders)
   revenue-is =
       sym (split-sum (of_bidder p.at) (λ j. reserve_of book j (number_of z j)) p.den (length book.bidders)
       ∙ ap (λ (x : ℤ). x +ℤ (p.den *ℤ sum_over everyone (λ j. reserve_of book j (number_of z j)) (length book.bidders))) payments-are
       ∙ ap (λ (x : ℤ). total (length p.at) (nth p.at) +ℤ (p.den *ℤ x)) reserves-sum)
 
-  pub price-text : (revenue : Fraction) (text : List ℕ) → IsFractionOf (total (length p.at) (nth p.at) +ℤ (p.den *ℤ pos (reserves_of ws))) p.den revenue
+  pub price-text : (revenue : Fraction) (text : List ℕ) → IsFractionOf (revenue_of book z p (length book.bidders)) p.den revenue
       → text ≡ lines_of book ws ++ net_line (value_of (market_of book) z) ++ codes "revenue " ++ fraction_text revenue ++ codes "\n"
       → IsPriceText book z v p text
   price-text revenue text is made = (
     lines_of book ws,
     fraction_text revenue,
     lines-are book z v p 0 z ws refl are,
-    (revenue.whole, revenue.rest, revenue.parts, subst (λ (x : ℤ). IsFractionOf x p.den revenue) revenue-is is, refl),
+    (revenue.whole, revenue.rest, revenue.parts, is, refl),
     made,
   )

@@ -11,7 +11,7 @@ use Rattle.print_form.specs.Turns.{ArePoints, IsTurnEnd, IsTurnLine, AreTurnLine
 use Rattle.row_laws.specs.Winners.{winners_in, for_bidders}
 use Rattle.outcome.specs.Turns.{Grows, AreFractions}
 
-nothing-left : {A : Type 0} (i : ℕ) (l : List A) → length l ≤ i → drop i l ≡ []
+pub nothing-left : {A : Type 0} (i : ℕ) (l : List A) → length l ≤ i → drop i l ≡ []
 nothing-left zero [] le = refl
 nothing-left zero (x ∷ l) le = absurd (omega arith)
 nothing-left (suc i) [] le = refl

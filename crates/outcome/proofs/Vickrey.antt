@@ -1,5 +1,5 @@
 -- A Vickrey price by a part of a certificate is put together without leaving the range.
-use Rattle.std.proofs.Common.{◌≡◌, ℕ, zero, suc, ◌+◌, ◌-◌, ◌*◌, ◌<◌, ◌≤◌, ◌^◌, ◌==◌, not, true, cond, IsTrue, length, get_or, ℤ, pos, ◌+ℤ◌, ◌-ℤ◌, ◌*ℤ◌, ◌≤ℤ◌, FitsSigned, to_z, of_z, sym, ap, subst, ◌∙◌, arith}
+use Rattle.std.proofs.Common.{◌≡◌, ℕ, zero, suc, ◌+◌, ◌-◌, ◌*◌, ◌<◌, ◌≤◌, ◌^◌, ◌==◌, not, true, cond, IsTrue, length, get_or, ℤ, pos, ◌+ℤ◌, ◌-ℤ◌, ◌*ℤ◌, ◌≤ℤ◌, FitsSigned, to_z, of_z, unsigned_abs, sym, ap, subst, ◌∙◌, arith}
 use Rattle.std.specs.Int.{w128}
 use Rattle.std.proofs.lemmas.Int.{ints, to_z_pos}
 use Rattle.auction_model.specs.Book.{Book, bids_of, net_of, menu_of, market_of}
@@ -14,6 +14,7 @@ use Rattle.cert_laws.specs.Tests.{vickrey_of}
 use Rattle.cert_text.specs.declared.certificate.Certificate.{Certificate}
 use Rattle.cert_text.specs.declared.certificate.WithoutPart.{WithoutPart}
 use Rattle.cert_text.specs.CertValues.{cert_value}
+use Rattle.limits.specs.declared.TheConstants.{MOST_AMOUNT}
 use Rattle.print_form.specs.Prices.{reserve_of}
 use Rattle.wide_num.specs.Range.{InRange}
 use Rattle.outcome.specs.declared.prices.WinnerPrice.{WinnerPrice}
@@ -32,6 +33,10 @@ some-number (suc n) h = omega arith
 -- a reserve is added
 pub gross-is : (v : ℤ) (r : ℕ) → InRange v → r < 2 ^ 64 → to_z w128 (of_z w128 (to_z w128 (of_z w128 v) +ℤ to_z w128 r)) ≡ v +ℤ pos r
 gross-is v r range small = omega (arith, ints, range, to_z_pos w128 r (omega (arith, small)))
+
+-- a small price with a reserve is small
+gross-small : (x v : ℤ) (r : ℕ) → x ≡ v +ℤ pos r → unsigned_abs v ≤ 2 ^ 47 → r ≤ MOST_AMOUNT → unsigned_abs x ≤ 2 ^ 48
+gross-small x v r e small low = omega (arith, ints, e, small, low)
 
 module _ (book : Book) (c : Certificate) (is : IsPrintable book c) (w : WithoutPart) (part : IsPartOf c w) where
   pub bidder-in_book : (0 < w.winner) × (w.winner ≤ length book.bidders)
@@ -78,12 +83,15 @@ module _ (book : Book) (c : Certificate) (is : IsPrintable book c) (w : WithoutP
           let at : value_of (market_of book) w.choice ≡ value_of (market_of book) (part_of (cert_value c).withouts w.winner).choice = ap (λ (y : WithoutValue). value_of (market_of book) y.choice) (sym part.found) in
           sum ∙ ap (λ (y : ℤ). (y -ℤ c.value) +ℤ n) (value ∙ at) ∙ ap (λ (y : ℤ). (value_of (market_of book) (part_of (cert_value c).withouts w.winner).choice -ℤ c.value) +ℤ y) own-net
 
+      pub price-small : unsigned_abs (to_z w128 (of_z w128 (to_z w128 (of_z w128 (to_z w128 (of_z w128 x) -ℤ to_z w128 (of_z w128 c.value))) +ℤ to_z w128 (of_z w128 n)))) ≤ 2 ^ 47
+      price-small = omega (arith, ints, other.0, other.1, whole.0, whole.1, won-net.0, won-net.1)
+
       pub price-in_range : InRange (to_z w128 (of_z w128 (to_z w128 (of_z w128 (to_z w128 (of_z w128 x) -ℤ to_z w128 (of_z w128 c.value))) +ℤ to_z w128 (of_z w128 n))))
       price-in_range = omega (arith, ints, other.0, other.1, whole.0, whole.1, won-net.0, won-net.1)
 
   -- what is printed of the winner
   module _ (price : WinnerPrice) (v paid : ℤ) (bidder : price.bidder ≡ w.winner) (number : price.bid ≡ number_of c.choice w.winner) (reserve : pos price.reserve ≡ reserve_of book w.winner price.bid)
-      (vickrey : v ≡ vickrey_of book (cert_value c) w.winner) (gross : price.vickrey ≡ v +ℤ pos price.reserve) (own-paid : paid ≡ of_bidder c.pay w.winner)
+      (vickrey : v ≡ vickrey_of book (cert_value c) w.winner) (gross : price.vickrey ≡ v +ℤ pos price.reserve) (small : unsigned_abs v ≤ 2 ^ 47) (low : price.reserve ≤ MOST_AMOUNT) (own-paid : paid ≡ of_bidder c.pay w.winner)
       (pays : IsFractionOf (paid +ℤ (c.den *ℤ pos price.reserve)) c.den price.pays) where
     own-reserve : pos price.reserve ≡ reserve_of book w.winner (number_of c.choice w.winner)
     own-reserve = reserve ∙ ap (reserve_of book w.winner) number
@@ -96,5 +104,6 @@ module _ (book : Book) (c : Certificate) (is : IsPrintable book c) (w : WithoutP
       vickrey_is =
           let used : cert_prices book (cert_value c) w.winner ≡ vickrey_of book (cert_value c) w.winner = ap (λ b. cond b (vickrey_of book (cert_value c) w.winner) (pos 0)) part.wins in
           gross ∙ ap (λ (x : ℤ). x +ℤ pos price.reserve) (vickrey ∙ sym used) ∙ ap (λ (x : ℤ). cert_prices book (cert_value c) w.winner +ℤ x) own-reserve;
+      vickrey_small = gross-small price.vickrey v price.reserve gross small low;
       pays_is = subst (λ (x : ℤ). IsFractionOf x c.den price.pays) (ap (λ (x : ℤ). x +ℤ (c.den *ℤ pos price.reserve)) own-paid ∙ ap (λ (x : ℤ). of_bidder c.pay w.winner +ℤ (c.den *ℤ x)) own-reserve) pays;
     }

@@ -1,5 +1,5 @@
 -- What is printed of each winner, gross.
-use Rattle.std.specs.Prelude.{◌≡◌, ℕ, ◌+◌, ◌<◌, ◌≤◌, length, List, [], ◌∷◌, ◌++◌, ℤ, pos, ◌+ℤ◌}
+use Rattle.std.specs.Prelude.{◌≡◌, ℕ, ◌+◌, ◌<◌, ◌≤◌, ◌^◌, length, List, [], ◌∷◌, ◌++◌, ℤ, pos, ◌+ℤ◌, unsigned_abs}
 use Rattle.auction_model.specs.Book.{Book, bidder_of, bids_of, bid_of}
 use Rattle.auction_model.specs.Market.{number_of}
 use Rattle.auction_model.specs.Prices.{Point}
@@ -13,6 +13,7 @@ pub record IsWinnerPrice (book : Book) (z : List ℕ) (v : ℕ → ℤ) (p : Poi
   pub bid_is : price.bid ≡ number_of z j
   pub reserve_is : pos price.reserve ≡ reserve_of book j (number_of z j)
   pub vickrey_is : price.vickrey ≡ v j +ℤ reserve_of book j (number_of z j)
+  pub vickrey_small : unsigned_abs price.vickrey ≤ 2 ^ 48
   pub pays_is : IsFractionOf (gross_of book z p j) p.den price.pays
 
 -- of these winners, in order
@@ -29,10 +30,11 @@ abbrev pub lines_of : Book → List WinnerPrice → List ℕ
 lines_of book [] = []
 lines_of book (w ∷ ws) = line_of book w ++ lines_of book ws
 
--- its bidder and its bid are in the book
-pub record HasBid (book : Book) (price : WinnerPrice) : Type 0 where
+-- its bidder and its bid are in the book, and its Vickrey price is small
+pub record CanPrintPrice (book : Book) (price : WinnerPrice) : Type 0 where
   pub bidder_in : (0 < price.bidder) × (price.bidder ≤ length book.bidders)
   pub bid_in : (0 < price.bid) × (price.bid ≤ length (bids_of book price.bidder))
+  pub vickrey_small : unsigned_abs price.vickrey ≤ 2 ^ 48
 
 -- the reserves of all winning packages
 abbrev pub reserves_of : List WinnerPrice → ℕ

@@ -3,12 +3,15 @@ ghost use Rattle.std.specs.Prelude.{ℕ, IfOk};
 ghost use Rattle.cert_laws.specs.Sound.{cert_point, cert_prices};
 ghost use Rattle.cert_laws.specs.Tests.{bidders_of, states, C1, C2, C4, C5};
 ghost use Rattle.cert_text.specs.CertValues.{cert_value, IsFor};
+ghost use Rattle.choices.specs.Singles.{winners_after};
 ghost use Rattle.outcome.specs.Certified.{IsPrintable};
-ghost use Rattle.print_form.specs.Prices.{IsPriceText};
+ghost use Rattle.outcome.specs.Fractions.{IsFractionOf};
+ghost use Rattle.outcome.specs.Prices.{AreWinnerPrices};
+ghost use Rattle.print_form.specs.Prices.{IsPriceText, revenue_of};
 
-use crate::add_net;
 use crate::lines::{add_prices, add_revenue, revenue};
-use crate::prices::winner_prices;
+use crate::prices::{WinnerPrice, winner_prices};
+use crate::{Fraction, add_net};
 use bid_book::BidBook;
 use cert_text::Certificate;
 use std::alloc::{AllocError, Global};
@@ -35,11 +38,20 @@ pub(crate) fn printed(alloc: Global, book: &BidBook, cert: &Certificate) -> Resu
     requires { IsPrintable book.now cert.now }
     ensures { IfOk result (λ text. IsPriceText book.now cert.now.choice (cert_prices book.now (cert_value cert.now)) (cert_point (cert_value cert.now)) text) }
 {
-    let _bidders = book.bidders();
     let prices = winner_prices(alloc, book, cert)?;
     let mut text = Text::new(alloc);
     add_prices(&mut text, book, &prices)?;
     add_net(&mut text, cert.value)?;
-    add_revenue(&mut text, revenue(&prices, cert.den, cert.pay.items()))?;
+    add_revenue(&mut text, paid_in_all(book, cert, &prices))?;
     Ok(text)
+}
+
+/// What all winners of a certificate pay, gross.
+pub(crate) fn paid_in_all(book: &BidBook, cert: &Certificate, prices: &[WinnerPrice]) -> Fraction
+    requires cert { IsPrintable book.now cert.now }
+    requires prices { AreWinnerPrices book.now cert.now.choice (cert_prices book.now (cert_value cert.now)) (cert_point (cert_value cert.now)) (winners_after 0 cert.now.choice) prices.now }
+    ensures { IsFractionOf (revenue_of book.now cert.now.choice (cert_point (cert_value cert.now)) (bidders_of book.now)) cert.now.den result }
+{
+    let _bidders = book.bidders();
+    revenue(prices, cert.den, cert.pay.items())
 }

@@ -1,10 +1,12 @@
-//! The printed texts of an auction: its winners, and where it is priced their prices and the turns that led to them.
+//! The printed texts of an auction: its winners, and where it is priced their prices and the turns that led to them, in lines or as JSON.
 //!
 //! Prices are kept net of reserve and are printed gross: the reserve of a winner's package is added.
 #![tactic(auto)]
 
 mod certified;
 mod fraction;
+mod json;
+mod json_values;
 mod lines;
 mod numbers;
 mod prices;
@@ -13,9 +15,12 @@ mod win;
 
 pub use certified::outcome_text;
 use fraction::{Fraction, add_fraction};
+pub use json::outcome_json;
 use numbers::{add_net, add_numbers};
 pub use turns::rounds_text;
 pub use win::win_text;
 
+#[cfg(test)]
+mod json_tests;
 #[cfg(test)]
 mod tests;

@@ -4,7 +4,7 @@ ghost use Rattle.std.specs.List.{AllByRecursion};
 ghost use Rattle.wide_num.specs.Sums.{nth, total};
 ghost use Rattle.wide_num.specs.Range.{InRange};
 ghost use Rattle.outcome.specs.Fractions.{IsFractionOf, fraction_text};
-ghost use Rattle.outcome.specs.Prices.{line_of, lines_of, reserves_of, HasBid};
+ghost use Rattle.outcome.specs.Prices.{line_of, lines_of, reserves_of, CanPrintPrice};
 
 use crate::prices::WinnerPrice;
 use crate::{Fraction, add_fraction, add_numbers};
@@ -19,7 +19,7 @@ pub(crate) fn add_prices(
     book: &BidBook,
     prices: &[WinnerPrice],
 ) -> Result<(), AllocError>
-    requires { AllByRecursion (HasBid book.now) prices.now }
+    requires { AllByRecursion (CanPrintPrice book.now) prices.now }
     ensures { OnOk result (text.new ≡ text.old ++ lines_of book.now prices.now) }
 {
     for price in prices {
@@ -29,7 +29,7 @@ pub(crate) fn add_prices(
 }
 
 fn add_price(text: &mut Text, book: &BidBook, price: &WinnerPrice) -> Result<(), AllocError>
-    requires { HasBid book.now price.now }
+    requires { CanPrintPrice book.now price.now }
     ensures { OnOk result (text.new ≡ text.old ++ line_of book.now price.now) }
 {
     let bid = book.bid(price.bidder, price.bid);

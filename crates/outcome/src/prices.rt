@@ -1,10 +1,11 @@
 // What is printed of each winner.
-ghost use Rattle.std.specs.Prelude.{◌≡◌, ◌≤◌, ◌<◌, pos, length, IfOk};
+ghost use Rattle.std.specs.Prelude.{◌≡◌, ◌≤◌, ◌<◌, ◌^◌, pos, length, IfOk, unsigned_abs};
 ghost use Rattle.auction_model.specs.Book.{bids_of};
 ghost use Rattle.cert_laws.specs.Sound.{cert_point, cert_prices};
 ghost use Rattle.cert_laws.specs.Tests.{vickrey_of};
 ghost use Rattle.cert_text.specs.CertValues.{cert_value};
 ghost use Rattle.choices.specs.Singles.{winners_after};
+ghost use Rattle.limits.specs.declared.TheConstants.{MOST_AMOUNT};
 ghost use Rattle.print_form.specs.Prices.{reserve_of};
 ghost use Rattle.wide_num.specs.Range.{InRange};
 ghost use Rattle.outcome.specs.Certified.{IsPrintable, IsPartOf};
@@ -72,6 +73,7 @@ fn vickrey(book: &BidBook, cert: &Certificate, part: &WithoutPart) -> i128
     requires part { IsPartOf cert.now part.now }
     ensures price { result ≡ vickrey_of book.now (cert_value cert.now) part.now.winner }
     ensures range { InRange result }
+    ensures small { unsigned_abs result ≤ 2 ^ 47 }
 {
     let _bidders = book.bidders();
     let bid = cert.choice.number(part.winner);
@@ -82,7 +84,8 @@ fn vickrey(book: &BidBook, cert: &Certificate, part: &WithoutPart) -> i128
 fn reserve(book: &BidBook, j: u16, i: u16) -> u64
     requires bidder { (0 < j) × (j ≤ length book.now.bidders) }
     requires bid { (0 < i) × (i ≤ length (bids_of book.now j)) }
-    ensures { pos result ≡ reserve_of book.now j i }
+    ensures reserve { pos result ≡ reserve_of book.now j i }
+    ensures small { result ≤ MOST_AMOUNT }
 {
     let _supply = book.supply();
     let bid = book.bid(j, i);

@@ -15,7 +15,7 @@ use std::alloc::{AllocError, Global};
 use std::test::Fail;
 use wide_num::{NumList, Text};
 
-fn choice_of(alloc: Global, numbers: &[u16]) -> Result<Choice, AllocError>
+pub fn choice_of(alloc: Global, numbers: &[u16]) -> Result<Choice, AllocError>
     ensures { IfOk result (λ choice. choice ≡ numbers.now) }
 {
     let mut list = Numbers::new(alloc);
@@ -25,7 +25,7 @@ fn choice_of(alloc: Global, numbers: &[u16]) -> Result<Choice, AllocError>
     Ok(Choice::new(list))
 }
 
-fn list_of(alloc: Global, numbers: &[i128]) -> Result<NumList, AllocError>
+pub fn list_of(alloc: Global, numbers: &[i128]) -> Result<NumList, AllocError>
     ensures { IfOk result (λ list. list ≡ numbers.now) }
 {
     let numbers = Vec::from_slice(alloc, numbers)?;
@@ -140,7 +140,7 @@ fn zeros(alloc: Global) -> Result<Grid, AllocError>
 }
 
 // Of one bidder that wins with its first bid, of net amount 15, and pays 21 over 2. The text doesn't speak of the tables.
-fn one_winner(alloc: Global) -> Result<Certificate, AllocError>
+pub fn one_winner(alloc: Global) -> Result<Certificate, AllocError>
     ensures numbers { IfOk result (λ c. (c.den ≡ pos 2) × (c.value ≡ pos 15) × (c.choice ≡ 1 ∷ []) × (c.pay ≡ pos 21 ∷ [])) }
     ensures part { IfOk result (λ c. map without_value c.withouts ≡ record { winner = 1; choice = 0 ∷ []; table = (pos 0 ∷ pos 0 ∷ []) ∷ (pos 0 ∷ pos 0 ∷ []) ∷ [] } ∷ []) }
 {

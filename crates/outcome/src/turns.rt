@@ -33,8 +33,8 @@ pub fn rounds_text(alloc: Global, winners: &Choice, turns: &[Turn]) -> Result<Te
     Ok(text)
 }
 
-// The line of the turn of this number.
-fn add_turn(
+/// Adds the line of the turn of this number.
+pub(crate) fn add_turn(
     alloc: Global,
     text: &mut Text,
     winners: &Choice,

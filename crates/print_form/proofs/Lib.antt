@@ -1,6 +1,7 @@
 mod AlikeBlocks
 mod AlikePoints
 mod FractionLaws
+mod JsonLaws
 mod PriceTextLaws
 mod RunTextLaws
 mod SameTurns

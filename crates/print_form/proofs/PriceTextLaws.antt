@@ -17,7 +17,7 @@ more x y a b r same = omega (arith, lin, same, *ℤ_comm (x +ℤ (a *ℤ r)) b, 
 
 module _ (book : Book) (z : List ℕ) (v w : ℕ → ℤ) (p q : Point) (dp : pos 1 ≤ℤ p.den) (dq : pos 1 ≤ℤ q.den) (same : SamePoint (market_of book) p q)
     (agree : (j : ℕ) → 0 < j → j ≤ (market_of book).bidders → v j ≡ w j) where
-  same-gross : (j : ℕ) → 0 < j → j ≤ (market_of book).bidders → gross_of book z p j *ℤ q.den ≡ gross_of book z q j *ℤ p.den
+  pub same-gross : (j : ℕ) → 0 < j → j ≤ (market_of book).bidders → gross_of book z p j *ℤ q.den ≡ gross_of book z q j *ℤ p.den
   same-gross j some inside = more (of_bidder p.at j) (of_bidder q.at j) p.den q.den (reserve_of book j _) (same j some inside)
 
   same-line : (k i : ℕ) (pays pays' rest rest' : List ℕ) → suc k ≤ (market_of book).bidders → pays ≡ pays' → rest ≡ rest'

@@ -47,7 +47,7 @@ module _ (m : Market) (z : List ℕ) (long : length z ≡ m.bidders) where
       ∙ ap (λ (l : List ℕ). codes " row" ++ numbers_text (members_of c.row.members (length z)) ++ codes " choice" ++ numbers_text c.choice ++ codes " excess " ++ l ++ codes "\n") excess
       ∙ sym those.2
 
-  same-line : (number : ℕ) (turn other : Turn) → IsSameTurn m turn other → (t u : List ℕ) → IsTurnLine z number turn t → IsTurnLine z number other u → t ≡ u
+  pub same-line : (number : ℕ) (turn other : Turn) → IsSameTurn m turn other → (t u : List ℕ) → IsTurnLine z number turn t → IsTurnLine z number other u → t ≡ u
   same-line number turn other same t u these those =
       let points : these.0 ≡ those.0 = same-points turn.point other.point same.positive same.also_positive same.points 0 z these.0 those.0 (omega arith) these.2 those.2 in
       let ends : these.1 ≡ those.1 = same-end turn.point.den other.point.den same.positive same.also_positive turn.block other.block same.ends these.1 those.1 these.3 those.3 in
@@ -75,7 +75,7 @@ same-last m (turn ∷ t ∷ turns) (other ∷ o ∷ others) same p q these those
 
 -- the runs of one choice
 module _ (m : Market) (law : IsMarket m) (w : ℕ → ℕ) (z : List ℕ) (v : ℕ → ℤ) (prices : AreVickreyPrices m z v) (runs others : List Turn) (a : IsPricingRun m w z runs) (b : IsPricingRun m w z others) where
-  same-runs : AreSameTurns m runs others
+  pub same-runs : AreSameTurns m runs others
   same-runs = same-turns m law w z v runs others (single_rows v 0 z) (single_rows v 0 z) (all-own m (single_rows v 0 z)) (a.turns_of v prices) (b.turns_of v prices)
 
   pub same-text : (t u : List ℕ) → AreTurnLines z 0 runs t → AreTurnLines z 0 others u → t ≡ u

@@ -1,10 +1,13 @@
 -- What fractions, prices and turns print, by hand.
 use Rattle.std.proofs.Common.{◌≡◌, ℕ, zero, suc, ◌+◌, ◌*◌, List, [], ◌∷◌, Some, None, not, ◌==◌, pos, codes, refl, ap, arith}
 use Rattle.std.specs.Fmt.{digits}
+use Rattle.serde_json.specs.Data.{Data, Members, member, object, string}
+use Rattle.serde_json.proofs.OnLiterals.{serde_json_on_literals}
 use Rattle.auction_model.specs.Book.{Book, BookBid}
 use Rattle.auction_model.specs.Prices.{Point}
 use Rattle.auction_model.specs.PricingRun.{Turn}
 use Rattle.print_form.specs.Fractions.{IsFractionText, parts_text}
+use Rattle.print_form.specs.Json.{AreWinners, IsOutcomeJson, amount_json, winner_json, with_winners}
 use Rattle.print_form.specs.Prices.{IsPriceText}
 use Rattle.print_form.specs.Turns.{ArePoints, AreTurnLines}
 
@@ -78,3 +81,35 @@ lines =
       (codes "round 2 point 3+1/2 4 end\n", [], (codes " 3+1/2 4", codes " end\n", at, refl, refl), refl, refl),
       refl,
     )
+
+-- ---- JSON
+first : Data
+first = winner_json (codes "a") (record { lots = 1 ∷ []; amount = 25 }) (pos 12) (codes "13+1/2")
+
+second : Data
+second = winner_json (codes "c") (record { lots = 1 ∷ []; amount = 30 }) (pos 12) (codes "14")
+
+winners : AreWinners book (1 ∷ 0 ∷ 1 ∷ []) (λ j. pos 2) point 0 (1 ∷ 0 ∷ 1 ∷ []) (first ∷ second ∷ [])
+unfolding digits book bids point first second
+winners = (codes "13+1/2", second ∷ [], half 27 13 (codes "13+1/2") refl refl, (codes "14", [], even 28 14 (codes "14") refl refl, refl, refl), refl)
+
+-- the members of the outcome behind the revenue
+rest : Members
+rest = with_winners (first ∷ second ∷ [])
+
+json : IsOutcomeJson book (1 ∷ 0 ∷ 1 ∷ []) (λ j. pos 2) point None
+    (codes "{\"net\":35,\"revenue\":\"27+1/2\",\"winners\":[{\"bid\":25,\"name\":\"a\",\"package\":[1],\"pays\":\"13+1/2\",\"vickrey\":12},{\"bid\":30,\"name\":\"c\",\"package\":[1],\"pays\":\"14\",\"vickrey\":12}]}\n")
+unfolding serde_json_on_literals digits book bids point first second rest
+json = (
+  object (member (codes "net") (amount_json (pos 35)) (member (codes "revenue") (string (codes "27+1/2")) rest)),
+  record {
+    winners = first ∷ second ∷ [];
+    are_winners = winners;
+    revenue = codes "27+1/2";
+    is_revenue = half 55 27 (codes "27+1/2") refl refl;
+    last = rest;
+    are_last = refl;
+    whole = refl;
+  },
+  refl,
+)

@@ -4,13 +4,14 @@
 //! is kept.
 #![tactic(auto)]
 
-ghost use Rattle.std.specs.Prelude.{◌≡◌, ℕ, ◌<◌, ◌≤◌, List, length, ℤ, pos, ◌*ℤ◌, ◌≤ℤ◌};
+ghost use Rattle.std.specs.Prelude.{◌≡◌, ℕ, ◌<◌, ◌≤◌, List, Option, Some, None, length, ℤ, pos, ◌*ℤ◌, ◌≤ℤ◌};
 ghost use Rattle.auction_model.specs.Book.{Book, market_of};
 ghost use Rattle.auction_model.specs.Lawful.{IsMarket};
 ghost use Rattle.auction_model.specs.Market.{Market};
 ghost use Rattle.auction_model.specs.Prices.{Point, SamePoint};
 ghost use Rattle.auction_model.specs.PricingRun.{Turn, IsPricingRun};
 ghost use Rattle.print_form.specs.Fractions.{IsFractionText};
+ghost use Rattle.print_form.specs.Json.{IsOutcomeJson};
 ghost use Rattle.print_form.specs.Prices.{IsPriceText};
 ghost use Rattle.print_form.specs.Turns.{AreTurnLines};
 ghost use Rattle.row_laws.specs.Turns.{IsLastPoint};
@@ -35,6 +36,20 @@ pub fn one_run_text()
         → AreTurnLines z 0 runs t → AreTurnLines z 0 others u → t ≡ u }
     ensures last_points { (m : Market) (w : ℕ → ℕ) (z : List ℕ) (runs others : List Turn) (p q : Point) → IsMarket m → IsPricingRun m w z runs → IsPricingRun m w z others
         → IsLastPoint runs p → IsLastPoint others q → SamePoint m p q }
+{
+    vickrey_prices();
+}
+
+/// An outcome has one JSON text: without turns it depends on the points and the Vickrey prices alone, and with the turns of pricing on
+/// the market, the weights and the winning choice beside them.
+pub fn one_outcome_json()
+    ensures plain { (book : Book) (z : List ℕ) (v w : ℕ → ℤ) (p q : Point) (t u : List ℕ) → length z ≡ (market_of book).bidders → pos 1 ≤ℤ p.den → pos 1 ≤ℤ q.den
+        → SamePoint (market_of book) p q → ((j : ℕ) → 0 < j → j ≤ (market_of book).bidders → v j ≡ w j)
+        → IsOutcomeJson book z v p None t → IsOutcomeJson book z w q None u → t ≡ u }
+    ensures rounds { (book : Book) (weights : ℕ → ℕ) (z : List ℕ) (v w : ℕ → ℤ) (p q : Point) (runs others : List Turn) (t u : List ℕ) → length z ≡ (market_of book).bidders
+        → pos 1 ≤ℤ p.den → pos 1 ≤ℤ q.den → SamePoint (market_of book) p q → ((j : ℕ) → 0 < j → j ≤ (market_of book).bidders → v j ≡ w j)
+        → IsMarket (market_of book) → IsPricingRun (market_of book) weights z runs → IsPricingRun (market_of book) weights z others
+        → IsOutcomeJson book z v p (Some runs) t → IsOutcomeJson book z w q (Some others) u → t ≡ u }
 {
     vickrey_prices();
 }

@@ -1,5 +1,5 @@
 use Rattle.std.proofs.Common.{arith}
-use Rattle.outcome.proofs.Vickrey.{part-known, bidder-in_book, bid-in, difference-fits, price-fits, price-is, price-in_range}
+use Rattle.outcome.proofs.Vickrey.{part-known, bidder-in_book, bid-in, difference-fits, price-fits, price-is, price-in_range, price-small}
 use Rattle.outcome.proofs.prices.vickrey.Goals as goal
 
 pub value-requires : goal.value-requires
@@ -28,3 +28,7 @@ returns-clause-price c =
 pub returns-clause-range : goal.returns-clause-range
 returns-clause-range c =
     price-in_range c.args.book.now c.args.cert.now c.requires.cert c.args.part.now c.requires.part c.bidders-bidders.ensures.kept c.value.result c.value.ensures c.net.result c.number-bid.result c.number-bid.ensures c.net.ensures
+
+pub returns-clause-small : goal.returns-clause-small
+returns-clause-small c =
+    price-small c.args.book.now c.args.cert.now c.requires.cert c.args.part.now c.requires.part c.bidders-bidders.ensures.kept c.value.result c.value.ensures c.net.result c.number-bid.result c.number-bid.ensures c.net.ensures

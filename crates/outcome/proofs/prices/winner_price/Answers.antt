@@ -22,6 +22,7 @@ returns c =
     let net : IsFractionOf paid cert.den c.new.result =
     subst (λ (d : ℤ). IsFractionOf paid d c.new.result) (to_z-of_z w128 cert.den den-fits)
     (subst (λ (n : ℤ). IsFractionOf n (to_z w128 (of_z w128 cert.den)) c.new.result) (to_z-of_z w128 paid paid-fits) c.new.ensures.fraction) in
-    is-price c.args.book.now cert c.requires.cert c.args.part.now c.requires.part _ c.vickrey.result paid refl c.number-bid.ensures c.reserve-reserve.ensures c.vickrey.ensures.price
+    is-price c.args.book.now cert c.requires.cert c.args.part.now c.requires.part _ c.vickrey.result paid refl c.number-bid.ensures c.reserve-reserve.ensures.reserve c.vickrey.ensures.price
     (gross-is c.vickrey.result c.reserve-reserve.result c.vickrey.ensures.range c.reserve-reserve.type_inv)
+    c.vickrey.ensures.small c.reserve-reserve.ensures.small
     (ap (λ (l : List ℤ). get_or l (c.args.part.now.winner - 1) (pos 0)) c.items.ensures) (c.plus.ensures paid cert.den net)

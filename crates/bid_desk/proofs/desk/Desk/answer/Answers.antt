@@ -1,5 +1,5 @@
 -- The answer of each kind of line.
-use Rattle.std.proofs.Common.{◌≡◌, sym, subst}
+use Rattle.std.proofs.Common.{sym, subst}
 use Rattle.auction_rules.specs.declared.Event.{Event}
 use Rattle.auction_rules.specs.declared.Event.TheVariants.{Submit}
 use Rattle.bid_desk.specs.Reached.{Takes}
