@@ -43,9 +43,9 @@ cert-stop b bytes cert.Memory says = inl refl
 -- the stop of an award is want of memory, or what its bytes answer
 pub award-stop : (bytes : List ℕ) (stop : AwardStop) → award_reading.IsStop (award_reading.reading bytes) stop
     → (award_status stop ≡ Memory) ⊎ (IsStop (award_status stop) × AwardAnswers bytes (stops (award_status stop)))
-award-stop bytes award.Text is = inr (tt, sym (ap award_answer is))
-award-stop bytes (award.Field number entry) is = inr (tt, sym (ap award_answer is))
-award-stop bytes (award.Limit kind count) is = inr (tt, sym (ap award_answer is))
+award-stop bytes award.Text is = inr (tt, (sym (ap award_answer is), tt))
+award-stop bytes (award.Field number entry) is = inr (tt, (sym (ap award_answer is), tt))
+award-stop bytes (award.Limit kind count) is = inr (tt, (sym (ap award_answer is), tt))
 award-stop bytes award.Memory is = inl refl
 
 -- the stop of a log is want of memory, or what its bytes answer

@@ -8,6 +8,7 @@ use Rattle.book_form.specs.BookForm.{IsBook}
 use Rattle.book_form.specs.BookLines.{Excess, lines}
 use Rattle.auction_rules.specs.Terms.{Terms}
 use Rattle.auction_rules.specs.declared.Event.{Event}
+use Rattle.award_file.specs.Award.{IsAward}
 use Rattle.award_file.specs.Reading as award
 use Rattle.log_file.specs.LogReading.{AreLog, AreTooMany, IsFirstFault, log_records}
 use Rattle.cert_form.specs.Certificate.{CertValue}
@@ -44,9 +45,14 @@ award_answer (award.broken number entry) = stops (Refused Award number entry)
 award_answer (award.too_many kind count) = stops (Limit kind count)
 award_answer (award.states terms) = value terms
 
--- what the bytes of an award say
+-- a value keeps these rules
+abbrev pub Keeps : {V : Type 0} → (V → Type 0) → Answer V → Type 0
+Keeps rules (value v) = rules v
+Keeps rules (stops status) = Unit {0}
+
+-- what the bytes of an award say; the terms that they state keep the rules of an award
 abbrev pub AwardAnswers : List ℕ → Answer Terms → Type 0
-AwardAnswers bytes answer = answer ≡ award_answer (award.reading bytes)
+AwardAnswers bytes answer = (answer ≡ award_answer (award.reading bytes)) × Keeps IsAward answer
 
 -- What the records of a log of this award say: their events; or the first faulty record refuses the file, or there are more than there
 -- may be.

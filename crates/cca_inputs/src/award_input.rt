@@ -34,7 +34,10 @@ impl Input for AwardInput {
 
     fn read(&self, alloc: Global, bytes: &[u8]) -> Result<Award, Status> {
         match read_award(alloc, bytes) {
-            Ok(award) => Ok(award),
+            Ok(award) => {
+                let _rules = award.supply();
+                Ok(award)
+            }
             Err(stop) => Err(Status::from(stop)),
         }
     }
