@@ -1,13 +1,12 @@
 -- How appends end.
-use Rattle.std.proofs.Common.{◌≡◌, ◌∙◌, ℕ, ◌≤◌, ◌<◌, IsTrue, Option, Some, List, [], ◌∷◌, ◌++◌, length, refl, sym, ap, subst, arith}
+use Rattle.std.proofs.Common.{◌≡◌, ◌∙◌, ℕ, ◌≤◌, ◌<◌, IsTrue, Some, List, [], ◌∷◌, ◌++◌, length, refl, sym, ap, subst, arith}
 use Rattle.std.specs.Prelude.{Result, Ok, Err}
 use Rattle.std.specs.List.{AllByRecursion}
 use Rattle.cca_base.specs.Faults.{Rose}
 use Rattle.std.specs.Prelude.{take, drop, ◌-◌}
-use Rattle.std.specs.Option.{option_map}
 use Rattle.std.proofs.Common.{append_assoc, get_or}
 use Rattle.std.proofs.lemmas.List.{take_all}
-use Rattle.cca_base.specs.Files.{Adds, CountsOnly, Folder, KeepsFiles, added}
+use Rattle.cca_base.specs.Files.{Adds, CountsOnly, Folder, KeepsFiles}
 use Rattle.cca_base.specs.declared.write.WriteStop.{WriteStop}
 use Rattle.cca_base.specs.declared.write.WriteStop.TheVariants.{Fault}
 use Rattle.cca_run.proofs.Moved.{all-on}

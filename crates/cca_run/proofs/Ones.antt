@@ -3,7 +3,6 @@ use Rattle.std.specs.Prelude.{◌≡◌, ◌⊎◌, ℕ, zero, suc, ◌-◌, ◌
 use Rattle.std.proofs.Common.{inl, inr, arith}
 use Rattle.std.proofs.lemmas.List.{get_or-replicate, length-replicate}
 use Rattle.auction_model.specs.Book.{Book}
-use Rattle.auction_model.specs.Prices.{weight_of}
 use Rattle.cert_laws.specs.Tests.{bidders_of}
 use Rattle.cert_laws.specs.Weights.{IsWeighing}
 use Rattle.core_price.specs.Weights.{FewWin, ManyWin, WeighAlike, weights_in}
