@@ -9,3 +9,10 @@ returns-in-Some-clause-front g c =
     let new = g.F.Files.folder c.run_command.new.files in
     let ends = subst (λ (x : Option CommandValue). RunEnds x old new (g.O.Sink.output c.args.out.now) (g.O.Sink.output c.run_command.new.out) c.run_command.result) c.in-Some.ensures.command c.run_command.ensures.ends in
     ends.front
+
+pub returns-in-Some-clause-read_fault : goal.returns-in-Some-clause-read_fault
+returns-in-Some-clause-read_fault g c =
+    let old = g.F.Files.folder c.args.files.now in
+    let new = g.F.Files.folder c.run_command.new.files in
+    let ends = subst (λ (x : Option CommandValue). RunEnds x old new (g.O.Sink.output c.args.out.now) (g.O.Sink.output c.run_command.new.out) c.run_command.result) c.in-Some.ensures.command c.run_command.ensures.ends in
+    ends.read_fault
