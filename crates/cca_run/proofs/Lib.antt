@@ -11,3 +11,4 @@ mod Priced
 mod Progress
 mod Put
 mod Stopped
+mod LogBooks

@@ -10,7 +10,7 @@ use Rattle.cca_inputs.specs.declared.status.Status.TheVariants.{Refused}
 
 -- that of an award follows from the one reading of its bytes
 pub one-award-answer : (bytes : List ℕ) (a b : Answer Terms) → AwardAnswers bytes a → AwardAnswers bytes b → a ≡ b
-one-award-answer bytes a b x y = x ∙ sym y
+one-award-answer bytes a b x y = x.0 ∙ sym y.0
 
 -- what the laws of logs say
 module _ (one_log : (terms : Terms) (rows : List (List (List ℕ))) (events others : List Event) → AreLog terms rows events → AreLog terms rows others → events ≡ others)

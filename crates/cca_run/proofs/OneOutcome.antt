@@ -21,20 +21,23 @@ use Rattle.print_form.specs.Prices.{IsPriceText}
 use Rattle.print_form.specs.Turns.{AreTurnLines}
 use Rattle.row_laws.specs.Winners.{winners_in}
 use Rattle.core_price.specs.Weights.{FewWin}
-use Rattle.std.specs.Prelude.{Result, Ok, Err}
+use Rattle.std.specs.Prelude.{Result, Ok, Err, reverse}
+use Rattle.award_file.specs.Award.{IsAward}
+use Rattle.log_file.specs.LogReading.{AreLog, log_records}
+use Rattle.log_replay.specs.ReplyLines.{end_of}
 use Rattle.auction_rules.specs.Terms.{Terms}
 use Rattle.auction_rules.specs.declared.Event.{Event}
 use Rattle.log_replay.specs.declared.results.ReplayStop.{ReplayStop}
 use Rattle.cca_run.proofs.OneLog.{one-award-answer}
 use Rattle.cca_run.proofs.Ones.{not_few_and_many, ones-weigh}
 use Rattle.cca_inputs.specs.Answers.{AwardAnswers, BookAnswers, CertAnswers, LogAnswers, book_answer, cert_answer}
-use Rattle.cca_inputs.specs.Command.{CommandValue, win, price, check, auction, command_of, contents_of}
+use Rattle.cca_inputs.specs.Command.{CommandValue, win, price, check, auction, award, audit, command_of, contents_of}
 use Rattle.cca_inputs.specs.Outcome.{Answer, AnswerGives, FileAnswers, InputGives, Outcome, done, stopped, stops, value}
 use Rattle.cca_inputs.specs.declared.file_text.FileText.{FileText}
 use Rattle.cca_inputs.specs.declared.status.FileKind.{FileKind}
 use Rattle.cca_inputs.specs.declared.status.FileKind.TheVariants.{Award, Log, Book as BookFile, Cert}
 use Rattle.limits.specs.declared.TheConstants.{AWARD_BYTES, LOG_BYTES, BOOK_BYTES, CERT_BYTES}
-use Rattle.cca_run.specs.Gives.{AreRounds, AuctionGives, CertGives, CommandGives, Gives, HasTooMany, IsPricing, IsYesText, LogGives, PriceGives, RepliesGive, VerdictGives, WinGives, WordsGive, book_file, cert_file, ones}
+use Rattle.cca_run.specs.Gives.{AreRounds, AuctionGives, BookOfLogGives, CertGives, CommandGives, Gives, EndGives, HasTooMany, IsPricing, IsYesText, LogGives, PriceGives, RepliesGive, VerdictGives, WinGives, WordsGive, book_file, cert_file, ones}
 use Rattle.cca_inputs.specs.declared.status.Status.TheVariants.{No, Limit}
 use Rattle.limits.specs.declared.LimitKind.TheVariants.{Winners}
 
@@ -82,8 +85,15 @@ one-input {V} kind most says follows one (Some bytes) o p same x y =
         ]
     go (stops s) answers g h = equal o p (stopped s) g h
 
+-- what follows for the book that a log leads to gives one status and one text, where it does so for each book
+one-ended : (records : ℕ) (end : Result Book ReplayStop) (follows : Book → Outcome → Type 0) (o p : Outcome) → ((b : Book) → end ≡ Ok b → follows b o → follows b p → Same o p)
+    → EndGives records end follows o → EndGives records end follows p → Same o p
+one-ended records (Ok b) follows o p same x y = same b refl x y
+one-ended records (Err stop) follows o p same x y = equal o p _ x y
+
 -- what the laws of the crates below say
 module _ (one_book : (bytes : List ℕ) (x y : Said Book Excess) → Says IsBook lines bytes x → Says IsBook lines bytes y → x ≡ y)
+    (lawful_log : (terms : Terms) (rows : List (List (List ℕ))) (events : List Event) (book : Book) → IsAward terms → AreLog terms rows events → end_of terms (reverse events) ≡ Ok book → IsMarket (market_of book))
     (one_log_answer : (terms : Terms) (bytes : List ℕ) (x y : Answer (List Event)) → LogAnswers terms bytes x → LogAnswers terms bytes y → x ≡ y)
     (one_cert : (bidders number : ℕ) (bytes : List ℕ) (x y : Said CertValue ℕ) → CertSays bidders number bytes x → CertSays bidders number bytes y → x ≡ y)
     (one_verdict : (book : Book) (w : ℕ → ℕ) (c : CertValue) (t p u q : ℕ) → FailsFirst book w c t p → FailsFirst book w c u q → (t ≡ u) × (p ≡ q))
@@ -177,9 +187,20 @@ module _ (one_book : (bytes : List ℕ) (x y : Said Book Excess) → Says IsBook
   one-of (check name cert) contents o p x y = one-input BookFile BOOK_BYTES BookAnswers (λ book. CertGives book (contents Cert) (VerdictGives book (ones book))) one-book-answer (contents BookFile) o p
       (λ book bytes says x y. one-input Cert CERT_BYTES (CertAnswers book) (VerdictGives book (ones book)) (one-cert-answer book) (contents Cert) o p
       (λ c of says_it a b. one-judged book (ones book) c o p (lawful bytes book says) a b) x y) x y
-  one-of (auction award log book) contents o p x y = one-input Award AWARD_BYTES AwardAnswers (λ terms. LogGives terms (contents Log) (AuctionGives terms)) one-award-answer (contents Award) o p
+  one-of (auction terms log book) contents o p x y = one-input Award AWARD_BYTES AwardAnswers (λ terms. LogGives terms (contents Log) (AuctionGives terms)) one-award-answer (contents Award) o p
       (λ terms bytes says x y. one-input Log LOG_BYTES (LogAnswers terms) (AuctionGives terms) (one_log_answer terms) (contents Log) o p
       (λ events of says_it a b. one-end _ _ _ o p a b) x y) x y
+  one-of (award terms log cert rounds) contents o p x y =
+      one-input Award AWARD_BYTES AwardAnswers (λ t. LogGives t (contents Log) (λ events. BookOfLogGives t events (λ b. PriceGives b (ones b) rounds))) one-award-answer (contents Award) o p
+      (λ t bytes says x y. one-input Log LOG_BYTES (LogAnswers t) (λ events. BookOfLogGives t events (λ b. PriceGives b (ones b) rounds)) (one_log_answer t) (contents Log) o p
+      (λ events of says_it a b. one-ended (length events) (end_of t (reverse events)) (λ b. PriceGives b (ones b) rounds) o p
+      (λ book is. one-priced book (ones book) (ones-weigh book).each rounds o p (lawful_log t (log_records of) events book says.1 says_it is)) a b) x y) x y
+  one-of (audit terms log cert) contents o p x y =
+      one-input Award AWARD_BYTES AwardAnswers (λ t. LogGives t (contents Log) (λ events. BookOfLogGives t events (λ b. CertGives b (contents Cert) (VerdictGives b (ones b))))) one-award-answer (contents Award) o p
+      (λ t bytes says x y. one-input Log LOG_BYTES (LogAnswers t) (λ events. BookOfLogGives t events (λ b. CertGives b (contents Cert) (VerdictGives b (ones b)))) (one_log_answer t) (contents Log) o p
+      (λ events of says_it a b. one-ended (length events) (end_of t (reverse events)) (λ b. CertGives b (contents Cert) (VerdictGives b (ones b))) o p
+      (λ book is x y. one-input Cert CERT_BYTES (CertAnswers book) (VerdictGives book (ones book)) (one-cert-answer book) (contents Cert) o p
+      (λ c with_it says_cert g h. one-judged book (ones book) c o p (lawful_log t (log_records of) events book says.1 says_it is) g h) x y) a b) x y) x y
 
   one-words : (command : Option CommandValue) (file : List ℕ → Option (List ℕ)) (o p : Outcome) → WordsGive command file o → WordsGive command file p → Same o p
   one-words None file o p x y = equal o p _ x y

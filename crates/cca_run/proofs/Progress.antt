@@ -1,17 +1,24 @@
 -- The way of a command from one input to the next.
 use Rattle.std.proofs.Common.{inl, inr, ◌≡◌, ◌∙◌, ℕ, ◌≤◌, IsTrue, Option, Some, None, List, [], ◌∷◌, length, map, refl, sym, ap, subst, arith}
-use Rattle.std.specs.Prelude.{Contains, option_and_then, Result, Ok, Err, IsSome}
+use Rattle.std.specs.Prelude.{Contains, option_and_then, Result, Ok, Err, IsSome, reverse}
 use Rattle.std.specs.List.{AllByRecursion}
 use Rattle.cca_base.specs.Files.{Folder, KeepsFiles}
 use Rattle.cca_inputs.specs.Command.{CommandValue, contents_of, input_as, inputs_of, missing, output_as}
-use Rattle.cca_inputs.specs.Outcome.{Answer, FileAnswers, InputGives, Outcome, done, stopped, stops, value}
+use Rattle.cca_inputs.specs.Outcome.{Answer, FileAnswers, InputGives, Outcome, done, stopped, stopped_after, stops, value}
 use Rattle.cca_inputs.specs.Reading.{InputStops, OnlyLoads}
 use Rattle.cca_inputs.specs.declared.file_text.FileText.{FileText}
 use Rattle.cca_inputs.specs.declared.status.FileKind.{FileKind}
 use Rattle.cca_inputs.specs.declared.status.Status.{Status}
 use Rattle.cca_inputs.specs.declared.status.Status.TheVariants.{ReadFault}
-use Rattle.cca_run.specs.Gives.{CommandGives, FilesGive}
-use Rattle.cca_run.specs.Works.{AreOutputs, IsWork, OnlyReads, StopsBy, Works, WorksOut, bare}
+use Rattle.auction_model.specs.Book.{Book}
+use Rattle.auction_rules.specs.Terms.{Terms}
+use Rattle.auction_rules.specs.declared.Event.{Event}
+use Rattle.log_replay.specs.ReplyLines.{end_of}
+use Rattle.log_replay.specs.declared.results.ReplayStop.{ReplayStop}
+use Rattle.log_replay.specs.declared.results.ReplayStop.TheVariants.{Rounds, Price, Open}
+use Rattle.cca_run.specs.Gives.{BookOfLogGives, CommandGives, EndGives, FilesGive, replay_status}
+use Rattle.cca_inputs.specs.Statuses.{IsStop}
+use Rattle.cca_run.specs.Works.{AreOutputs, HasBook, IsWork, OnlyReads, StopsBy, Works, WorksOut, bare, text_before}
 use Rattle.cca_run.specs.declared.work.Stop.{Stop}
 use Rattle.cca_run.specs.declared.work.Work.{Work}
 use Rattle.cca_run.proofs.Counts.{among-none, among-one, among-then, rose-from}
@@ -124,3 +131,34 @@ works command old new seen rest at kinds outputs result is = record { out = by r
     by (Ok work) is = (outputs-of-kinds command work.appended.items kinds is.1 outputs, given (done work.printed work.appended.items) is.0)
     by (Err stop) (inl memory) = inl memory
     by (Err stop) (inr x) = inr (inr (x.0, given _ x.1))
+
+-- the log that was read leads to a book
+pub book-next : (command : CommandValue) (old new : Folder) (seen : List FileKind) (terms : Terms) (events : List Event) (follows : Contents → Book → Outcome → Type 0) (book : Book)
+    → IsAt command old new seen (λ contents. BookOfLogGives terms events (follows contents)) → end_of terms (reverse events) ≡ Ok book → IsAt command old new seen (λ contents. follows contents book)
+book-next command old new seen terms events follows book at is = record {
+  reads = at.reads;
+  leads = λ told contents agree o gives.
+      at.leads told contents agree o (subst (λ (end : Result Book ReplayStop). EndGives (length events) end (follows contents) o) (sym is) gives);
+}
+
+-- why a log leads to no book is a stop that the bytes give
+stop-given : (records : ℕ) (why : ReplayStop) → IsStop (replay_status records why)
+stop-given records (Rounds count) = tt
+stop-given records (Price price) = tt
+stop-given records Open = tt
+
+-- the log that was read leads to no book, or there was no memory
+pub book-stops : (command : CommandValue) (old new : Folder) (seen : List FileKind) (terms : Terms) (events : List Event) (follows : Contents → Book → Outcome → Type 0) (stop : Stop)
+    → IsAt command old new seen (λ contents. BookOfLogGives terms events (follows contents)) → HasBook terms events (Err stop) → Works command old new (Err stop)
+book-stops command old new seen terms events follows stop at (inl memory) = record { out = inl memory; reads = at.reads }
+book-stops command old new seen terms events follows stop at (inr (why, is, told)) = record { out = inr (inr (subst Given (sym told) given)); reads = at.reads }
+  where
+    Given : Stop → Type 0
+    Given s = IsStop s.status × (IsTrue old.told → FilesGive command old.file (stopped_after (text_before s) s.status))
+
+    given : Given (bare (replay_status (length events) why))
+    given = (
+      stop-given (length events) why,
+      λ told. at.leads told (contents_of command old.file) (agree-own command old seen) (stopped (replay_status (length events) why))
+          (subst (λ (end : Result Book ReplayStop). EndGives (length events) end (follows (contents_of command old.file)) (stopped (replay_status (length events) why))) (sym is) refl),
+    )

@@ -36,7 +36,8 @@ pub fn logged_book(alloc: Global, award: Award, log: &Events) -> Result<BidBook,
     ensures { HasBook award log.now result }
 {
     let records = log.items().len() as u64;
-    match replay(alloc, award, log)?.end {
+    let Replay { end, .. } = replay(alloc, award, log)?;
+    match end {
         Ok(book) => Ok(book),
         Err(stop) => Err(Stop::from(status_of(records, stop))),
     }

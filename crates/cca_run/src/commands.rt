@@ -76,35 +76,37 @@ fn auction_work<F: Files>(
 fn award_work<F: Files>(
     alloc: Global,
     files: &mut F,
-    award: &str,
+    terms: &str,
     log: &str,
     rounds: bool,
 ) -> Result<Work, Stop>
-    requires award { IsTrue ((F.folder files.old).knows award.now) }
+    requires terms { IsTrue ((F.folder files.old).knows terms.now) }
     requires log { IsTrue ((F.folder files.old).knows log.now) }
-    ensures { (cert : List ℕ) → Works (award award.now log.now cert rounds) (F.folder files.old) (F.folder files.new) result }
+    ensures { (cert : List ℕ) → Works (award terms.now log.now cert rounds) (F.folder files.old) (F.folder files.new) result }
 {
-    let terms = read_input(alloc, files, award, &AwardInput)?;
-    let events = read_input(alloc, files, log, &LogInput { award: &terms })?;
-    let book = logged_book(alloc, terms, &events)?;
+    let award = read_input(alloc, files, terms, &AwardInput)?;
+    let events = read_input(alloc, files, log, &LogInput { award: &award })?;
+    packages_of_log();
+    let book = logged_book(alloc, award, &events)?;
     price_alike(alloc, &book, rounds)
 }
 
 fn audit_work<F: Files>(
     alloc: Global,
     files: &mut F,
-    award: &str,
+    terms: &str,
     log: &str,
     cert: &str,
 ) -> Result<Work, Stop>
-    requires award { IsTrue ((F.folder files.old).knows award.now) }
+    requires terms { IsTrue ((F.folder files.old).knows terms.now) }
     requires log { IsTrue ((F.folder files.old).knows log.now) }
     requires cert { IsTrue ((F.folder files.old).knows cert.now) }
-    ensures { Works (audit award.now log.now cert.now) (F.folder files.old) (F.folder files.new) result }
+    ensures { Works (audit terms.now log.now cert.now) (F.folder files.old) (F.folder files.new) result }
 {
-    let terms = read_input(alloc, files, award, &AwardInput)?;
-    let events = read_input(alloc, files, log, &LogInput { award: &terms })?;
-    let book = logged_book(alloc, terms, &events)?;
+    let award = read_input(alloc, files, terms, &AwardInput)?;
+    let events = read_input(alloc, files, log, &LogInput { award: &award })?;
+    packages_of_log();
+    let book = logged_book(alloc, award, &events)?;
     let cert = read_input(alloc, files, cert, &CertInput { book: &book })?;
     verdict_alike(alloc, &book, &cert)
 }
@@ -120,7 +122,10 @@ pub fn work_out<F: Files>(alloc: Global, files: &mut F, command: Command<'_>) ->
         Command::Check { book, cert } => check_work(alloc, files, book, cert),
         Command::Auction { award, log, .. } => auction_work(alloc, files, award, log),
         Command::Award {
-            award, log, rounds, ..
+            award,
+            log,
+            rounds,
+            ..
         } => award_work(alloc, files, award, log, rounds),
         Command::Audit { award, log, cert } => audit_work(alloc, files, award, log, cert),
     }

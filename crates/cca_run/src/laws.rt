@@ -12,10 +12,11 @@ ghost use Rattle.cca_run.specs.Gives.{FilesGive, Gives, ones};
 ghost use Rattle.cca_run.specs.Later.{HoldsCert};
 
 use auction_model::{book_market, core_outcome, vickrey_prices, winning_choice};
+use award_file::book_of_award;
 use bid_book::one_book;
 use cert_form::{one_cert, text_of_cert};
 use cert_laws::{one_verdict, short_text, sound_yes};
-use log_file::one_reading;
+use log_file::{one_reading, packages_of_log};
 use print_form::{one_price_text, one_run_text};
 
 /// The words and the bytes of the files give at most one status and one printed text. So each status that is decided comes exactly
@@ -25,6 +26,8 @@ pub fn one_outcome()
         → (o.status ≡ p.status) × (o.printed ≡ p.printed) }
 {
     one_book();
+    book_of_award();
+    packages_of_log();
     one_reading();
     one_cert();
     one_verdict();

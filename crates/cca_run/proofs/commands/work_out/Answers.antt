@@ -6,3 +6,6 @@ returns-in-Price g c = let works = c.price_work.ensures c.in-Price.cert.now in s
 
 pub returns-in-Auction : goal.returns-in-Auction
 returns-in-Auction g c = let works = c.auction_work.ensures c.in-Auction.book.now in search rules
+
+pub returns-in-Award : goal.returns-in-Award
+returns-in-Award g c = let works = c.award_work.ensures c.in-Award.cert.now in search rules

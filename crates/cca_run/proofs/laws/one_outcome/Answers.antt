@@ -1,3 +1,4 @@
+use Rattle.cca_run.proofs.LogBooks.{lawful-log}
 use Rattle.cca_run.proofs.OneLog.{one-log-answer}
 use Rattle.cca_run.proofs.OneOutcome.{one-outcome}
 use Rattle.cca_run.proofs.laws.one_outcome.Goals as goal
@@ -5,5 +6,6 @@ use Rattle.cca_run.proofs.laws.one_outcome.Goals as goal
 pub returns : goal.returns
 returns c = λ words file o p.
     let one_log = one-log-answer c.one_reading.ensures.log c.one_reading.ensures.fault c.one_reading.ensures.no_fault c.one_reading.ensures.not_many c.one_reading.ensures.few_before in
-    one-outcome c.one_book.ensures one_log c.one_cert.ensures c.one_verdict.ensures.one c.one_verdict.ensures.not_both c.sound_yes.ensures c.winning_choice.ensures.one c.book_market.ensures
+    let lawful = lawful-log c.book_of_award.ensures c.packages_of_log.ensures c.book_market.ensures in
+    one-outcome c.one_book.ensures lawful one_log c.one_cert.ensures c.one_verdict.ensures.one c.one_verdict.ensures.not_both c.sound_yes.ensures c.winning_choice.ensures.one c.book_market.ensures
     c.vickrey_prices.ensures.one c.core_outcome.ensures.one c.one_price_text.ensures c.one_run_text.ensures.lines words file o p
