@@ -17,6 +17,8 @@ pub use laws::{limit_of_ones, one_outcome, written_cert_passes};
 pub use top::run;
 
 #[cfg(test)]
+mod auction_tests;
+#[cfg(test)]
 mod cert_tests;
 #[cfg(test)]
 mod fault_tests;

@@ -56,7 +56,8 @@ pub struct Ended {
     pub cert: Option<Vec<u8>>,
 }
 
-fn words_of(alloc: Global, words: &[&str]) -> Result<Vec<String>, AllocError> {
+/// These words.
+pub fn words_of(alloc: Global, words: &[&str]) -> Result<Vec<String>, AllocError> {
     let mut list = Vec::new(alloc);
     for word in words {
         list.push(String::from_str(alloc, word)?)?;
@@ -64,8 +65,8 @@ fn words_of(alloc: Global, words: &[&str]) -> Result<Vec<String>, AllocError> {
     Ok(list)
 }
 
-// Files that know the words. At most 100 bytes go in one call.
-fn no_files(alloc: Global, words: &[String]) -> Result<MemFiles, AllocError>
+/// Files that know the words, and are all missing. At most 100 bytes go in one call.
+pub fn no_files(alloc: Global, words: &[String]) -> Result<MemFiles, AllocError>
     ensures { IfOk result (λ files. All (λ w. IsTrue ((mem_folder files.files.items).knows w)) (map string_bytes words.now)) }
 {
     let files = MemFiles::new(alloc, words, 100)?;
@@ -87,8 +88,8 @@ fn set_at(
     Ok(())
 }
 
-// The same where there are such a word and bytes.
-fn fill(
+/// Gives the file that the word at this place names these bytes, where there are such a word and bytes.
+pub fn fill(
     files: &mut MemFiles,
     words: &[String],
     place: usize,
@@ -113,9 +114,13 @@ fn files_of(alloc: Global, words: &[String], setting: &Setting<'_>) -> Result<Me
     Ok(files)
 }
 
-// The bytes of the file that the third of different words names.
-fn cert_of(alloc: Global, files: &MemFiles) -> Result<Option<Vec<u8>>, AllocError> {
-    let Some(file) = files.files.get(2) else {
+/// The bytes of the file that the word at this place names, of different words.
+pub fn left_at(
+    alloc: Global,
+    files: &MemFiles,
+    place: usize,
+) -> Result<Option<Vec<u8>>, AllocError> {
+    let Some(file) = files.files.get(place) else {
         return Ok(None);
     };
     match &file.bytes {
@@ -136,7 +141,7 @@ pub fn run_on(alloc: Global, words: &[&str], setting: &Setting<'_>) -> Result<En
     Ok(Ended {
         status,
         printed: out.bytes,
-        cert: cert_of(alloc, &files)?,
+        cert: left_at(alloc, &files, 2)?,
     })
 }
 
@@ -233,7 +238,7 @@ fn refuses_faulty_books(rt: HostRuntime) -> Result<(), Fail> {
 
 #[test]
 fn refuses_other_words(rt: HostRuntime) -> Result<(), Fail> {
-    let table: [&[&str]; 19] = [
+    let table: [&[&str]; 23] = [
         &[],
         &["win"],
         &["win", ""],
@@ -253,6 +258,10 @@ fn refuses_other_words(rt: HostRuntime) -> Result<(), Fail> {
         &["check", "BOOK", ""],
         &["check", "BOOK", "CERT", "--rounds"],
         &["check", "--rounds", "BOOK", "CERT"],
+        &["auction", "AWARD", "LOG"],
+        &["auction", "AWARD", "LOG", "LOG"],
+        &["auction", "AWARD", "LOG", "-"],
+        &["auction", "AWARD", "LOG", "BOOK", "CERT"],
     ];
     for words in table {
         let ended = run_plain(rt.alloc(), words, NOBODY, None)?;
