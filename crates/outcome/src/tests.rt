@@ -15,7 +15,7 @@ use std::alloc::{AllocError, Global};
 use std::test::Fail;
 use wide_num::{NumList, Text};
 
-pub fn choice_of(alloc: Global, numbers: &[u16]) -> Result<Choice, AllocError>
+fn choice_of(alloc: Global, numbers: &[u16]) -> Result<Choice, AllocError>
     ensures { IfOk result (λ choice. choice ≡ numbers.now) }
 {
     let mut list = Numbers::new(alloc);
