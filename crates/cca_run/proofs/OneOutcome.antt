@@ -58,7 +58,7 @@ one-end records replies (Ok book) o p x y =
 one-end records replies (Err stop) o p x y = equal o p _ x y
 
 -- an input has one answer
-one-answer : {V : Type 0} (most : ℕ) (says : List ℕ → Answer V → Type 0) (one : (bytes : List ℕ) (a b : Answer V) → says bytes a → says bytes b → a ≡ b) (bytes : List ℕ) (a b : Answer V)
+pub one-answer : {V : Type 0} (most : ℕ) (says : List ℕ → Answer V → Type 0) (one : (bytes : List ℕ) (a b : Answer V) → says bytes a → says bytes b → a ≡ b) (bytes : List ℕ) (a b : Answer V)
     → FileAnswers most says bytes a → FileAnswers most says bytes b → a ≡ b
 one-answer most says one bytes a b x y =
     elim (cases_lt most (length bytes)) [
