@@ -4,6 +4,7 @@ mod Counts
 mod Finished
 mod Moved
 mod Named
+mod OneAuction
 mod OneLog
 mod OneOutcome
 mod Ones
