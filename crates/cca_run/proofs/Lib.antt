@@ -13,3 +13,4 @@ mod Progress
 mod Put
 mod Stopped
 mod LogBooks
+mod HeadlineLaws
