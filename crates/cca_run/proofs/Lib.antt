@@ -14,3 +14,4 @@ mod Put
 mod Stopped
 mod LogBooks
 mod HeadlineLaws
+mod RunHeadline

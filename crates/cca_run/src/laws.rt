@@ -12,8 +12,8 @@ ghost use Rattle.cca_run.specs.Gives.{FilesGive, Gives, cert_file, ones};
 ghost use Rattle.cca_run.specs.Headline.{IsAudited, IsAwarded};
 ghost use Rattle.cca_run.specs.Later.{HoldsCert};
 
-use auction_outcome::plain_outcome;
 use auction_model::{book_market, core_outcome, vickrey_prices, winning_choice};
+use auction_outcome::plain_outcome;
 use award_file::book_of_award;
 use bid_book::one_book;
 use cert_form::{one_cert, text_of_cert};
