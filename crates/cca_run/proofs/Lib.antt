@@ -4,6 +4,7 @@ mod Counts
 mod Finished
 mod Moved
 mod Named
+mod OneAuction
 mod OneLog
 mod OneOutcome
 mod Ones
@@ -12,3 +13,5 @@ mod Progress
 mod Put
 mod Stopped
 mod LogBooks
+mod HeadlineLaws
+mod RunHeadline

@@ -2,3 +2,4 @@ pub mod Gives
 pub mod Run
 pub mod Works
 pub mod Later
+pub mod Headline

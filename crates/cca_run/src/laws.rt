@@ -1,17 +1,19 @@
 // What holds of the definitions of a run, whoever runs it.
-ghost use Rattle.std.specs.Prelude.{◌≡◌, ◌<◌, ◌≤◌, ◌++◌, ℕ, Bool, false, List, Option, codes, length};
+ghost use Rattle.std.specs.Prelude.{◌≡◌, ◌<◌, ◌≤◌, ◌++◌, ◌∷◌, ℕ, Bool, false, List, [], Option, codes, length};
 ghost use Rattle.auction_model.specs.Book.{Book};
 ghost use Rattle.cert_laws.specs.Tests.{bidders_of};
 ghost use Rattle.core_price.specs.Weights.{FewWin, ManyWin};
 ghost use Rattle.limits.specs.declared.TheConstants.{MOST_WINNERS};
 ghost use Rattle.row_laws.specs.Winners.{winners_in};
-ghost use Rattle.cca_inputs.specs.Command.{price, check};
+ghost use Rattle.cca_inputs.specs.Command.{price, check, award, audit};
 ghost use Rattle.cca_inputs.specs.Outcome.{Outcome};
 ghost use Rattle.cca_inputs.specs.declared.status.Status.TheVariants.{Done};
-ghost use Rattle.cca_run.specs.Gives.{FilesGive, Gives, ones};
+ghost use Rattle.cca_run.specs.Gives.{FilesGive, Gives, cert_file, ones};
+ghost use Rattle.cca_run.specs.Headline.{IsAudited, IsAwarded};
 ghost use Rattle.cca_run.specs.Later.{HoldsCert};
 
 use auction_model::{book_market, core_outcome, vickrey_prices, winning_choice};
+use auction_outcome::plain_outcome;
 use award_file::book_of_award;
 use bid_book::one_book;
 use cert_form::{one_cert, text_of_cert};
@@ -61,4 +63,15 @@ pub fn written_cert_passes()
     short_text();
     one_verdict();
     one_price_text();
+}
+
+/// What a run that is done shows of its files, by definitions alone: `audit`, that they state an auction, and that the certificate has its
+/// outcome; `award`, that they state an auction, and that the appended text is that of a certificate of its outcome.
+pub fn headline()
+    ensures audit { (file : List ℕ → Option (List ℕ)) (terms log cert : List ℕ) (o : Outcome) → FilesGive (audit terms log cert) file o → o.status ≡ Done
+        → IsAudited file terms log cert o.printed × (o.appended ≡ []) }
+    ensures award { (file : List ℕ → Option (List ℕ)) (terms log cert : List ℕ) (rounds : Bool) (o : Outcome) → FilesGive (award terms log cert rounds) file o → o.status ≡ Done
+        → (text : List ℕ) × IsAwarded file terms log text × (o.appended ≡ cert_file text ∷ []) }
+{
+    plain_outcome();
 }

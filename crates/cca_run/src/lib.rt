@@ -3,6 +3,7 @@
 
 mod append;
 mod auction;
+mod auction_laws;
 mod commands;
 mod laws;
 mod pricing;
@@ -12,6 +13,7 @@ mod verdict;
 mod win;
 mod work;
 
+pub use auction_laws::one_auction;
 pub use cca_inputs::{FileKind, Status};
 pub use laws::{limit_of_ones, one_outcome, written_cert_passes};
 pub use top::run;

@@ -1,20 +1,22 @@
 // The top call.
-ghost use Rattle.std.specs.Prelude.{◌≡◌, ◌⊎◌, ◌≤◌, ◌<◌, ℕ, List, length, map, string_bytes, All, IsTrue, Some, None};
+ghost use Rattle.std.specs.Prelude.{◌≡◌, ◌⊎◌, ◌≤◌, ◌<◌, ◌∷◌, ℕ, Bool, List, [], length, map, string_bytes, All, IsTrue, Some, None};
 ghost use Rattle.cca_base.specs.Files.{KeepsFiles};
 ghost use Rattle.cca_base.specs.Sink.{Puts};
-ghost use Rattle.cca_inputs.specs.Command.{command_of};
+ghost use Rattle.cca_inputs.specs.Command.{audit, award, command_of};
 ghost use Rattle.cca_inputs.specs.Outcome.{Outcome};
 ghost use Rattle.cca_inputs.specs.StatusLine.{status_line};
 ghost use Rattle.cca_inputs.specs.Statuses.{IsDecided, IsHindered, KeepsAll};
 ghost use Rattle.cca_inputs.specs.Words.{KnowsFiles, command_value};
 ghost use Rattle.cca_inputs.specs.declared.status.FileKind.{FileKind};
 ghost use Rattle.cca_inputs.specs.declared.status.Status.{Status};
-ghost use Rattle.cca_run.specs.Gives.{Gives};
-ghost use Rattle.cca_run.specs.Run.{Appended, Changes, CountsAmong, IsDue, IsReadFault, IsWriteFault, inputs, outputs};
+ghost use Rattle.cca_run.specs.Gives.{Gives, cert_file};
+ghost use Rattle.cca_run.specs.Headline.{IsAudited, IsAwarded};
+ghost use Rattle.cca_run.specs.Run.{Appended, AppendsAll, Changes, CountsAmong, HasNoFault, IsDue, IsReadFault, IsWriteFault, inputs, outputs};
 ghost use Rattle.cca_run.specs.Works.{AreOutputs, FinishEnds, RunEnds};
 
 use crate::append::append_all;
 use crate::commands::work_out;
+use crate::laws::headline;
 use crate::print::{print, print_stop};
 use crate::work::Work;
 use crate::{FileKind, Status};
@@ -88,6 +90,18 @@ pub fn run<F: Files, O: Sink>(alloc: Global, words: &[String], files: &mut F, ou
     ensures words { result ≡ Status.Words → command_of (map string_bytes words.now) ≡ None }
     ensures not_plain { command_of (map string_bytes words.now) ≡ None → (result ≡ Status.Words) ⊎ (result ≡ Status.WriteFault FileKind.Out) }
 
+    // The headline: whenever `audit` says yes, the book of the log holds exactly the bids that the activity rules admit, the winners are
+    // the first feasible choice of greatest net value, no coalition blocks the prices, their sum is least in the core, and every other
+    // core point of that sum lies farther from the Vickrey point; and `award` appends a certificate of such an outcome.
+    ensures audit { (terms log cert : List ℕ) → command_of (map string_bytes words.now) ≡ Some (audit terms log cert) → IsTrue (F.folder files.old).told
+        → result ≡ Status.Done → (text : List ℕ) × IsAudited (F.folder files.old).file terms log cert text × Puts (O.output out.old) (O.output out.new) text (length text) }
+    ensures award { (terms log cert : List ℕ) (rounds : Bool) → command_of (map string_bytes words.now) ≡ Some (award terms log cert rounds) → IsTrue (F.folder files.old).told
+        → result ≡ Status.Done → (text : List ℕ) × IsAwarded (F.folder files.old).file terms log text
+        × AppendsAll (award terms log cert rounds) (cert_file text ∷ []) (F.folder files.old) (F.folder files.new) }
+
+    // Where no fault was counted, the status is one that the words and the bytes decide, or want of memory.
+    ensures complete { HasNoFault (F.folder files.old) (F.folder files.new) (O.output out.old) (O.output out.new) → (result ≡ Status.Memory) ⊎ IsDecided result }
+
     // A fault has its cause, and all that comes before it passed.
     ensures read_fault { (kind : FileKind) → result ≡ Status.ReadFault kind → IsReadFault (command_of (map string_bytes words.now)) (F.folder files.old) (F.folder files.new) kind }
     ensures write_fault { (kind : FileKind) → result ≡ Status.WriteFault kind
@@ -115,6 +129,7 @@ pub fn run<F: Files, O: Sink>(alloc: Global, words: &[String], files: &mut F, ou
     ensures appends { CountsAmong (outputs (command_of (map string_bytes words.now))) (F.folder files.old).append_faults (F.folder files.new).append_faults }
     ensures faults { (O.output out.old).faults ≤ (O.output out.new).faults }
 {
+    headline();
     match read_command(words) {
         Some(command) => run_command(alloc, files, out, command),
         None => tell_words(files, out),

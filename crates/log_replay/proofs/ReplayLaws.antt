@@ -24,6 +24,7 @@ terms-of : (terms : Terms) (log : List Event) → (state_of terms log).terms ≡
 unfolding state_of
 terms-of terms log = refl
 
+-- and so does a desk that stands for a log
 pub terms-in : (terms : Terms) (log : List Event) (desk : DeskState) → desk ≡ state_of terms log → desk.terms ≡ terms
 terms-in terms log desk is = ap (λ (d : DeskState). d.terms) is ∙ terms-of terms log
 

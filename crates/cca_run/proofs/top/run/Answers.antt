@@ -1,6 +1,7 @@
-use Rattle.std.proofs.Common.{Option, subst}
+use Rattle.std.proofs.Common.{Option, None, subst}
 use Rattle.cca_inputs.specs.Command.{CommandValue}
 use Rattle.cca_run.specs.Works.{RunEnds}
+use Rattle.cca_run.proofs.RunHeadline.{run-audit, run-award, run-complete}
 use Rattle.cca_run.proofs.top.run.Goals as goal
 
 pub returns-in-Some-clause-front : goal.returns-in-Some-clause-front
@@ -16,3 +17,29 @@ returns-in-Some-clause-read_fault g c =
     let new = g.F.Files.folder c.run_command.new.files in
     let ends = subst (λ (x : Option CommandValue). RunEnds x old new (g.O.Sink.output c.args.out.now) (g.O.Sink.output c.run_command.new.out) c.run_command.result) c.in-Some.ensures.command c.run_command.ensures.ends in
     ends.read_fault
+
+pub returns-in-Some-clause-audit : goal.returns-in-Some-clause-audit
+returns-in-Some-clause-audit g c =
+    let old = g.F.Files.folder c.args.files.now in
+    let new = g.F.Files.folder c.run_command.new.files in
+    let ends = subst (λ (x : Option CommandValue). RunEnds x old new (g.O.Sink.output c.args.out.now) (g.O.Sink.output c.run_command.new.out) c.run_command.result) c.in-Some.ensures.command c.run_command.ensures.ends in
+    run-audit c.headline.ensures.audit _ old new _ _ c.run_command.result ends
+
+pub returns-in-Some-clause-award : goal.returns-in-Some-clause-award
+returns-in-Some-clause-award g c =
+    let old = g.F.Files.folder c.args.files.now in
+    let new = g.F.Files.folder c.run_command.new.files in
+    let ends = subst (λ (x : Option CommandValue). RunEnds x old new (g.O.Sink.output c.args.out.now) (g.O.Sink.output c.run_command.new.out) c.run_command.result) c.in-Some.ensures.command c.run_command.ensures.ends in
+    run-award c.headline.ensures.award _ old new _ _ c.run_command.result ends
+
+pub returns-in-Some-clause-complete : goal.returns-in-Some-clause-complete
+returns-in-Some-clause-complete g c =
+    let old = g.F.Files.folder c.args.files.now in
+    let new = g.F.Files.folder c.run_command.new.files in
+    let ends = subst (λ (x : Option CommandValue). RunEnds x old new (g.O.Sink.output c.args.out.now) (g.O.Sink.output c.run_command.new.out) c.run_command.result) c.in-Some.ensures.command c.run_command.ensures.ends in
+    run-complete _ old new _ _ c.run_command.result ends
+
+pub returns-in-None-clause-complete : goal.returns-in-None-clause-complete
+returns-in-None-clause-complete g c =
+    let folder = g.F.Files.folder c.args.files.now in
+    run-complete None folder folder _ _ c.tell_words.result c.tell_words.ensures.ends

@@ -1,0 +1,56 @@
+-- The headline: from the bytes of three files to the book of a log and the outcome of the auction.
+use Rattle.std.specs.Prelude.{◌≡◌, ℕ, IsTrue, Option, Some, List, reverse}
+use Rattle.auction_model.specs.Book.{Book, market_of}
+use Rattle.auction_outcome.specs.Outcome.{IsAuctionOutcome}
+use Rattle.auction_rules.specs.BookOfLog.{book_of_log, is_complete}
+use Rattle.auction_rules.specs.Terms.{Terms}
+use Rattle.auction_rules.specs.declared.Event.{Event}
+use Rattle.award_file.specs.Reading.{reading, states}
+use Rattle.log_file.specs.LogReading.{AreLog, log_records}
+use Rattle.cert_form.specs.Certificate.{CertValue}
+use Rattle.cert_form.specs.Says.{CertSays, cert_text}
+use Rattle.cert_laws.specs.Priced.{IsPricedCert}
+use Rattle.cert_laws.specs.Sound.{cert_point}
+use Rattle.cert_laws.specs.Tests as tests
+use Rattle.line_text.specs.LineText.{stated}
+use Rattle.auction_model.specs.Prices.{weight_of}
+use Rattle.cca_run.specs.Gives.{IsYesText, ones}
+
+-- the file of this name holds bytes of which this is so
+pub record FileHolds (file : List ℕ → Option (List ℕ)) (name : List ℕ) (says : List ℕ → Type 0) : Type 0 where
+  pub bytes : List ℕ
+  pub here : file name ≡ Some bytes
+  pub said : says bytes
+
+-- An auction on two files: the award states the terms, and the log the lines of a complete log on them, in their order.
+pub record IsAuction (file : List ℕ → Option (List ℕ)) (award log : List ℕ) (terms : Terms) (lines : List Event) : Type 0 where
+  pub award_states : FileHolds file award (λ bytes. reading bytes ≡ states terms)
+  pub log_states : FileHolds file log (λ bytes. AreLog terms (log_records bytes) lines)
+  pub complete : IsTrue (is_complete terms (reverse lines))
+
+-- the book of an auction: it holds exactly the bids that the activity rules admit, of each bidder and for each package the greatest
+abbrev pub book_of : Terms → List Event → Book
+book_of terms lines = book_of_log terms (reverse lines)
+
+-- Whenever `audit` says yes: the award and the log state an auction; the certificate is one of the book that the rules admit; and of that
+-- book its winners are the first feasible choice of greatest net value, no coalition blocks its prices, their sum is least in the core,
+-- and every other core point of that sum lies farther from the Vickrey point. What was printed is `yes` and that outcome.
+pub record IsAudited (file : List ℕ → Option (List ℕ)) (award log cert printed : List ℕ) : Type 0 where
+  pub terms : Terms
+  pub lines : List Event
+  pub auction : IsAuction file award log terms lines
+  pub certificate : CertValue
+  pub cert_states : FileHolds file cert (λ bytes. CertSays (tests.bidders_of (book_of terms lines)) (tests.states (book_of terms lines)) bytes (stated certificate))
+  pub outcome : IsAuctionOutcome (market_of (book_of terms lines)) certificate.choice (cert_point certificate)
+  pub yes : IsYesText (book_of terms lines) certificate printed
+
+-- Whenever `award` is done: the award and the log state an auction, and the text that was appended is that of a certificate of its book
+-- for which all tests hold, and whose winners and prices are the outcome of the auction.
+pub record IsAwarded (file : List ℕ → Option (List ℕ)) (award log text : List ℕ) : Type 0 where
+  pub terms : Terms
+  pub lines : List Event
+  pub auction : IsAuction file award log terms lines
+  pub certificate : CertValue
+  pub priced : IsPricedCert (book_of terms lines) (weight_of (ones (book_of terms lines))) certificate
+  pub outcome : IsAuctionOutcome (market_of (book_of terms lines)) certificate.choice (cert_point certificate)
+  pub whole : text ≡ cert_text certificate

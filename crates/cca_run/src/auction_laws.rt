@@ -1,0 +1,18 @@
+// What holds of what an auction gives.
+ghost use Rattle.std.specs.Prelude.{◌≡◌, ℕ, List, Option};
+ghost use Rattle.cca_inputs.specs.Command.{auction};
+ghost use Rattle.cca_inputs.specs.Outcome.{Outcome};
+ghost use Rattle.cca_run.specs.Gives.{FilesGive};
+
+use bid_book::one_text;
+use log_file::one_reading;
+
+/// The bytes of an award and of its log give at most one outcome of an auction: with the status and what is printed, the text of its book
+/// too is one.
+pub fn one_auction()
+    ensures { (award log book : List ℕ) (file : List ℕ → Option (List ℕ)) (o p : Outcome)
+        → FilesGive (auction award log book) file o → FilesGive (auction award log book) file p → o ≡ p }
+{
+    one_reading();
+    one_text();
+}
