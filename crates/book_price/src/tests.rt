@@ -1,10 +1,12 @@
-ghost use Rattle.std.specs.Prelude.{IsTrue, length, slice_index_or, ℕ, ◌<◌, ◌≤◌};
+ghost use Rattle.std.specs.Prelude.{IsTrue, length, pos, slice_index_or, ℕ, ◌<◌, ◌≤◌, ◌≤ℤ◌};
 
 use crate::{PricedBook, price_book};
 use bid_book::{BidBook, read_book};
-use core_price::PriceStop;
+use blocking::{Looked, find_block};
+use core_price::{PriceStop, count_winners, for_bidders};
 use std::alloc::{AllocError, Global};
 use std::process::Abort;
+use value_table::{BookChooser, ValueTable, win};
 
 /// One lot of each of two categories; b1 and b2 win it, and pay together what b3 bids for both.
 const BOOK: &str =
@@ -136,6 +138,61 @@ fn more_than_six_winners_are_counted(rt: HostRuntime) -> Result<(), AllocError> 
     match priced_alike(rt.alloc(), &book) {
         Err(PriceStop::Winners(count)) => assert_eq!(rt; count, 7),
         _ => panic!(rt; "seven win"),
+    }
+    Ok(())
+}
+
+/// Whether no payment is below 0 or above a million.
+fn are_payments(paid: &[i128]) -> bool
+    ensures { IsTrue result → (k : ℕ) → k < length paid.now → (pos 0 ≤ℤ slice_index_or paid.now k (pos 0)) × (slice_index_or paid.now k (pos 0) ≤ℤ pos 1000000) }
+{
+    for payment in paid {
+        if *payment < 0 {
+            return false;
+        }
+        if *payment > 1_000_000 {
+            return false;
+        }
+    }
+    true
+}
+
+/// What blocks a point at which the winners pay so much and losers nothing, where these can be payments.
+fn look(
+    rt: &impl Abort,
+    alloc: Global,
+    chooser: &BookChooser,
+    paid: &[i128],
+) -> Result<Looked<ValueTable>, AllocError> {
+    let _bidders = chooser.book.bidders();
+    let count = count_winners(&chooser.winners);
+    assert!(rt; count <= 6);
+    assert_eq!(rt; paid.len(), count);
+    assert!(rt; are_payments(paid));
+    let at = for_bidders(alloc, &chooser.winners, paid)?;
+    find_block(alloc, chooser, 1, &at)
+}
+
+#[test]
+fn a_bidder_for_both_lots_blocks_the_prices_of_each_alone(
+    rt: HostRuntime,
+) -> Result<(), AllocError> {
+    let Ok(book) = read_book(rt.alloc(), BOOK.as_bytes()) else {
+        panic!(rt; "this is a book");
+    };
+    let chooser = BookChooser::new(&book, win(rt.alloc(), &book)?);
+    match look(&rt, rt.alloc(), &chooser, &[14, 12])? {
+        Looked::Free(_) => panic!(rt; "b3 offers more"),
+        Looked::Block(block) => {
+            assert_eq!(rt; block.excess, 6);
+            assert!(rt; block.choice.numbers() == [0, 0, 1, 0, 0].as_slice());
+            assert_eq!(rt; block.row.members, 3);
+            assert_eq!(rt; block.row.bound, 32);
+        }
+    }
+    match look(&rt, rt.alloc(), &chooser, &[17, 15])? {
+        Looked::Free(found) => assert_eq!(rt; found.sum, 32),
+        Looked::Block(_) => panic!(rt; "b3 offers no more"),
     }
     Ok(())
 }

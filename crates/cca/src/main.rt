@@ -1,18 +1,23 @@
 //! The program `cca`: runs the command that its words say, and ends with the code of its status.
 #![tactic(auto)]
 
-ghost use Rattle.std.specs.Prelude.{◌≡◌};
+ghost use Rattle.std.specs.IoError.{error_kind};
+ghost use Rattle.std.specs.Prelude.{◌≡◌, ◌≢◌, drop, IfErr, IfOk};
 ghost use Rattle.std.specs.Process.{exit_status};
+ghost use Rattle.std.specs.Vec.Iter.{into_iter_items};
+ghost use Rattle.std.specs.declared.io.ErrorKind.TheVariants.{OutOfMemory};
+ghost use Rattle.std.specs.declared.result.Result.TheVariants.{Err};
 ghost use Rattle.cca_inputs.specs.Code.{code_of};
 ghost use Rattle.cca.specs.declared.NoWords.{NoWords};
 ghost use Rattle.cca.specs.declared.NoWords.TheVariants.{Memory, NotText};
 
 use cca_base::{RealFiles, RealSink};
 use cca_run::{Status, run};
-use std::env;
-use std::env::Env;
+use std::alloc::{AllocError, Global};
+use std::env::Args;
 use std::io::ErrorKind;
 use std::process::ExitCode;
+use std::{env, io};
 
 /// Why there are no words to run.
 #[derive(Clone, Copy, Debug, PartialEq, Eq)]
@@ -36,24 +41,52 @@ impl NoWords {
     }
 }
 
-// The words after the program's name.
-fn words<R: Env + AllocGlobal>(rt: &R) -> Result<Vec<String>, NoWords> {
-    let all = match env::args(rt) {
-        Ok(all) => all,
-        Err(error) => {
-            return Err(match error.kind() {
-                ErrorKind::OutOfMemory => NoWords::Memory,
-                _ => NoWords::NotText,
-            });
-        }
-    };
-    let mut words = Vec::new(rt.alloc());
-    for word in all.skip(1) {
-        if words.push(word).is_err() {
-            return Err(NoWords::Memory);
-        }
+// Why there are no words, where the system's list of them can't be had.
+fn none_by(error: &io::Error) -> NoWords
+    ensures memory { error_kind error.now ≡ OutOfMemory → result ≡ Memory }
+    ensures not_text { error_kind error.now ≢ OutOfMemory → result ≡ NotText }
+{
+    match error.kind() {
+        ErrorKind::OutOfMemory => NoWords::Memory,
+        _ => NoWords::NotText,
     }
-    Ok(words)
+}
+
+// The words as a list.
+fn listed(alloc: Global, all: Args) -> Result<Vec<String>, AllocError>
+    ensures { IfOk result (λ list. list.items ≡ into_iter_items all) }
+{
+    let mut list = Vec::new(alloc);
+    for word in all {
+        list.push(word)?;
+    }
+    Ok(list)
+}
+
+// All words but the first, which is the program's name.
+fn behind_name(mut all: Vec<String>) -> Vec<String>
+    ensures { result.items ≡ drop 1 all.items }
+{
+    if !all.is_empty() {
+        let _name = all.remove(0);
+    }
+    all
+}
+
+// The words behind the program's name, of what the system gives.
+fn words(alloc: Global, given: io::Result<Args>) -> Result<Vec<String>, NoWords>
+    ensures words { IfOk given (λ all. IfOk result (λ words. words.items ≡ drop 1 (into_iter_items all))) }
+    ensures memory { IfOk given (λ all. IfErr result (λ none. none ≡ Memory)) }
+    ensures no_memory { IfErr given (λ error. error_kind error ≡ OutOfMemory → result ≡ Err Memory) }
+    ensures not_text { IfErr given (λ error. error_kind error ≢ OutOfMemory → result ≡ Err NotText) }
+{
+    match given {
+        Ok(all) => match listed(alloc, all) {
+            Ok(list) => Ok(behind_name(list)),
+            Err(_) => Err(NoWords::Memory),
+        },
+        Err(error) => Err(none_by(&error)),
+    }
 }
 
 // The exit code of a run.
@@ -72,7 +105,7 @@ fn exit_without(none: NoWords) -> ExitCode
 }
 
 fn main(rt: HostRuntime) -> ExitCode {
-    let words = match words(&rt) {
+    let words = match words(rt.alloc(), env::args(&rt)) {
         Ok(words) => words,
         Err(none) => return exit_without(none),
     };

@@ -3,6 +3,7 @@ use Rattle.std.proofs.Common.{inl, inr, ◌≡◌, ◌∙◌, ℕ, ◌≤◌, Is
 use Rattle.std.specs.Prelude.{Contains, option_and_then, Result, Ok, Err, IsSome, reverse}
 use Rattle.std.specs.List.{AllByRecursion}
 use Rattle.cca_base.specs.Files.{Folder, KeepsFiles}
+use Rattle.cca_base.proofs.Reading.{keeps_more}
 use Rattle.cca_inputs.specs.Command.{CommandValue, contents_of, input_as, inputs_of, missing, output_as}
 use Rattle.cca_inputs.specs.Outcome.{Answer, FileAnswers, InputGives, Outcome, done, stopped, stopped_after, stops, value}
 use Rattle.cca_inputs.specs.Reading.{InputStops, OnlyLoads}
@@ -30,9 +31,6 @@ Contents = FileKind → Option (List ℕ)
 keeps : (folder : Folder) → KeepsFiles folder folder
 keeps folder = record { knows = refl; told = refl; file = refl; room = refl }
 
-keeps-then : (old mid new : Folder) → KeepsFiles old mid → KeepsFiles mid new → KeepsFiles old new
-keeps-then old mid new a b = record { knows = b.knows ∙ a.knows; told = b.told ∙ a.told; file = b.file ∙ a.file; room = b.room ∙ a.room }
-
 -- these contents are those of the files, at the kinds that were read
 abbrev pub Agree : CommandValue → Folder → Contents → List FileKind → Type 0
 Agree command folder contents seen = AllByRecursion (λ kind. contents kind ≡ contents_of command folder.file kind) seen
@@ -56,7 +54,7 @@ begins command old = record {
 -- the loads of one more input
 reads-on : (command : CommandValue) (old mid new : Folder) (name : List ℕ) → Contains (inputs_of command) name → OnlyReads command old mid → OnlyLoads name mid new → OnlyReads command old new
 reads-on command old mid new name within a b = record {
-  kept = keeps-then old mid new a.kept b.kept;
+  kept = keeps_more old mid new a.kept b.kept;
   loads = among-then (inputs_of command) old.load_faults mid.load_faults new.load_faults a.loads (among-one (inputs_of command) name mid.load_faults new.load_faults within b.count);
   appends = b.appends ∙ a.appends;
 }

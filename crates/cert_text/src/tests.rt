@@ -1,5 +1,6 @@
-use crate::{CertStop, Shape, read_cert, write_cert};
+use crate::{CertRow, CertStop, Certificate, Shape, read_cert, write_cert};
 use std::alloc::{AllocError, Global};
+use std::process::Abort;
 use std::test::Fail;
 
 /// A certificate for five bidders and four states: 476 bytes, of which the last line has 4.
@@ -48,6 +49,34 @@ const SECOND: &str =
     pay 0 0 0 0 0 0 0 0 0 0 0 0 0\nrows 0\nlowered\n\
     t 0\nt 0\nt 0\nt 0\nt 0\nt 0\nt 0\nt 0\nt 0\nt 0\nt 0\nt 0\nt 0\nt 0\nend\n";
 
+/// A certificate for four bidders and eight states, over the denominator 3.
+const THIRDS: &str = "cert 1\nden 3\nvalue 30\nchoice 1 1 1 0\ntable\nt 0 10 10 20 10 20 20 30\n\
+    t 0 10 10 20 0 10 10 20\nt 0 10 0 10 0 10 0 11\nt 0 0 0 0 0 0 0 11\nt 0 0 0 0 0 0 0 0\n\
+    without 1\nchoice 0 1 1 0\ntable\nt 0 10 10 20 0 10 10 20\nt 0 10 10 20 0 10 10 20\n\
+    t 0 10 0 10 0 10 0 11\nt 0 0 0 0 0 0 0 11\nt 0 0 0 0 0 0 0 0\nwithout 2\nchoice 1 0 1 0\n\
+    table\nt 0 10 0 10 10 20 10 20\nt 0 10 0 10 0 10 0 11\nt 0 10 0 10 0 10 0 11\n\
+    t 0 0 0 0 0 0 0 11\nt 0 0 0 0 0 0 0 0\nwithout 3\nchoice 1 1 0 0\ntable\n\
+    t 0 0 10 10 10 10 20 20\nt 0 0 10 10 0 0 10 11\nt 0 0 0 0 0 0 0 11\nt 0 0 0 0 0 0 0 11\n\
+    t 0 0 0 0 0 0 0 0\npay 11 11 11 0\nrows 1\nrow 1 2 3\nmult 3 11\nchoice 0 0 0 1\nlowered\n\
+    t 0 11 11 22 11 22 22 33\nt 0 11 11 22 0 11 11 33\nt 0 11 0 11 0 11 0 33\n\
+    t 0 0 0 0 0 0 0 33\nt 0 0 0 0 0 0 0 0\nend\n";
+
+/// A certificate for five bidders and eight states. It has three rows, and a second multiplier below 0.
+const THREE_ROWS: &str =
+    "cert 1\nden 1\nvalue 30\nchoice 1 1 1 0 0\ntable\nt 0 10 10 20 10 20 20 30\n\
+    t 0 10 10 20 0 10 10 20\nt 0 10 0 10 0 10 8 18\nt 0 0 0 8 0 0 8 8\nt 0 0 0 8 0 0 0 8\n\
+    t 0 0 0 0 0 0 0 0\nwithout 1\nchoice 0 1 1 0 0\ntable\nt 0 10 10 20 0 10 10 20\n\
+    t 0 10 10 20 0 10 10 20\nt 0 10 0 10 0 10 8 18\nt 0 0 0 8 0 0 8 8\nt 0 0 0 8 0 0 0 8\n\
+    t 0 0 0 0 0 0 0 0\nwithout 2\nchoice 1 0 1 0 0\ntable\nt 0 10 0 10 10 20 10 20\n\
+    t 0 10 0 10 0 10 8 18\nt 0 10 0 10 0 10 8 18\nt 0 0 0 8 0 0 8 8\nt 0 0 0 8 0 0 0 8\n\
+    t 0 0 0 0 0 0 0 0\nwithout 3\nchoice 1 1 0 0 0\ntable\nt 0 0 10 10 10 10 20 20\n\
+    t 0 0 10 10 0 0 10 10\nt 0 0 0 8 0 0 8 8\nt 0 0 0 8 0 0 8 8\nt 0 0 0 8 0 0 0 8\n\
+    t 0 0 0 0 0 0 0 0\npay 0 8 0 0 0\n\
+    rows 3\nrow 1 2\nmult 1 0\nchoice 0 0 1 1 0\nrow 2 3\nmult 0 8\nchoice 1 0 0 0 1\n\
+    row 3\nmult 1 -8\nchoice 1 1 0 0 0\n\
+    lowered\nt 0 0 8 8 0 0 8 8\nt 0 0 8 8 0 0 8 8\nt 0 0 0 8 0 0 8 8\nt 0 0 0 8 0 0 8 8\n\
+    t 0 0 0 8 0 0 0 8\nt 0 0 0 0 0 0 0 0\nend\n";
+
 // Where the reader stops at the text of both parts, if it stops.
 fn stop_at(
     alloc: Global,
@@ -57,6 +86,34 @@ fn stop_at(
 ) -> Result<Option<CertStop>, AllocError> {
     let text = format!(in alloc; "{front}{rest}")?;
     Ok(read_cert(alloc, text.as_bytes(), shape).err())
+}
+
+// Asserts that a row is of these members, multipliers and choice.
+fn row_is(
+    rt: &impl Abort,
+    row: &CertRow,
+    members: &[u16],
+    multipliers: (i128, i128),
+    choice: &[u16],
+) {
+    assert!(rt; row.members.items() == members);
+    assert_eq!(rt; (row.first, row.second), multipliers);
+    assert!(rt; row.choice.numbers() == choice);
+}
+
+// The certificate of a text, whose value has this text again.
+fn certificate_of(
+    rt: &impl Abort,
+    alloc: Global,
+    text: &str,
+    shape: Shape,
+) -> Result<Certificate, AllocError> {
+    let Ok(cert) = read_cert(alloc, text.as_bytes(), shape) else {
+        panic!(rt; "this is a certificate");
+    };
+    let written = write_cert(alloc, &cert)?;
+    assert!(rt; written.items() == text.as_bytes());
+    Ok(cert)
 }
 
 #[test]
@@ -75,19 +132,12 @@ fn tells_what_a_certificate_holds(rt: HostRuntime) {
     let [row] = cert.rows.items() else {
         panic!(rt; "there is one row");
     };
-    assert!(rt; row.members.items() == [1, 2].as_slice());
-    assert_eq!(rt; row.first, 1);
-    assert_eq!(rt; row.second, 3);
-    assert!(rt; row.choice.numbers() == [0, 0, 1, 0, 0].as_slice());
+    row_is(&rt, row, &[1, 2], (1, 3), &[0, 0, 1, 0, 0]);
 }
 
 #[test]
 fn writes_back_what_was_read(rt: HostRuntime) -> Result<(), Fail> {
-    let Ok(cert) = read_cert(rt.alloc(), SAMPLE.as_bytes(), SAMPLE_SHAPE) else {
-        panic!(rt; "this is a certificate");
-    };
-    let text = write_cert(rt.alloc(), &cert)?;
-    assert!(rt; text.items() == SAMPLE.as_bytes());
+    certificate_of(&rt, rt.alloc(), SAMPLE, SAMPLE_SHAPE)?;
     Ok(())
 }
 
@@ -159,6 +209,18 @@ fn reads_a_certificate_of_nobody(rt: HostRuntime) -> Result<(), Fail> {
     Ok(())
 }
 
+// Asserts that the reader stops so at each of these texts, in two parts, of a certificate for two bidders and one state.
+fn stops_at(
+    rt: &impl Abort,
+    alloc: Global,
+    faulty: &[(&str, &str, CertStop)],
+) -> Result<(), AllocError> {
+    for (front, rest, stop) in faulty {
+        assert_eq!(rt; stop_at(alloc, TWO, front, rest)?, Some(*stop), "{rest}");
+    }
+    Ok(())
+}
+
 #[test]
 fn names_the_first_faulty_line_behind_the_head(rt: HostRuntime) -> Result<(), Fail> {
     let faulty = [
@@ -169,31 +231,47 @@ fn names_the_first_faulty_line_behind_the_head(rt: HostRuntime) -> Result<(), Fa
         (PARTS, "pay 0\n", CertStop::Form(89)),
         (PARTS, "pay 0 0\nrows 11\n", CertStop::Form(97)),
         (PARTS, "pay 0 0\nrows 10\n", CertStop::Form(105)),
-        (COUNT, "row\n", CertStop::Form(104)),
-        (
-            COUNT,
-            "row 1329227995784915872903807060280344576\n",
-            CertStop::Form(104),
-        ),
-        (
-            COUNT,
-            "row 1 2\nmult 1 3\nchoice 1329227995784915872903807060280344576 0\n",
-            CertStop::Form(121),
-        ),
         (
             PARTS,
             "pay 0 0\nrows 1329227995784915872903807060280344576\n",
             CertStop::Form(97),
         ),
+    ];
+    stops_at(&rt, rt.alloc(), &faulty)?;
+    Ok(())
+}
+
+#[test]
+fn names_the_faulty_line_of_a_row(rt: HostRuntime) -> Result<(), Fail> {
+    let faulty = [
+        (COUNT, "row\n", CertStop::Form(104)),
         (COUNT, "row 0\n", CertStop::Form(104)),
         (COUNT, "row 3\n", CertStop::Form(104)),
         (COUNT, "row 1 1\n", CertStop::Form(104)),
         (COUNT, "row 2 1\n", CertStop::Form(104)),
+        (
+            COUNT,
+            "row 1329227995784915872903807060280344576\n",
+            CertStop::Form(104),
+        ),
         (COUNT, "row 1 2\nmult 1\n", CertStop::Form(112)),
         (
             COUNT,
             "row 1 2\nmult 1 1329227995784915872903807060280344576\n",
             CertStop::Range(112),
+        ),
+    ];
+    stops_at(&rt, rt.alloc(), &faulty)?;
+    Ok(())
+}
+
+#[test]
+fn names_the_faulty_choice_of_a_row(rt: HostRuntime) -> Result<(), Fail> {
+    let faulty = [
+        (
+            COUNT,
+            "row 1 2\nmult 1 3\nchoice 1329227995784915872903807060280344576 0\n",
+            CertStop::Form(121),
         ),
         (
             COUNT,
@@ -206,13 +284,7 @@ fn names_the_first_faulty_line_behind_the_head(rt: HostRuntime) -> Result<(), Fa
             CertStop::Form(136),
         ),
     ];
-    for (front, rest, stop) in faulty {
-        assert_eq!(rt;
-            stop_at(rt.alloc(), TWO, front, rest)?,
-            Some(stop),
-            "{rest}"
-        );
-    }
+    stops_at(&rt, rt.alloc(), &faulty)?;
     Ok(())
 }
 
@@ -251,10 +323,46 @@ fn writes_back_a_text_of_the_second_version(rt: HostRuntime) -> Result<(), Fail>
         bidders: 13,
         states: 1,
     };
-    let Ok(cert) = read_cert(rt.alloc(), SECOND.as_bytes(), shape) else {
-        panic!(rt; "this is a certificate");
+    certificate_of(&rt, rt.alloc(), SECOND, shape)?;
+    Ok(())
+}
+
+#[test]
+fn reads_and_writes_payments_over_3(rt: HostRuntime) -> Result<(), Fail> {
+    let shape = Shape {
+        bidders: 4,
+        states: 8,
     };
-    let text = write_cert(rt.alloc(), &cert)?;
-    assert!(rt; text.items() == SECOND.as_bytes());
+    let cert = certificate_of(&rt, rt.alloc(), THIRDS, shape)?;
+    assert_eq!(rt; cert.den, 3);
+    assert_eq!(rt; cert.value, 30);
+    assert!(rt; cert.pay.items() == [11i128, 11, 11, 0].as_slice());
+    let [row] = cert.rows.items() else {
+        panic!(rt; "there is one row");
+    };
+    row_is(&rt, row, &[1, 2, 3], (3, 11), &[0, 0, 0, 1]);
+    let [_, _, last] = cert.withouts.items() else {
+        panic!(rt; "three win");
+    };
+    assert_eq!(rt; last.winner, 3);
+    assert!(rt; last.choice.numbers() == [1, 1, 0, 0].as_slice());
+    Ok(())
+}
+
+#[test]
+fn reads_and_writes_three_rows(rt: HostRuntime) -> Result<(), Fail> {
+    let shape = Shape {
+        bidders: 5,
+        states: 8,
+    };
+    let cert = certificate_of(&rt, rt.alloc(), THREE_ROWS, shape)?;
+    assert_eq!(rt; cert.den, 1);
+    assert!(rt; cert.pay.items() == [0i128, 8, 0, 0, 0].as_slice());
+    let [both, others, last] = cert.rows.items() else {
+        panic!(rt; "there are three rows");
+    };
+    row_is(&rt, both, &[1, 2], (1, 0), &[0, 0, 1, 1, 0]);
+    row_is(&rt, others, &[2, 3], (0, 8), &[1, 0, 0, 0, 1]);
+    row_is(&rt, last, &[3], (1, -8), &[1, 1, 0, 0, 0]);
     Ok(())
 }

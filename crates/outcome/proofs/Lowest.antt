@@ -2,14 +2,11 @@
 use Rattle.std.proofs.Common.{◌≡◌, ℕ, zero, suc, ◌+◌, ◌*◌, ◌/◌, ◌%◌, ◌<◌, ◌≤◌, ℤ, pos, ◌+ℤ◌, ◌*ℤ◌, ◌^◌, FitsSigned, unsigned_abs, to_z, of_z, refl, sym, ap, subst, ◌∙◌, arith}
 use Rattle.std.specs.Int.{IsGcd, ◌∣◌, w128}
 use Rattle.std.proofs.lemmas.Int.{to_z-of_z, to_z_pos}
-use Rattle.std.proofs.lemmas.Nat.Gcd.{mod-eq-zero_of_dvd, le_of_dvd}
-use Rattle.std.proofs.Math.Nat.{div-add-mod, mod-lt, dvd-mul_right}
+use Rattle.std.proofs.lemmas.Nat.Gcd.{le_of_dvd}
+use Rattle.std.proofs.Math.Nat.{div-add-mod, mod-lt, dvd-mul_right, mul-div_cancel'}
 use Rattle.std.proofs.Math.IntN.{*ℤ_comm}
 use Rattle.wide_num.proofs.Ints.{lin, mul-add, mul_assoc}
 use Rattle.print_form.specs.Fractions.{IsFraction}
-
-divided : (g n : ℕ) → g ∣ n → n ≡ g * (n / g)
-divided g n h = omega (arith, div-add-mod n g, mod-eq-zero_of_dvd g h)
 
 some-divisor : (g d b : ℕ) → 0 < d → d ≡ g * b → (0 < g) × (0 < b)
 some-divisor zero d b some e = absurd (omega arith)
@@ -17,7 +14,7 @@ some-divisor (suc g) d zero some e = absurd (omega arith)
 some-divisor (suc g) d (suc b) some e = (omega arith, omega arith)
 
 pub divisor-above : (r d g : ℕ) → 0 < d → IsGcd r d g → 0 < g
-divisor-above r d g some is = (some-divisor g d (d / g) some (divided g d is.1)).0
+divisor-above r d g some is = (some-divisor g d (d / g) some (sym (mul-div_cancel' g is.1))).0
 
 -- the divisor that the program finds
 pub gcd-of : (n d : ℕ) (z : ℤ) → 0 < d → d < 2 ^ 120 → FitsSigned w128 z → IsGcd (unsigned_abs (to_z w128 (n % d))) (unsigned_abs (to_z w128 d)) (unsigned_abs z)
@@ -50,8 +47,8 @@ whole-and_rest n d q r g a b e f h =
 
 pub lowest-terms : (n d g : ℕ) → 0 < d → IsGcd (n % d) d g → IsFraction (pos n) (pos d) (n / d) (n % d / g) (d / g)
 lowest-terms n d g some is =
-    let rest : n % d ≡ g * (n % d / g) = divided g (n % d) is.0 in
-    let whole : d ≡ g * (d / g) = divided g d is.1 in
+    let rest : n % d ≡ g * (n % d / g) = sym (mul-div_cancel' g is.0) in
+    let whole : d ≡ g * (d / g) = sym (mul-div_cancel' g is.1) in
     let above = some-divisor g d (d / g) some whole in
     let below : n % d < d = mod-lt n some in
     record {

@@ -3,11 +3,8 @@ use Rattle.std.proofs.Common.{◌≡◌, ℕ, zero, suc, ◌+◌, ◌*◌, ◌<�
 use Rattle.std.specs.Int.{w128}
 use Rattle.std.proofs.lemmas.Bool.{cases_lt}
 use Rattle.std.proofs.lemmas.Int.{ints}
+use Rattle.point_laws.proofs.Sums.{total-nonneg}
 use Rattle.wide_num.specs.Sums.{total}
-
-pub total-least : (k : ℕ) (f : ℕ → ℤ) → ((i : ℕ) → i < k → pos 0 ≤ℤ f i) → pos 0 ≤ℤ total k f
-total-least zero f h = omega (arith, ints)
-total-least (suc k) f h = omega (arith, ints, total-least k f (λ i l. h i (omega arith)), h k (omega arith))
 
 -- a sum of fewer is at most the sum
 pub total-up : (n k : ℕ) (f : ℕ → ℤ) → k ≤ n → ((i : ℕ) → i < n → pos 0 ≤ℤ f i) → total k f ≤ℤ total n f
@@ -23,14 +20,14 @@ module _ (n k : ℕ) (f : ℕ → ℤ) (s : ℤ) (inside : k < n) (least : (i : 
   -- the next sum fits, too
   pub next-fits : FitsSigned w128 (s +ℤ to_z w128 (of_z w128 (f k)))
   next-fits =
-      let before : pos 0 ≤ℤ total k f = total-least k f (λ i l. least i (omega arith)) in
+      let before : pos 0 ≤ℤ total k f = total-nonneg k f (λ i l. least i (omega arith)) in
       let own : pos 0 ≤ℤ f k = least k inside in
       let high : total (suc k) f ≤ℤ total n f = total-up n (suc k) f (omega arith) least in
       omega (arith, ints)
 
   pub next-is : to_z w128 (of_z w128 (s +ℤ to_z w128 (of_z w128 (f k)))) ≡ total (k + 1) f
   next-is =
-      let before : pos 0 ≤ℤ total k f = total-least k f (λ i l. least i (omega arith)) in
+      let before : pos 0 ≤ℤ total k f = total-nonneg k f (λ i l. least i (omega arith)) in
       let own : pos 0 ≤ℤ f k = least k inside in
       let high : total (suc k) f ≤ℤ total n f = total-up n (suc k) f (omega arith) least in
       let up : k + 1 ≡ suc k = omega arith in

@@ -1,4 +1,4 @@
-// The texts of two small certificates.
+// The texts of three small certificates.
 ghost use Rattle.std.specs.Prelude.{◌≡◌, ◌∷◌, [], negsuc, pos, IfOk};
 
 use super::write_cert;
@@ -112,6 +112,92 @@ fn one_bidder(alloc: Global) -> Result<Certificate, AllocError> {
     })
 }
 
+// The list of two numbers.
+fn pair(alloc: Global, first: u16, second: u16) -> Result<Numbers, AllocError>
+    ensures { IfOk result (λ list. list ≡ first ∷ second ∷ []) }
+{
+    let mut list = single(alloc, first)?;
+    list.push(second)?;
+    Ok(list)
+}
+
+// The table of two bidders of whom nobody bids.
+fn two_lines(alloc: Global) -> Result<Grid, AllocError>
+    ensures { IfOk result (λ table. table ≡ (pos 0 ∷ pos 0 ∷ []) ∷ (pos 0 ∷ pos 0 ∷ []) ∷ (pos 0 ∷ pos 0 ∷ []) ∷ []) }
+{
+    let mut table = table_of(alloc, 0)?;
+    table.push_line(line_of(alloc, 0)?)?;
+    Ok(table)
+}
+
+// The part without one of the two.
+fn part_of_two(alloc: Global, winner: u16) -> Result<WithoutPart, AllocError>
+    ensures { IfOk result (λ w. (w.winner ≡ winner) × (w.choice ≡ 0 ∷ 0 ∷ []) × (w.table ≡ (pos 0 ∷ pos 0 ∷ []) ∷ (pos 0 ∷ pos 0 ∷ []) ∷ (pos 0 ∷ pos 0 ∷ []) ∷ [])) }
+{
+    let choice = Choice::new(pair(alloc, 0, 0)?);
+    let table = two_lines(alloc)?;
+    Ok(WithoutPart {
+        winner,
+        choice,
+        table,
+    })
+}
+
+// A row of one of the two.
+fn row_of_one(alloc: Global, member: u16, second: i128) -> Result<CertRow, AllocError>
+    ensures { IfOk result (λ r. (r.members ≡ member ∷ []) × (r.choice ≡ 0 ∷ 0 ∷ []) × (r.first ≡ pos 1) × (r.second ≡ second)) }
+{
+    let members = single(alloc, member)?;
+    let choice = Choice::new(pair(alloc, 0, 0)?);
+    Ok(CertRow {
+        members,
+        first: 1,
+        second,
+        choice,
+    })
+}
+
+// A row of both.
+fn row_of_both(alloc: Global) -> Result<CertRow, AllocError>
+    ensures { IfOk result (λ r. (r.members ≡ 1 ∷ 2 ∷ []) × (r.choice ≡ 0 ∷ 0 ∷ []) × (r.first ≡ pos 3) × (r.second ≡ pos 11)) }
+{
+    let members = pair(alloc, 1, 2)?;
+    let choice = Choice::new(pair(alloc, 0, 0)?);
+    Ok(CertRow {
+        members,
+        first: 3,
+        second: 11,
+        choice,
+    })
+}
+
+// A certificate over the denominator 3 that has three rows.
+fn two_bidders(alloc: Global) -> Result<Certificate, AllocError> {
+    let choice = Choice::new(pair(alloc, 3, 1)?);
+    let table = two_lines(alloc)?;
+    let mut withouts = WithoutList::new(alloc);
+    withouts.push(part_of_two(alloc, 1)?)?;
+    withouts.push(part_of_two(alloc, 2)?)?;
+    let mut pay = NumList::new(alloc);
+    pay.push(11)?;
+    pay.push(-4)?;
+    let mut rows = CertRows::new(alloc);
+    rows.push(row_of_both(alloc)?)?;
+    rows.push(row_of_one(alloc, 2, 0)?)?;
+    rows.push(row_of_one(alloc, 1, -8)?)?;
+    let lowered = two_lines(alloc)?;
+    Ok(Certificate {
+        den: 3,
+        value: 30,
+        choice,
+        table,
+        withouts,
+        pay,
+        rows,
+        lowered,
+    })
+}
+
 #[test]
 fn writes_the_certificate_of_nobody(rt: HostRuntime) -> Result<(), Fail> {
     let alloc = rt.alloc();
@@ -127,6 +213,18 @@ fn writes_all_kinds_of_lines(rt: HostRuntime) -> Result<(), Fail> {
     let text = write_cert(alloc, &one_bidder(alloc)?)?;
     let lines =
         "cert 1\nden 1\nvalue 10\nchoice 3\ntable\nt 0 10\nt 0 0\nwithout 1\nchoice 0\ntable\nt 0 0\nt 0 0\npay -4\nrows 1\nrow 1\nmult 1 -105\nchoice 0\nlowered\nt 0 14\nt 0 0\nend\n";
+    assert_eq!(rt; text.items(), lines.as_bytes());
+    Ok(())
+}
+
+#[test]
+fn writes_three_rows_over_3(rt: HostRuntime) -> Result<(), Fail> {
+    let alloc = rt.alloc();
+    let text = write_cert(alloc, &two_bidders(alloc)?)?;
+    let lines = "cert 1\nden 3\nvalue 30\nchoice 3 1\ntable\nt 0 0\nt 0 0\nt 0 0\n\
+        without 1\nchoice 0 0\ntable\nt 0 0\nt 0 0\nt 0 0\nwithout 2\nchoice 0 0\ntable\nt 0 0\nt 0 0\nt 0 0\n\
+        pay 11 -4\nrows 3\nrow 1 2\nmult 3 11\nchoice 0 0\nrow 2\nmult 1 0\nchoice 0 0\n\
+        row 1\nmult 1 -8\nchoice 0 0\nlowered\nt 0 0\nt 0 0\nt 0 0\nend\n";
     assert_eq!(rt; text.items(), lines.as_bytes());
     Ok(())
 }

@@ -1,7 +1,8 @@
 use Rattle.std.proofs.Common.{length, to_z, arith, pos, ◌≤ℤ◌, subst, sym}
 use Rattle.std.specs.Int.{w128}
 use Rattle.wide_num.specs.Sums.{nth}
-use Rattle.outcome.proofs.Totals.{next-fits, next-is, total-least}
+use Rattle.point_laws.proofs.Sums.{total-nonneg}
+use Rattle.outcome.proofs.Totals.{next-fits, next-is}
 use Rattle.outcome.proofs.lines.paid_by_all.Goals as goal
 
 pub overflow_add-sum : goal.overflow_add-sum
@@ -14,4 +15,4 @@ loop-paid-preserved c =
 
 pub returns-clause-sign : goal.returns-clause-sign
 returns-clause-sign c =
-    subst (λ x. pos 0 ≤ℤ x) (sym c.loop-paid.invariant) (total-least c.loop-paid.paid-index (nth c.args.at.now) (λ i l. c.requires.not_negative i (omega arith)))
+    subst (λ x. pos 0 ≤ℤ x) (sym c.loop-paid.invariant) (total-nonneg c.loop-paid.paid-index (nth c.args.at.now) (λ i l. c.requires.not_negative i (omega arith)))
