@@ -17,7 +17,7 @@ use Rattle.auction_rules.proofs.Drafts.{InOrder-placed}
 use Rattle.clock_stage.specs.Kept.{IsHeld, no_round, round_at}
 use Rattle.relative_cap.specs.OwnRounds.{own_in, rounds_of}
 use Rattle.bid_desk.specs.Lists.{IsKept, IsKeptEntry, Lists}
-use Rattle.bid_desk.specs.BookBids.{IsBooked, bids_by, submitted_of, with_most}
+use Rattle.bid_desk.specs.BookBids.{IsBooked, bids_by, submitted_in, with_most}
 use Rattle.bid_desk.proofs.BestBids.{best_bids-more, best_bids-own}
 
 -- ---- kept lists
@@ -119,11 +119,11 @@ bids-more history j k next list bids new some inside at is made =
 -- ---- the bidders
 
 -- the submitted list of a bidder
-pub booked-at : (categories : ℕ) (lists : List Lists) (k : ℕ) (own : Lists) (list : List BookBid) → All (IsBooked categories) (map submitted_of lists) → k < length lists
+pub booked-at : (categories : ℕ) (lists : List Lists) (k : ℕ) (own : Lists) (list : List BookBid) → All (IsBooked categories) (map submitted_in lists) → k < length lists
     → own ≡ get_or lists k own → list ≡ own.submitted → IsBooked categories list
 booked-at categories lists k own list booked inside at is =
-    subst (IsBooked categories) (get_or-map submitted_of lists k own own.submitted inside ∙ ap submitted_of (sym at) ∙ sym is)
-    (booked k own.submitted (omega (arith, inside, length-map lists submitted_of)))
+    subst (IsBooked categories) (get_or-map submitted_in lists k own own.submitted inside ∙ ap submitted_in (sym at) ∙ sym is)
+    (booked k own.submitted (omega (arith, inside, length-map lists submitted_in)))
 
 abbrev bidder_with : List ℕ → List BookBid → Bidder
 bidder_with name bids = record { name = name; bids = bids }
@@ -131,14 +131,14 @@ bidder_with name bids = record { name = name; bids = bids }
 -- one bidder more
 pub bidders-more : (terms : Terms) (rounds : List Round) (lists : List Lists) (k : ℕ) (own : Lists) (name : List ℕ) (list bids : List BookBid) (before all : List Bidder) → k < length lists
     → own ≡ get_or lists k own → list ≡ own.submitted → name ≡ (entrant terms (k + 1)).name → bids ≡ best_bids (map clock_bid (rounds_of (k + 1) rounds) ++ list)
-    → before ≡ listing (book_bidder terms (bids_by rounds (map submitted_of lists))) k → all ≡ before ++ bidder_with name bids ∷ []
-    → all ≡ listing (book_bidder terms (bids_by rounds (map submitted_of lists))) (k + 1)
+    → before ≡ listing (book_bidder terms (bids_by rounds (map submitted_in lists))) k → all ≡ before ++ bidder_with name bids ∷ []
+    → all ≡ listing (book_bidder terms (bids_by rounds (map submitted_in lists))) (k + 1)
 bidders-more terms rounds lists k own name list bids before all inside at is by_name by_bids so_far more =
-    let F : ℕ → Bidder = book_bidder terms (bids_by rounds (map submitted_of lists)) in
+    let F : ℕ → Bidder = book_bidder terms (bids_by rounds (map submitted_in lists)) in
     let place : k + 1 - 1 ≡ k = omega arith in
-    let listed : get_or (map submitted_of lists) (k + 1 - 1) [] ≡ list
-    = ap (λ (n : ℕ). get_or (map submitted_of lists) n []) place ∙ get_or-map submitted_of lists k own [] inside ∙ ap submitted_of (sym at) ∙ sym is in
-    let own_bids : bids ≡ bids_by rounds (map submitted_of lists) (k + 1) = by_bids ∙ sym (ap (λ (l : List BookBid). best_bids (map clock_bid (rounds_of (k + 1) rounds) ++ l)) listed) in
+    let listed : get_or (map submitted_in lists) (k + 1 - 1) [] ≡ list
+    = ap (λ (n : ℕ). get_or (map submitted_in lists) n []) place ∙ get_or-map submitted_in lists k own [] inside ∙ ap submitted_in (sym at) ∙ sym is in
+    let own_bids : bids ≡ bids_by rounds (map submitted_in lists) (k + 1) = by_bids ∙ sym (ap (λ (l : List BookBid). best_bids (map clock_bid (rounds_of (k + 1) rounds) ++ l)) listed) in
     let bidder : bidder_with name bids ≡ F (k + 1) = ap (λ (n : List ℕ). bidder_with n bids) by_name ∙ ap (bidder_with (entrant terms (k + 1)).name) own_bids in
     let next : suc k ≡ k + 1 = omega arith in
     more ∙ ap (λ (bs : List Bidder). bs ++ bidder_with name bids ∷ []) so_far ∙ ap (λ (b : Bidder). listing F k ++ b ∷ []) (bidder ∙ sym (ap F next)) ∙ ap (listing F) next

@@ -22,8 +22,8 @@ pub record IsBooked (categories : ℕ) (list : List BookBid) : Type 0 where
   pub some : AllByRecursion (λ b. is_empty b.lots ≡ false) list
 
 -- the submitted list
-abbrev pub submitted_of : Lists → List BookBid
-submitted_of lists = lists.submitted
+abbrev pub submitted_in : Lists → List BookBid
+submitted_in lists = lists.submitted
 
 -- the bids of bidder j in the book, by the closed rounds and the submitted lists of all bidders
 abbrev pub bids_by : List Round → List (List BookBid) → ℕ → List BookBid

@@ -9,7 +9,7 @@ ghost use Rattle.auction_rules.specs.Terms.{entrant};
 ghost use Rattle.clock_stage.specs.Kept.{categories_in};
 ghost use Rattle.relative_cap.specs.Asked.{IsBidderOf};
 ghost use Rattle.relative_cap.specs.OwnRounds.{bid_value, own_in, rounds_of};
-ghost use Rattle.bid_desk.specs.BookBids.{AreBooked, IsBooked, bids_by, submitted_of, with_most};
+ghost use Rattle.bid_desk.specs.BookBids.{AreBooked, IsBooked, bids_by, submitted_in, with_most};
 ghost use Rattle.bid_desk.specs.Lists.{IsKept};
 
 use crate::lists::BidderLists;
@@ -116,8 +116,8 @@ fn bidders_of(
     history: &History,
     lists: &[BidderLists],
 ) -> Result<Bidders, AllocError>
-    requires { AreBooked award.now history.now (map submitted_of lists.now) }
-    ensures { IfOk result (λ b. b ≡ listing (book_bidder award.now (bids_by history.now (map submitted_of lists.now))) (length award.now.bidders)) }
+    requires { AreBooked award.now history.now (map submitted_in lists.now) }
+    ensures { IfOk result (λ b. b ≡ listing (book_bidder award.now (bids_by history.now (map submitted_in lists.now))) (length award.now.bidders)) }
 {
     let _most = award.bidders();
     let mut bidders = Bidders::new(alloc);
@@ -156,9 +156,9 @@ pub fn book_of(
     history: &History,
     lists: &[BidderLists],
 ) -> Result<BidBook, AllocError>
-    requires booked { AreBooked award.now history.now (map submitted_of lists.now) }
-    requires limits { IsBookWithinLimits (book_by award.now (bids_by history.now (map submitted_of lists.now))) }
-    ensures { IfOk result (λ book. book ≡ book_by award.now (bids_by history.now (map submitted_of lists.now))) }
+    requires booked { AreBooked award.now history.now (map submitted_in lists.now) }
+    requires limits { IsBookWithinLimits (book_by award.now (bids_by history.now (map submitted_in lists.now))) }
+    ensures { IfOk result (λ book. book ≡ book_by award.now (bids_by history.now (map submitted_in lists.now))) }
 {
     let supply = supply_copied(alloc, award.supply())?;
     let reserves = reserves_copied(alloc, award.reserves())?;
