@@ -5,6 +5,8 @@ mod book;
 mod desk;
 mod lists;
 mod slots;
+#[cfg(test)]
+mod tests;
 
 pub use auction_rules::{Event, Reply, Stage};
 pub use desk::{Desk, DeskStop};
