@@ -5,6 +5,7 @@ mod append;
 mod auction;
 mod commands;
 mod laws;
+mod price_text;
 mod pricing;
 mod print;
 mod top;

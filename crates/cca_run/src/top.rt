@@ -72,8 +72,8 @@ fn tell_words<F: Files, O: Sink>(files: &F, out: &mut O) -> Status
 ///
 /// `win BOOK` prints the winners of a book and their net value. `price BOOK CERT` prices the book, appends the certificate to CERT and
 /// prints what the winners bid, their Vickrey prices and what they pay; with `--rounds` behind the files a line for each turn of pricing
-/// comes before that. `check BOOK CERT` tests a certificate of the book, whoever wrote it, and prints `yes` and the outcome that it
-/// shows, or the first test that fails with its place. A yes is sound: the choice is the winning one, and the payments are the core
+/// comes before that, and with `--json` all is one line of JSON. `check BOOK CERT` tests a certificate of the book, whoever wrote it, and
+/// prints `yes` and the outcome that it shows, or the first test that fails with its place. A yes is sound: the choice is the winning one, and the payments are the core
 /// outcome. `auction AWARD LOG BOOK` replays the log of an auction, appends the text of its book to BOOK and prints a line for the reply
 /// to each record; where a close is refused for a limit, or the log isn't complete, there is no book, and the line of the status comes
 /// behind those lines.
