@@ -1,6 +1,7 @@
 -- The plain form of the words that are given to the program, and the files of each command.
 use Rattle.std.specs.Prelude.{ℕ, Bool, true, false, ◌==◌, ◌&&◌, ◌||◌, not, Option, Some, None, option_map, option_and_then, List, [], ◌∷◌, codes, find, filter, map, if◌then◌else◌}
 use Rattle.std.specs.Str.{bytes_eq}
+use Rattle.cca_inputs.specs.declared.price_form.PriceForm.{PriceForm}
 use Rattle.cca_inputs.specs.declared.status.FileKind.{FileKind}
 use Rattle.cca_inputs.specs.declared.status.FileKind.TheVariants.{Award, Log, Book, Cert, Out}
 
@@ -8,14 +9,14 @@ use Rattle.cca_inputs.specs.declared.status.FileKind.TheVariants.{Award, Log, Bo
 pub data CommandValue : Type 0 where
   -- the winners of a book
   win : List ℕ → CommandValue
-  -- the prices of a book and their certificate, with a line for each turn or without
-  price : List ℕ → List ℕ → Bool → CommandValue
+  -- the prices of a book in a form, and their certificate
+  price : List ℕ → List ℕ → PriceForm → CommandValue
   -- the test of a certificate of a book
   check : List ℕ → List ℕ → CommandValue
   -- the replies to the log of an auction, and its book
   auction : List ℕ → List ℕ → List ℕ → CommandValue
-  -- the prices of the book of a log and their certificate, with a line for each turn or without
-  award : List ℕ → List ℕ → List ℕ → Bool → CommandValue
+  -- the prices of the book of a log in a form, and their certificate
+  award : List ℕ → List ℕ → List ℕ → PriceForm → CommandValue
   -- the test of a certificate of the book of a log
   audit : List ℕ → List ℕ → List ℕ → CommandValue
 
@@ -39,10 +40,10 @@ appending kind name = record { kind = kind; how = appends; name = name }
 -- The table of files: those of each command, in the order of the words. All else that is said of a command's files follows from it.
 abbrev pub files_of : CommandValue → List FileUse
 files_of (win book) = reading Book book ∷ []
-files_of (price book cert rounds) = reading Book book ∷ appending Cert cert ∷ []
+files_of (price book cert form) = reading Book book ∷ appending Cert cert ∷ []
 files_of (check book cert) = reading Book book ∷ reading Cert cert ∷ []
 files_of (auction terms log book) = reading Award terms ∷ reading Log log ∷ appending Book book ∷ []
-files_of (award terms log cert rounds) = reading Award terms ∷ reading Log log ∷ appending Cert cert ∷ []
+files_of (award terms log cert form) = reading Award terms ∷ reading Log log ∷ appending Cert cert ∷ []
 files_of (audit terms log cert) = reading Award terms ∷ reading Log log ∷ reading Cert cert ∷ []
 
 -- not empty, and not beginning with '-'
@@ -66,17 +67,37 @@ win_words [] = None
 win_words (f ∷ []) = if are_file_words (f ∷ []) then Some (win f) else None
 win_words (f ∷ g ∷ rest) = None
 
--- whether the words behind the files ask for the turns
-abbrev pub rounds_asked : List (List ℕ) → Option Bool
-rounds_asked [] = Some false
-rounds_asked (f ∷ []) = if bytes_eq f (codes "--rounds") then Some true else None
-rounds_asked (f ∷ g ∷ rest) = None
+-- prices are printed as lines or as JSON, with the turns or without
+abbrev pub form_with : Bool → Bool → PriceForm
+form_with rounds json = record { rounds = rounds; json = json }
+
+-- the form that one flag asks for
+abbrev pub one_flag : List ℕ → Option PriceForm
+one_flag f =
+    if bytes_eq f (codes "--rounds") then Some (form_with true false)
+    else if bytes_eq f (codes "--json") then Some (form_with false true)
+    else None
+
+-- the first is the flag of the rounds, and the second that of JSON
+abbrev pub are_both : List ℕ → List ℕ → Bool
+are_both f g = bytes_eq f (codes "--rounds") && bytes_eq g (codes "--json")
+
+-- the form that two flags ask for: they aren't the same, and stand in either order
+abbrev pub two_flags : List ℕ → List ℕ → Option PriceForm
+two_flags f g = if are_both f g || are_both g f then Some (form_with true true) else None
+
+-- the form that the words behind the files ask for
+abbrev pub form_asked : List (List ℕ) → Option PriceForm
+form_asked [] = Some (form_with false false)
+form_asked (f ∷ []) = one_flag f
+form_asked (f ∷ g ∷ []) = two_flags f g
+form_asked (f ∷ g ∷ h ∷ rest) = None
 
 -- the words behind `price`
 abbrev pub price_words : List (List ℕ) → Option CommandValue
 price_words [] = None
 price_words (f ∷ []) = None
-price_words (f ∷ g ∷ flags) = if are_file_words (f ∷ g ∷ []) then option_map (price f g) (rounds_asked flags) else None
+price_words (f ∷ g ∷ flags) = if are_file_words (f ∷ g ∷ []) then option_map (price f g) (form_asked flags) else None
 
 -- the words behind `check`
 abbrev pub check_words : List (List ℕ) → Option CommandValue
@@ -98,7 +119,7 @@ abbrev pub award_words : List (List ℕ) → Option CommandValue
 award_words [] = None
 award_words (f ∷ []) = None
 award_words (f ∷ g ∷ []) = None
-award_words (f ∷ g ∷ h ∷ flags) = if are_file_words (f ∷ g ∷ h ∷ []) then option_map (award f g h) (rounds_asked flags) else None
+award_words (f ∷ g ∷ h ∷ flags) = if are_file_words (f ∷ g ∷ h ∷ []) then option_map (award f g h) (form_asked flags) else None
 
 -- the words behind `audit`
 abbrev pub audit_words : List (List ℕ) → Option CommandValue

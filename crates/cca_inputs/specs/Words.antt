@@ -8,10 +8,10 @@ use Rattle.cca_inputs.specs.Command.{CommandValue, win, price, check, auction, a
 
 abbrev pub command_value : Command → CommandValue
 command_value (Win book) = win book.now
-command_value (Price book cert rounds) = price book.now cert.now rounds
+command_value (Price book cert form) = price book.now cert.now form
 command_value (Check book cert) = check book.now cert.now
 command_value (Auction terms log book) = auction terms.now log.now book.now
-command_value (Award terms log cert rounds) = award terms.now log.now cert.now rounds
+command_value (Award terms log cert form) = award terms.now log.now cert.now form
 command_value (Audit terms log cert) = audit terms.now log.now cert.now
 
 -- the names of its files are among the words

@@ -1,9 +1,10 @@
 // The plain form of the words.
 ghost use Rattle.std.specs.Prelude.{◌≡◌, map, string_bytes, option_map, Some, None, IfSome};
-ghost use Rattle.cca_inputs.specs.Command.{are_file_words, auction_words, audit_words, award_words, check_words, command_of, is_among, is_file_word, output_as, price_words, rounds_asked, win_words};
+ghost use Rattle.cca_inputs.specs.Command.{are_file_words, auction_words, audit_words, award_words, check_words, command_of, is_among, is_file_word, output_as, price_words, win_words};
 ghost use Rattle.cca_inputs.specs.Words.{AreAmong, command_value};
 
-use crate::FileKind;
+use crate::price_form::asked_form;
+use crate::{FileKind, PriceForm};
 
 /// A command in its plain form, with the names of its files.
 #[derive(Clone, Copy, Debug)]
@@ -12,12 +13,11 @@ pub enum Command<'a> {
     Win {
         book: &'a str,
     },
-    /// A book is priced; its certificate is appended, and the prices are printed, behind a line for each turn where the rounds are
-    /// asked for.
+    /// A book is priced; its certificate is appended, and the prices are printed in the form that is asked for.
     Price {
         book: &'a str,
         cert: &'a str,
-        rounds: bool,
+        form: PriceForm,
     },
     /// A certificate of a book is tested.
     Check {
@@ -30,13 +30,13 @@ pub enum Command<'a> {
         log: &'a str,
         book: &'a str,
     },
-    /// The log of an auction is replayed and its book priced; the certificate is appended, and the prices are printed, behind a line for
-    /// each turn where the rounds are asked for.
+    /// The log of an auction is replayed and its book priced; the certificate is appended, and the prices are printed in the form that is
+    /// asked for.
     Award {
         award: &'a str,
         log: &'a str,
         cert: &'a str,
-        rounds: bool,
+        form: PriceForm,
     },
     /// The log of an auction is replayed, and a certificate of its book is tested.
     Audit {
@@ -105,17 +105,6 @@ fn win_command(words: &[String]) -> Option<Command<'_>>
     })
 }
 
-// Whether the words behind the files ask for the rounds; None where they say something else.
-fn asks_for_rounds(flags: &[String]) -> Option<bool>
-    ensures { result ≡ rounds_asked (map string_bytes flags.now) }
-{
-    match flags {
-        [] => Some(false),
-        [flag] if flag.as_str() == "--rounds" => Some(true),
-        _ => None,
-    }
-}
-
 fn price_command(words: &[String]) -> Option<Command<'_>>
     ensures among { IfSome result (λ c. AreAmong (map string_bytes words.now) (command_value c)) }
     ensures command { option_map command_value result ≡ price_words (map string_bytes words.now) }
@@ -126,11 +115,11 @@ fn price_command(words: &[String]) -> Option<Command<'_>>
     if !can_be_files(&words[..2]) {
         return None;
     }
-    let rounds = asks_for_rounds(flags)?;
+    let form = asked_form(flags)?;
     Some(Command::Price {
         book: book.as_str(),
         cert: cert.as_str(),
-        rounds,
+        form,
     })
 }
 
@@ -177,12 +166,12 @@ fn award_command(words: &[String]) -> Option<Command<'_>>
     if !can_be_files(&words[..3]) {
         return None;
     }
-    let rounds = asks_for_rounds(flags)?;
+    let form = asked_form(flags)?;
     Some(Command::Award {
         award: award.as_str(),
         log: log.as_str(),
         cert: cert.as_str(),
-        rounds,
+        form,
     })
 }
 

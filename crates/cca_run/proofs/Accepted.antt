@@ -1,5 +1,5 @@
 -- A certificate that pricing writes is accepted by the checker.
-use Rattle.std.specs.Prelude.{◌≡◌, ℕ, ℤ, Bool, false, ◌≤◌, ◌<◌, ◌^◌, Option, Some, None, List, [], ◌∷◌, ◌++◌, codes, length, pos, ◌≤ℤ◌, refl, unsigned_abs}
+use Rattle.std.specs.Prelude.{◌≡◌, ℕ, ℤ, false, ◌≤◌, ◌<◌, ◌^◌, Option, Some, None, List, [], ◌∷◌, ◌++◌, codes, length, pos, ◌≤ℤ◌, refl, unsigned_abs}
 use Rattle.std.proofs.Common.{inl, inr, sym, ◌∙◌, ap, subst, arith}
 use Rattle.std.proofs.lemmas.Bool.{cases_lt}
 use Rattle.std.proofs.lemmas.Int.{ints}
@@ -21,18 +21,19 @@ use Rattle.limits.specs.declared.TheConstants.{BOOK_BYTES, CERT_BYTES, MOST_AMOU
 use Rattle.print_form.specs.Prices.{IsPriceText}
 use Rattle.row_laws.specs.Winners.{winners_in}
 use Rattle.cca_inputs.specs.Answers.{BookAnswers, CertAnswers, book_answer, cert_answer}
-use Rattle.cca_inputs.specs.Command.{price, check}
+use Rattle.cca_inputs.specs.Command.{form_with, price, check}
 use Rattle.cca_inputs.specs.Outcome.{Answer, AnswerGives, FileAnswers, Outcome, stopped, stops, value}
 use Rattle.cca_inputs.specs.declared.file_text.FileText.{FileText}
+use Rattle.cca_inputs.specs.declared.price_form.PriceForm.{PriceForm}
 use Rattle.cca_inputs.specs.declared.status.Status.{Status}
 use Rattle.cca_inputs.specs.declared.status.Status.TheVariants.{Done}
 use Rattle.cca_run.proofs.OneOutcome.{one-answer}
-use Rattle.cca_run.specs.Gives.{AreRounds, BookGives, CertGives, FilesGive, IsPricing, PriceGives, VerdictGives, cert_file, ones}
+use Rattle.cca_run.specs.Gives.{ArePriceLines, ArePrinted, BookGives, CertGives, FilesGive, IsPricing, PriceGives, VerdictGives, cert_file, ones}
 use Rattle.cca_run.specs.Later.{HoldsCert}
 
--- the test is done, and where no turns were asked for it prints `yes` and then what the prices printed
-abbrev pub Accepts : Bool → Outcome → Outcome → Type 0
-Accepts rounds o p = (p.status ≡ Done) × (rounds ≡ false → p.printed ≡ codes "yes\n" ++ o.printed)
+-- the test is done, and where lines without turns were asked for it prints `yes` and then what the prices printed
+abbrev pub Accepts : PriceForm → Outcome → Outcome → Type 0
+Accepts form o p = (p.status ≡ Done) × (form ≡ form_with false false → p.printed ≡ codes "yes\n" ++ o.printed)
 
 -- the text of the first file
 abbrev first-text : List FileText → List ℕ
@@ -87,59 +88,61 @@ module _ (one_book : (bytes : List ℕ) (x y : Said Book Excess) → Says IsBook
   same-book bytes x y a b = a.2 ∙ ap book_answer (one_book bytes a.0 b.0 a.1 b.1) ∙ sym b.2
 
   -- the verdict on a certificate for which all tests hold
-  judged : (book : Book) (rounds : Bool) (c : CertValue) (t : List ℕ) (p : Outcome) → IsPricing book (ones book) rounds c t → VerdictGives book (ones book) c p
-      → (p.status ≡ Done) × (rounds ≡ false → p.printed ≡ codes "yes\n" ++ t)
-  judged book rounds c t p is (inr fails) = absurd (not_both book (weight_of (ones book)) c fails.0 fails.1 is.priced.holds fails.2)
-  judged book rounds c t p is (inl (holds, sound, (text, (prices, are, whole), ends))) =
-      let den = is.priced.outcome.core.den_positive in
-      let same : prices ≡ is.prices = one_prices book c.choice (cert_prices book c) (cert_prices book c) (cert_point c) (cert_point c) prices is.prices is.certificate.choice.0 den den
-      (λ j some le. refl) (λ j some le. refl) are is.are_prices in
-      let none : rounds ≡ false → is.lines ≡ [] = λ e. subst (λ (r : Bool). AreRounds r c.choice is.turns is.lines) e is.are_rounds in (
-        ap (λ (x : Outcome). x.status) ends,
-        λ e. ap (λ (x : Outcome). x.printed) ends ∙ whole ∙ yes-printed is.lines is.prices prices t (none e) same is.whole,
-      )
+  judged : (book : Book) (form : PriceForm) (c : CertValue) (t : List ℕ) (p : Outcome) → IsPricing book (ones book) form c t → VerdictGives book (ones book) c p
+      → (p.status ≡ Done) × (form ≡ form_with false false → p.printed ≡ codes "yes\n" ++ t)
+  judged book form c t p is (inr fails) = absurd (not_both book (weight_of (ones book)) c fails.0 fails.1 is.priced.holds fails.2)
+  judged book form c t p is (inl (holds, sound, (text, (prices, are, whole), ends))) = (
+    ap (λ (x : Outcome). x.status) ends,
+    λ e. (
+        let den = is.priced.outcome.core.den_positive in
+        let plain : ArePriceLines false book c.choice (cert_prices book c) (cert_point c) is.turns t = subst (λ (f : PriceForm). ArePrinted f book c is.turns t) e is.printed in
+        let same : prices ≡ plain.prices = one_prices book c.choice (cert_prices book c) (cert_prices book c) (cert_point c) (cert_point c) prices plain.prices is.certificate.choice.0 den den
+        (λ j some le. refl) (λ j some le. refl) are plain.are_prices in
+        ap (λ (x : Outcome). x.printed) ends ∙ whole ∙ yes-printed plain.lines plain.prices prices t plain.are_rounds same plain.whole
+        ),
+  )
 
   -- its text states it, and isn't too long
-  answered : (book : Book) (rounds : Bool) (c : CertValue) (t : List ℕ) (answer : Answer CertValue) → IsBidBook book → IsPricing book (ones book) rounds c t
+  answered : (book : Book) (form : PriceForm) (c : CertValue) (t : List ℕ) (answer : Answer CertValue) → IsBidBook book → IsPricing book (ones book) form c t
       → FileAnswers CERT_BYTES (CertAnswers book) (cert_text c) answer → answer ≡ value c
-  answered book rounds c t answer rules is answers =
+  answered book form c t answer rules is answers =
       let short = short_text book (weight_of (ones book)) c (sizes-of book rules) is.certificate is.priced is.few.0 in
       let says = answers.text (omega (arith, short)) in
       let states_it = text_of_cert (bidders_of book) (states book) c (omega (arith, rules.bidders)) is.certificate in
       says.2 ∙ ap cert_answer (one_cert (bidders_of book) (states book) (cert_text c) says.0 (stated c) says.1 states_it)
 
   -- the certificate of a book that can be priced is accepted
-  of-cert : (book : Book) (rounds : Bool) (o p : Outcome) (text : List ℕ) → IsBidBook book → PriceGives book (ones book) rounds o → o.appended ≡ cert_file text ∷ []
-      → CertGives book (Some text) (VerdictGives book (ones book)) p → Accepts rounds o p
-  of-cert book rounds o p text rules (inr many) some gives = absurd (nothing-appended _ o text many.2 some)
-  of-cert book rounds o p text rules (inl (c, t, is, ends)) some gives = by (subst (λ (x : List ℕ). CertGives book (Some x) (VerdictGives book (ones book)) p) (sym same) gives)
+  of-cert : (book : Book) (form : PriceForm) (o p : Outcome) (text : List ℕ) → IsBidBook book → PriceGives book (ones book) form o → o.appended ≡ cert_file text ∷ []
+      → CertGives book (Some text) (VerdictGives book (ones book)) p → Accepts form o p
+  of-cert book form o p text rules (inr many) some gives = absurd (nothing-appended _ o text many.2 some)
+  of-cert book form o p text rules (inl (c, t, is, ends)) some gives = by (subst (λ (x : List ℕ). CertGives book (Some x) (VerdictGives book (ones book)) p) (sym same) gives)
     where
       same : cert_text c ≡ text
       same = ap first-text (sym (ap (λ (x : Outcome). x.appended) ends) ∙ some)
 
-      by : CertGives book (Some (cert_text c)) (VerdictGives book (ones book)) p → Accepts rounds o p
+      by : CertGives book (Some (cert_text c)) (VerdictGives book (ones book)) p → Accepts form o p
       by (answer, answers, follows) =
-          let e = answered book rounds c t answer rules is answers in
+          let e = answered book form c t answer rules is answers in
           let verdict = subst (λ (a : Answer CertValue). AnswerGives a (VerdictGives book (ones book)) p) e follows in
-          let both = judged book rounds c t p is verdict in
+          let both = judged book form c t p is verdict in
           (both.0, λ none. both.1 none ∙ ap (λ (x : List ℕ). codes "yes\n" ++ x) (sym (ap (λ (x : Outcome). x.printed) ends)))
 
   -- of the bytes of a book
-  of-book : (rounds : Bool) (o p : Outcome) (text : List ℕ) (content : Option (List ℕ)) → BookGives content (λ b. PriceGives b (ones b) rounds) o → o.appended ≡ cert_file text ∷ []
-      → BookGives content (λ b. CertGives b (Some text) (VerdictGives b (ones b))) p → Accepts rounds o p
-  of-book rounds o p text None prices some checks = absurd (nothing-appended _ o text prices some)
-  of-book rounds o p text (Some bytes) (a, answers, prices) some (b, others, checks) =
+  of-book : (form : PriceForm) (o p : Outcome) (text : List ℕ) (content : Option (List ℕ)) → BookGives content (λ b. PriceGives b (ones b) form) o → o.appended ≡ cert_file text ∷ []
+      → BookGives content (λ b. CertGives b (Some text) (VerdictGives b (ones b))) p → Accepts form o p
+  of-book form o p text None prices some checks = absurd (nothing-appended _ o text prices some)
+  of-book form o p text (Some bytes) (a, answers, prices) some (b, others, checks) =
       go a answers prices (subst (λ (x : Answer Book). AnswerGives x (λ b. CertGives b (Some text) (VerdictGives b (ones b))) p) (one-answer BOOK_BYTES BookAnswers same-book bytes b a others answers) checks)
     where
-      go : (a : Answer Book) → FileAnswers BOOK_BYTES BookAnswers bytes a → AnswerGives a (λ b. PriceGives b (ones b) rounds) o
-          → AnswerGives a (λ b. CertGives b (Some text) (VerdictGives b (ones b))) p → Accepts rounds o p
-      go (value book) answers prices checks = of-cert book rounds o p text (book-kept bytes book (within-says BOOK_BYTES BookAnswers bytes book answers)) prices some checks
+      go : (a : Answer Book) → FileAnswers BOOK_BYTES BookAnswers bytes a → AnswerGives a (λ b. PriceGives b (ones b) form) o
+          → AnswerGives a (λ b. CertGives b (Some text) (VerdictGives b (ones b))) p → Accepts form o p
+      go (value book) answers prices checks = of-cert book form o p text (book-kept bytes book (within-says BOOK_BYTES BookAnswers bytes book answers)) prices some checks
       go (stops status) answers prices checks = absurd (nothing-appended status o text prices some)
 
   -- of the files
-  pub accepted : (book cert : List ℕ) (rounds : Bool) (file later : List ℕ → Option (List ℕ)) (o p : Outcome) → FilesGive (price book cert rounds) file o → HoldsCert book cert file later o
-      → FilesGive (check book cert) later p → Accepts rounds o p
-  accepted book cert rounds file later o p prices holds checks = of-book rounds o p holds.text (file book) prices holds.appended there
+  pub accepted : (book cert : List ℕ) (form : PriceForm) (file later : List ℕ → Option (List ℕ)) (o p : Outcome) → FilesGive (price book cert form) file o → HoldsCert book cert file later o
+      → FilesGive (check book cert) later p → Accepts form o p
+  accepted book cert form file later o p prices holds checks = of-book form o p holds.text (file book) prices holds.appended there
     where
       with-book : BookGives (file book) (λ b. CertGives b (later cert) (VerdictGives b (ones b))) p
       with-book = subst (λ (x : Option (List ℕ)). BookGives x (λ b. CertGives b (later cert) (VerdictGives b (ones b))) p) holds.book_holds checks

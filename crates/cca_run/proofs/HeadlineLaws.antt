@@ -1,6 +1,6 @@
 -- What a run that is done shows of its files.
 use Rattle.std.proofs.Common.{◌≡◌, ◌∙◌, ℕ, Option, Some, None, List, [], ◌∷◌, length, refl, sym, ap, subst, arith, inl, inr}
-use Rattle.std.specs.Prelude.{Bool, ◌-◌, ◌<◌, ◌≤◌, Result, Ok, Err, replicate, reverse}
+use Rattle.std.specs.Prelude.{◌-◌, ◌<◌, ◌≤◌, Result, Ok, Err, replicate, reverse}
 use Rattle.std.proofs.lemmas.Bool.{cases_lt}
 use Rattle.std.proofs.lemmas.List.{get_or-replicate}
 use Rattle.auction_model.specs.Book.{Book, market_of}
@@ -25,6 +25,7 @@ use Rattle.limits.specs.declared.TheConstants.{AWARD_BYTES, LOG_BYTES, CERT_BYTE
 use Rattle.cca_inputs.specs.Answers.{AwardAnswers, CertAnswers, LogAnswers, award_answer, cert_answer}
 use Rattle.cca_inputs.specs.Command.{award, audit}
 use Rattle.cca_inputs.specs.Outcome.{Answer, FileAnswers, AnswerGives, InputGives, Outcome, done, stopped, stops, value}
+use Rattle.cca_inputs.specs.declared.price_form.PriceForm.{PriceForm}
 use Rattle.cca_inputs.specs.declared.status.FileKind.{FileKind}
 use Rattle.cca_inputs.specs.declared.status.FileKind.TheVariants as kinds
 use Rattle.cca_inputs.specs.declared.status.Status.{Status}
@@ -157,18 +158,18 @@ module _ (plain : (m : Market) (w : ℕ → ℕ) (z : List ℕ) (p : Point) → 
           )
 
   -- what was written, by what is known of each file
-  pub awarded : (file : List ℕ → Option (List ℕ)) (terms log cert : List ℕ) (rounds : Bool) (o : Outcome) → FilesGive (award terms log cert rounds) file o → o.status ≡ Done
+  pub awarded : (file : List ℕ → Option (List ℕ)) (terms log cert : List ℕ) (form : PriceForm) (o : Outcome) → FilesGive (award terms log cert form) file o → o.status ≡ Done
       → (text : List ℕ) × IsAwarded file terms log text × (o.appended ≡ cert_file text ∷ [])
-  awarded file terms log cert rounds o gives ends =
-      let a = has-value kinds.Award AWARD_BYTES AwardAnswers (file terms) (λ t. LogGives t (file log) (λ events. BookOfLogGives t events (λ b. PriceGives b (ones b) rounds))) o award-never gives ends in
-      let l = has-value kinds.Log LOG_BYTES (LogAnswers a.of) (file log) (λ events. BookOfLogGives a.of events (λ b. PriceGives b (ones b) rounds)) o (log-never a.of) a.goes_on ends in
-      let b = has-book (length l.of) (end_of a.of (reverse l.of)) (λ b. PriceGives b (ones b) rounds) o l.goes_on ends in
+  awarded file terms log cert form o gives ends =
+      let a = has-value kinds.Award AWARD_BYTES AwardAnswers (file terms) (λ t. LogGives t (file log) (λ events. BookOfLogGives t events (λ b. PriceGives b (ones b) form))) o award-never gives ends in
+      let l = has-value kinds.Log LOG_BYTES (LogAnswers a.of) (file log) (λ events. BookOfLogGives a.of events (λ b. PriceGives b (ones b) form)) o (log-never a.of) a.goes_on ends in
+      let b = has-book (length l.of) (end_of a.of (reverse l.of)) (λ b. PriceGives b (ones b) form) o l.goes_on ends in
       by a l b b.2
     where
-      by : (a : HasValue AwardAnswers (file terms) (λ t. LogGives t (file log) (λ events. BookOfLogGives t events (λ b. PriceGives b (ones b) rounds))) o)
-          (l : HasValue (LogAnswers a.of) (file log) (λ events. BookOfLogGives a.of events (λ b. PriceGives b (ones b) rounds)) o)
-          (b : (book : Book) × (end_of a.of (reverse l.of) ≡ Ok book) × PriceGives book (ones book) rounds o)
-          → PriceGives b.0 (ones b.0) rounds o → (text : List ℕ) × IsAwarded file terms log text × (o.appended ≡ cert_file text ∷ [])
+      by : (a : HasValue AwardAnswers (file terms) (λ t. LogGives t (file log) (λ events. BookOfLogGives t events (λ b. PriceGives b (ones b) form))) o)
+          (l : HasValue (LogAnswers a.of) (file log) (λ events. BookOfLogGives a.of events (λ b. PriceGives b (ones b) form)) o)
+          (b : (book : Book) × (end_of a.of (reverse l.of) ≡ Ok book) × PriceGives book (ones book) form o)
+          → PriceGives b.0 (ones b.0) form o → (text : List ℕ) × IsAwarded file terms log text × (o.appended ≡ cert_file text ∷ [])
       by a l b (inr (z, many, told)) = let no = sym (ap (λ (x : Outcome). x.status) told) ∙ ends in absurd cc
       by a l b (inl (c, printed, is, told)) =
           let log_of = logged a.of (reverse l.of) b.0 b.1 in (

@@ -46,8 +46,8 @@ output-known folder command kind name is all =
 -- no command appends to the output
 pub never-out : (command : CommandValue) (name : List ℕ) → output_as command Out ≡ Some name → ⊥
 never-out (win book) name is = cc
-never-out (price book cert rounds) name is = cc
+never-out (price book cert form) name is = cc
 never-out (check book cert) name is = cc
 never-out (auction terms log book) name is = cc
-never-out (award terms log cert rounds) name is = cc
+never-out (award terms log cert form) name is = cc
 never-out (audit terms log cert) name is = cc

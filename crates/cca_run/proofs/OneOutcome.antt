@@ -17,6 +17,7 @@ use Rattle.cert_form.specs.Certificate.{CertValue}
 use Rattle.cert_form.specs.Says.{CertSays, cert_text}
 use Rattle.cert_laws.specs.Sound.{IsSound, cert_point, cert_prices}
 use Rattle.cert_laws.specs.Tests.{FailsFirst, Holds, bidders_of, states}
+use Rattle.print_form.specs.Json.{IsOutcomeJson}
 use Rattle.print_form.specs.Prices.{IsPriceText}
 use Rattle.print_form.specs.Turns.{AreTurnLines}
 use Rattle.row_laws.specs.Winners.{winners_in}
@@ -34,10 +35,11 @@ use Rattle.cca_inputs.specs.Answers.{AwardAnswers, BookAnswers, CertAnswers, Log
 use Rattle.cca_inputs.specs.Command.{CommandValue, win, price, check, auction, award, audit, command_of, contents_of}
 use Rattle.cca_inputs.specs.Outcome.{Answer, AnswerGives, FileAnswers, InputGives, Outcome, done, stopped, stops, value}
 use Rattle.cca_inputs.specs.declared.file_text.FileText.{FileText}
+use Rattle.cca_inputs.specs.declared.price_form.PriceForm.{PriceForm}
 use Rattle.cca_inputs.specs.declared.status.FileKind.{FileKind}
 use Rattle.cca_inputs.specs.declared.status.FileKind.TheVariants.{Award, Log, Book as BookFile, Cert}
 use Rattle.limits.specs.declared.TheConstants.{AWARD_BYTES, LOG_BYTES, BOOK_BYTES, CERT_BYTES}
-use Rattle.cca_run.specs.Gives.{AreRounds, AuctionGives, BookOfLogGives, CertGives, CommandGives, Gives, EndGives, HasTooMany, IsPricing, IsYesText, LogGives, PriceGives, RepliesGive, VerdictGives, WinGives, WordsGive, book_file, cert_file, ones}
+use Rattle.cca_run.specs.Gives.{ArePriceLines, AreRounds, AuctionGives, BookOfLogGives, CertGives, CommandGives, Gives, EndGives, HasTooMany, IsPricing, IsPrinted, IsYesText, LogGives, PriceGives, RepliesGive, VerdictGives, WinGives, WordsGive, book_file, cert_file, ones}
 use Rattle.cca_inputs.specs.declared.status.Status.TheVariants.{No, Limit}
 use Rattle.limits.specs.declared.LimitKind.TheVariants.{Winners}
 
@@ -106,7 +108,13 @@ module _ (one_book : (bytes : List ℕ) (x y : Said Book Excess) → Says IsBook
     (one_prices : (book : Book) (z : List ℕ) (v w : ℕ → ℤ) (p q : Point) (t u : List ℕ) → length z ≡ (market_of book).bidders → pos 1 ≤ℤ p.den → pos 1 ≤ℤ q.den
     → SamePoint (market_of book) p q → ((j : ℕ) → 0 < j → j ≤ (market_of book).bidders → v j ≡ w j) → IsPriceText book z v p t → IsPriceText book z w q u → t ≡ u)
     (one_run : (m : Market) (w : ℕ → ℕ) (z : List ℕ) (runs others : List Turn) (t u : List ℕ) → IsMarket m → IsPricingRun m w z runs → IsPricingRun m w z others
-    → AreTurnLines z 0 runs t → AreTurnLines z 0 others u → t ≡ u) where
+    → AreTurnLines z 0 runs t → AreTurnLines z 0 others u → t ≡ u)
+    (one_json : (book : Book) (z : List ℕ) (v w : ℕ → ℤ) (p q : Point) (t u : List ℕ) → length z ≡ (market_of book).bidders → pos 1 ≤ℤ p.den → pos 1 ≤ℤ q.den
+    → SamePoint (market_of book) p q → ((j : ℕ) → 0 < j → j ≤ (market_of book).bidders → v j ≡ w j) → IsOutcomeJson book z v p None t → IsOutcomeJson book z w q None u → t ≡ u)
+    (one_json_rounds : (book : Book) (weights : ℕ → ℕ) (z : List ℕ) (v w : ℕ → ℤ) (p q : Point) (runs others : List Turn) (t u : List ℕ) → length z ≡ (market_of book).bidders
+    → pos 1 ≤ℤ p.den → pos 1 ≤ℤ q.den → SamePoint (market_of book) p q → ((j : ℕ) → 0 < j → j ≤ (market_of book).bidders → v j ≡ w j)
+    → IsMarket (market_of book) → IsPricingRun (market_of book) weights z runs → IsPricingRun (market_of book) weights z others
+    → IsOutcomeJson book z v p (Some runs) t → IsOutcomeJson book z w q (Some others) u → t ≡ u) where
   one-book-answer : (bytes : List ℕ) (x y : Answer Book) → BookAnswers bytes x → BookAnswers bytes y → x ≡ y
   one-book-answer bytes x y a b = a.2 ∙ ap book_answer (one_book bytes a.0 b.0 a.1 b.1) ∙ sym b.2
 
@@ -132,32 +140,46 @@ module _ (one_book : (bytes : List ℕ) (x y : Said Book Excess) → Says IsBook
   one-rounds true book weights z runs others t u m a b x y = one_run (market_of book) (weight_of weights) z runs others t u m a b x y
   one-rounds false book weights z runs others t u m a b x y = x ∙ sym y
 
-  vickrey-of : (book : Book) (weights : List ℕ) → AreWeights (market_of book) (weight_of weights) → (rounds : Bool) (c : CertValue) (t : List ℕ) → IsPricing book weights rounds c t → AreVickreyPrices (market_of book) c.choice (cert_prices book c)
-  vickrey-of book weights are rounds c t a = (sound book (weight_of weights) c are a.certificate.choice.0 a.certificate.pay.0 a.priced.holds).vickrey
+  vickrey-of : (book : Book) (weights : List ℕ) → AreWeights (market_of book) (weight_of weights) → (form : PriceForm) (c : CertValue) (t : List ℕ) → IsPricing book weights form c t → AreVickreyPrices (market_of book) c.choice (cert_prices book c)
+  vickrey-of book weights are form c t a = (sound book (weight_of weights) c are a.certificate.choice.0 a.certificate.pay.0 a.priced.holds).vickrey
 
-  one-pricing : (book : Book) (weights : List ℕ) → AreWeights (market_of book) (weight_of weights) → (rounds : Bool) (c d : CertValue) (t u : List ℕ) → IsMarket (market_of book) → IsPricing book weights rounds c t → IsPricing book weights rounds d u → t ≡ u
-  one-pricing book weights are rounds c d t u m a b =
+  -- the same prices of the same winners, behind two runs of pricing
+  module _ (book : Book) (weights z : List ℕ) (v w : ℕ → ℤ) (p q : Point) (runs others : List Turn) (m : IsMarket (market_of book)) (long : length z ≡ (market_of book).bidders)
+      (dp : pos 1 ≤ℤ p.den) (dq : pos 1 ≤ℤ q.den) (same : SamePoint (market_of book) p q) (agree : (j : ℕ) → 0 < j → j ≤ (market_of book).bidders → v j ≡ w j)
+      (run : IsPricingRun (market_of book) (weight_of weights) z runs) (other : IsPricingRun (market_of book) (weight_of weights) z others) where
+    -- they have one text in lines
+    one-lines : (rounds : Bool) (t u : List ℕ) → ArePriceLines rounds book z v p runs t → ArePriceLines rounds book z w q others u → t ≡ u
+    one-lines rounds t u x y =
+        let lines = one-rounds rounds book weights z runs others x.lines y.lines m run other x.are_rounds y.are_rounds in
+        let prices = one_prices book z v w p q x.prices y.prices long dp dq same agree x.are_prices y.are_prices in
+        x.whole ∙ ap (λ (l : List ℕ). l ++ x.prices) lines ∙ ap (λ (l : List ℕ). y.lines ++ l) prices ∙ sym y.whole
+
+    -- and one in each form
+    one-printed : (json rounds : Bool) (t u : List ℕ) → IsPrinted json rounds book z v p runs t → IsPrinted json rounds book z w q others u → t ≡ u
+    one-printed true true t u x y = one_json_rounds book (weight_of weights) z v w p q runs others t u long dp dq same agree m run other x y
+    one-printed true false t u x y = one_json book z v w p q t u long dp dq same agree x y
+    one-printed false rounds t u x y = one-lines rounds t u x y
+
+  one-pricing : (book : Book) (weights : List ℕ) → AreWeights (market_of book) (weight_of weights) → (form : PriceForm) (c d : CertValue) (t u : List ℕ) → IsMarket (market_of book) → IsPricing book weights form c t → IsPricing book weights form d u → t ≡ u
+  one-pricing book weights are form c d t u m a b =
       let is : d.choice ≡ c.choice = one_winning (market_of book) d.choice c.choice m b.priced.winning a.priced.winning in
       let run = subst (λ (z : List ℕ). IsPricingRun (market_of book) (weight_of weights) z b.turns) is b.run in
-      let rounds_of = subst (λ (z : List ℕ). AreRounds rounds z b.turns b.lines) is b.are_rounds in
       let outcome = subst (λ (z : List ℕ). IsCoreOutcome (market_of book) (weight_of weights) z (cert_point d)) is b.priced.outcome in
-      let vickrey = subst (λ (z : List ℕ). AreVickreyPrices (market_of book) z (cert_prices book d)) is (vickrey-of book weights are rounds d u b) in
-      let prices_of = subst (λ (z : List ℕ). IsPriceText book z (cert_prices book d) (cert_point d) b.prices) is b.are_prices in
-      let same = one-rounds rounds book weights c.choice a.turns b.turns a.lines b.lines m a.run run a.are_rounds rounds_of in
-      let prices = one_prices book c.choice (cert_prices book c) (cert_prices book d) (cert_point c) (cert_point d) a.prices b.prices (m.lengths c.choice a.priced.winning.passed)
+      let vickrey = subst (λ (z : List ℕ). AreVickreyPrices (market_of book) z (cert_prices book d)) is (vickrey-of book weights are form d u b) in
+      let printed = subst (λ (z : List ℕ). IsPrinted form.json form.rounds book z (cert_prices book d) (cert_point d) b.turns u) is b.printed in
+      one-printed book weights c.choice (cert_prices book c) (cert_prices book d) (cert_point c) (cert_point d) a.turns b.turns m (m.lengths c.choice a.priced.winning.passed)
       a.priced.outcome.core.den_positive outcome.core.den_positive (one_core (market_of book) (weight_of weights) c.choice (cert_point c) (cert_point d) m a.priced.outcome outcome)
-      (one_vickrey (market_of book) c.choice (cert_prices book c) (cert_prices book d) (vickrey-of book weights are rounds c t a) vickrey) a.are_prices prices_of in
-      a.whole ∙ ap (λ (l : List ℕ). l ++ a.prices) same ∙ ap (λ (l : List ℕ). b.lines ++ l) prices ∙ sym b.whole
+      (one_vickrey (market_of book) c.choice (cert_prices book c) (cert_prices book d) (vickrey-of book weights are form c t a) vickrey) a.run run form.json form.rounds t u a.printed printed
 
-  few-or-many : (book : Book) (weights : List ℕ) (rounds : Bool) (c : CertValue) (t z : List ℕ) → IsMarket (market_of book) → IsPricing book weights rounds c t → HasTooMany book z weights → ⊥
-  few-or-many book weights rounds c t z m a many =
+  few-or-many : (book : Book) (weights : List ℕ) (form : PriceForm) (c : CertValue) (t z : List ℕ) → IsMarket (market_of book) → IsPricing book weights form c t → HasTooMany book z weights → ⊥
+  few-or-many book weights form c t z m a many =
       not_few_and_many z weights (subst (λ (x : List ℕ). FewWin x weights) (one_winning (market_of book) c.choice z m a.priced.winning many.winning) a.few) many.many
 
-  one-priced : (book : Book) (weights : List ℕ) → AreWeights (market_of book) (weight_of weights) → (rounds : Bool) (o p : Outcome) → IsMarket (market_of book) → PriceGives book weights rounds o → PriceGives book weights rounds p → Same o p
-  one-priced book weights are rounds o p m (inl x) (inl y) = both o p (done x.1 (cert_file (cert_text x.0) ∷ [])) (done y.1 (cert_file (cert_text y.0) ∷ [])) x.3 y.3 (printed-same x.1 y.1 (cert_file (cert_text x.0) ∷ []) (cert_file (cert_text y.0) ∷ []) (one-pricing book weights are rounds x.0 y.0 x.1 y.1 m x.2 y.2))
-  one-priced book weights are rounds o p m (inl x) (inr y) = absurd (few-or-many book weights rounds x.0 x.1 y.0 m x.2 y.1)
-  one-priced book weights are rounds o p m (inr x) (inl y) = absurd (few-or-many book weights rounds y.0 y.1 x.0 m y.2 x.1)
-  one-priced book weights are rounds o p m (inr x) (inr y) =
+  one-priced : (book : Book) (weights : List ℕ) → AreWeights (market_of book) (weight_of weights) → (form : PriceForm) (o p : Outcome) → IsMarket (market_of book) → PriceGives book weights form o → PriceGives book weights form p → Same o p
+  one-priced book weights are form o p m (inl x) (inl y) = both o p (done x.1 (cert_file (cert_text x.0) ∷ [])) (done y.1 (cert_file (cert_text y.0) ∷ [])) x.3 y.3 (printed-same x.1 y.1 (cert_file (cert_text x.0) ∷ []) (cert_file (cert_text y.0) ∷ []) (one-pricing book weights are form x.0 y.0 x.1 y.1 m x.2 y.2))
+  one-priced book weights are form o p m (inl x) (inr y) = absurd (few-or-many book weights form x.0 x.1 y.0 m x.2 y.1)
+  one-priced book weights are form o p m (inr x) (inl y) = absurd (few-or-many book weights form y.0 y.1 x.0 m y.2 x.1)
+  one-priced book weights are form o p m (inr x) (inr y) =
       let is : winners_in x.0 ≡ winners_in y.0 = ap winners_in (one_winning (market_of book) x.0 y.0 m x.1.winning y.1.winning) in
       equal o p (stopped (Limit Winners (winners_in y.0))) (x.2 ∙ ap (λ (n : ℕ). stopped (Limit Winners n)) is) y.2
 
@@ -182,19 +204,19 @@ module _ (one_book : (bytes : List ℕ) (x y : Said Book Excess) → Says IsBook
       let m = lawful bytes book says in
       let same = one_winning (market_of book) x.0 y.0 m x.1 y.1 in
       both o p (done (win_text book x.0) []) (done (win_text book y.0) []) x.2 y.2 (printed-same (win_text book x.0) (win_text book y.0) [] [] (ap (win_text book) same))) x y
-  one-of (price name cert rounds) contents o p x y = one-input BookFile BOOK_BYTES BookAnswers (λ book. PriceGives book (ones book) rounds) one-book-answer (contents BookFile) o p
-      (λ book bytes says x y. one-priced book (ones book) (ones-weigh book).each rounds o p (lawful bytes book says) x y) x y
+  one-of (price name cert form) contents o p x y = one-input BookFile BOOK_BYTES BookAnswers (λ book. PriceGives book (ones book) form) one-book-answer (contents BookFile) o p
+      (λ book bytes says x y. one-priced book (ones book) (ones-weigh book).each form o p (lawful bytes book says) x y) x y
   one-of (check name cert) contents o p x y = one-input BookFile BOOK_BYTES BookAnswers (λ book. CertGives book (contents Cert) (VerdictGives book (ones book))) one-book-answer (contents BookFile) o p
       (λ book bytes says x y. one-input Cert CERT_BYTES (CertAnswers book) (VerdictGives book (ones book)) (one-cert-answer book) (contents Cert) o p
       (λ c of says_it a b. one-judged book (ones book) c o p (lawful bytes book says) a b) x y) x y
   one-of (auction terms log book) contents o p x y = one-input Award AWARD_BYTES AwardAnswers (λ terms. LogGives terms (contents Log) (AuctionGives terms)) one-award-answer (contents Award) o p
       (λ terms bytes says x y. one-input Log LOG_BYTES (LogAnswers terms) (AuctionGives terms) (one_log_answer terms) (contents Log) o p
       (λ events of says_it a b. one-end _ _ _ o p a b) x y) x y
-  one-of (award terms log cert rounds) contents o p x y =
-      one-input Award AWARD_BYTES AwardAnswers (λ t. LogGives t (contents Log) (λ events. BookOfLogGives t events (λ b. PriceGives b (ones b) rounds))) one-award-answer (contents Award) o p
-      (λ t bytes says x y. one-input Log LOG_BYTES (LogAnswers t) (λ events. BookOfLogGives t events (λ b. PriceGives b (ones b) rounds)) (one_log_answer t) (contents Log) o p
-      (λ events of says_it a b. one-ended (length events) (end_of t (reverse events)) (λ b. PriceGives b (ones b) rounds) o p
-      (λ book is. one-priced book (ones book) (ones-weigh book).each rounds o p (lawful_log t (log_records of) events book says.1 says_it is)) a b) x y) x y
+  one-of (award terms log cert form) contents o p x y =
+      one-input Award AWARD_BYTES AwardAnswers (λ t. LogGives t (contents Log) (λ events. BookOfLogGives t events (λ b. PriceGives b (ones b) form))) one-award-answer (contents Award) o p
+      (λ t bytes says x y. one-input Log LOG_BYTES (LogAnswers t) (λ events. BookOfLogGives t events (λ b. PriceGives b (ones b) form)) (one_log_answer t) (contents Log) o p
+      (λ events of says_it a b. one-ended (length events) (end_of t (reverse events)) (λ b. PriceGives b (ones b) form) o p
+      (λ book is. one-priced book (ones book) (ones-weigh book).each form o p (lawful_log t (log_records of) events book says.1 says_it is)) a b) x y) x y
   one-of (audit terms log cert) contents o p x y =
       one-input Award AWARD_BYTES AwardAnswers (λ t. LogGives t (contents Log) (λ events. BookOfLogGives t events (λ b. CertGives b (contents Cert) (VerdictGives b (ones b))))) one-award-answer (contents Award) o p
       (λ t bytes says x y. one-input Log LOG_BYTES (LogAnswers t) (λ events. BookOfLogGives t events (λ b. CertGives b (contents Cert) (VerdictGives b (ones b)))) (one_log_answer t) (contents Log) o p

@@ -1,5 +1,5 @@
 -- What pricing a book gives, over plain values.
-use Rattle.std.proofs.Common.{inl, inr, ◌≡◌, ℕ, Bool, List, [], ◌++◌, length, ap, subst, arith}
+use Rattle.std.proofs.Common.{inl, inr, ◌≡◌, ℕ, List, [], length, ap, subst, arith}
 use Rattle.std.specs.Prelude.{◌^◌, ℤ, pos, negsuc, ◌∷◌, ◌≤ℤ◌}
 use Rattle.std.specs.List.{AllByRecursion}
 use Rattle.std.proofs.lemmas.Int.{ints}
@@ -9,7 +9,7 @@ use Rattle.limits.specs.declared.LimitKind.TheVariants.{Winners}
 use Rattle.cert_form.specs.CertText.{IsCertificate}
 use Rattle.cert_form.specs.Says.{cert_text}
 use Rattle.cert_laws.specs.Priced.{IsPricedCert}
-use Rattle.cert_laws.specs.Sound.{cert_point, cert_prices}
+use Rattle.cert_laws.specs.Sound.{cert_point}
 use Rattle.cert_laws.specs.Tests.{bidders_of, states}
 use Rattle.cert_text.specs.CertValues.{cert_value, IsFor}
 use Rattle.cert_text.specs.declared.certificate.Certificate.{Certificate}
@@ -21,11 +21,11 @@ use Rattle.core_price.specs.declared.priced.PriceStop.TheVariants.{Winners as To
 use Rattle.core_price.specs.declared.priced.Turn.{Turn}
 use Rattle.outcome.specs.Payments.{ArePayments}
 use Rattle.outcome.specs.Turns.{CanPrintTurn}
-use Rattle.print_form.specs.Prices.{IsPriceText}
 use Rattle.row_laws.specs.Turns.{IsLastPoint}
 use Rattle.wide_num.specs.Range.{InRange}
 use Rattle.cca_inputs.specs.Outcome.{done, stopped}
-use Rattle.cca_run.specs.Gives.{AreRounds, PriceGives, cert_file}
+use Rattle.cca_inputs.specs.declared.price_form.PriceForm.{PriceForm}
+use Rattle.cca_run.specs.Gives.{ArePrinted, PriceGives, cert_file}
 use Rattle.cca_inputs.specs.declared.status.Status.TheVariants.{Limit}
 
 den-range : (d : ℤ) → pos 1 ≤ℤ d → d ≤ℤ pos (320 ^ 4) → InRange d
@@ -41,12 +41,11 @@ can-print z weights [] all = tt
 can-print z weights (t ∷ turns) all = (record { payments = payments-of z weights t all.0; excess = all.0.excess }, can-print z weights turns all.1)
 
 -- a priced book gives its prices and its certificate
-pub priced : (book : BookValue) (weights : List ℕ) (rounds : Bool) (cert : Certificate) (turns : List Turn) (lines prices text appended : List ℕ) → IsFor (bidders_of book) (states book) cert
+pub priced : (book : BookValue) (weights : List ℕ) (form : PriceForm) (cert : Certificate) (turns : List Turn) (text appended : List ℕ) → IsFor (bidders_of book) (states book) cert
     → IsPricedCert book (weight_of weights) (cert_value cert) → FewWin cert.choice weights → IsPricingRun (market_of book) (weight_of weights) cert.choice (turns_of cert.choice turns)
-    → IsLastPoint (turns_of cert.choice turns) (cert_point (cert_value cert)) → AreRounds rounds cert.choice (turns_of cert.choice turns) lines
-    → IsPriceText book cert.choice (cert_prices book (cert_value cert)) (cert_point (cert_value cert)) prices → text ≡ lines ++ prices → appended ≡ cert_text (cert_value cert)
-    → PriceGives book weights rounds (done text (cert_file appended ∷ []))
-priced book weights rounds cert turns lines prices text appended shape is few run last are_rounds are_prices whole written =
+    → IsLastPoint (turns_of cert.choice turns) (cert_point (cert_value cert)) → ArePrinted form book (cert_value cert) (turns_of cert.choice turns) text
+    → appended ≡ cert_text (cert_value cert) → PriceGives book weights form (done text (cert_file appended ∷ []))
+priced book weights form cert turns text appended shape is few run last printed written =
     inl (
       cert_value cert,
       text,
@@ -57,15 +56,11 @@ priced book weights rounds cert turns lines prices text appended shape is few ru
         turns = turns_of cert.choice turns;
         run = run;
         last = last;
-        lines = lines;
-        are_rounds = are_rounds;
-        prices = prices;
-        are_prices = are_prices;
-        whole = whole;
+        printed = printed;
       },
       ap (λ (t : List ℕ). done text (cert_file t ∷ [])) written,
     )
 
 -- too many winners give the limit
-pub too-many : (book : BookValue) (weights : List ℕ) (rounds : Bool) (n : ℕ) → IsBookStop book weights (TooMany n) → PriceGives book weights rounds (stopped (Limit Winners n))
-too-many book weights rounds n stop = inr (stop.0, record { winning = stop.1; many = stop.2 }, ap (λ (k : ℕ). stopped (Limit Winners k)) stop.3)
+pub too-many : (book : BookValue) (weights : List ℕ) (form : PriceForm) (n : ℕ) → IsBookStop book weights (TooMany n) → PriceGives book weights form (stopped (Limit Winners n))
+too-many book weights form n stop = inr (stop.0, record { winning = stop.1; many = stop.2 }, ap (λ (k : ℕ). stopped (Limit Winners k)) stop.3)

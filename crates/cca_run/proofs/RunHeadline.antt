@@ -1,11 +1,12 @@
 -- How the end of a run bears the headline.
-use Rattle.std.proofs.Common.{◌≡◌, ◌⊎◌, ◌∙◌, ℕ, Bool, IsTrue, Option, Some, None, List, [], ◌∷◌, length, refl, sym, subst, inl, inr}
+use Rattle.std.proofs.Common.{◌≡◌, ◌⊎◌, ◌∙◌, ℕ, IsTrue, Option, Some, None, List, [], ◌∷◌, length, refl, sym, subst, inl, inr}
 use Rattle.cca_base.specs.Files.{Folder}
 use Rattle.cca_base.specs.Sink.{Output, Puts}
 use Rattle.cca_inputs.specs.Command.{CommandValue, audit, award}
 use Rattle.cca_inputs.specs.Outcome.{Outcome}
 use Rattle.cca_inputs.specs.Statuses.{IsDecided}
 use Rattle.cca_inputs.specs.declared.file_text.FileText.{FileText}
+use Rattle.cca_inputs.specs.declared.price_form.PriceForm.{PriceForm}
 use Rattle.cca_inputs.specs.declared.status.FileKind.{FileKind}
 use Rattle.cca_inputs.specs.declared.status.FileKind.TheVariants as kinds
 use Rattle.cca_inputs.specs.declared.status.Status.{Status}
@@ -38,17 +39,17 @@ run-audit law command old new before now result ends terms log cert is told done
     (d.outcome.printed, (law old.file terms log cert d.outcome gives d.ends).0, d.puts)
 
 -- an `award` that is done
-pub run-award : (law : (file : List ℕ → Option (List ℕ)) (terms log cert : List ℕ) (rounds : Bool) (o : Outcome) → FilesGive (award terms log cert rounds) file o → o.status ≡ Done
+pub run-award : (law : (file : List ℕ → Option (List ℕ)) (terms log cert : List ℕ) (form : PriceForm) (o : Outcome) → FilesGive (award terms log cert form) file o → o.status ≡ Done
     → (text : List ℕ) × IsAwarded file terms log text × (o.appended ≡ cert_file text ∷ []))
     → (command : Option CommandValue) (old new : Folder) (before now : Output) (result : Status) → RunEnds command old new before now result
-    → (terms log cert : List ℕ) (rounds : Bool) → command ≡ Some (award terms log cert rounds) → IsTrue old.told → result ≡ Done
-    → (text : List ℕ) × IsAwarded old.file terms log text × AppendsAll (award terms log cert rounds) (cert_file text ∷ []) old new
-run-award law command old new before now result ends terms log cert rounds is told done =
+    → (terms log cert : List ℕ) (form : PriceForm) → command ≡ Some (award terms log cert form) → IsTrue old.told → result ≡ Done
+    → (text : List ℕ) × IsAwarded old.file terms log text × AppendsAll (award terms log cert form) (cert_file text ∷ []) old new
+run-award law command old new before now result ends terms log cert form is told done =
     let d = is-done command old new before now result ends told done in
     let gives = subst (λ (k : Option CommandValue). WordsGive k old.file d.outcome) is d.gives in
-    let shows = law old.file terms log cert rounds d.outcome gives d.ends in
+    let shows = law old.file terms log cert form d.outcome gives d.ends in
     let appends = subst (λ (k : Option CommandValue). Appended k d.outcome.appended old new) is d.appends in
-    (shows.0, shows.1, subst (λ (texts : List FileText). AppendsAll (award terms log cert rounds) texts old new) shows.2 appends)
+    (shows.0, shows.1, subst (λ (texts : List FileText). AppendsAll (award terms log cert form) texts old new) shows.2 appends)
 
 -- a fault of reading was counted
 no-read : (command : Option CommandValue) (old new : Folder) (before now : Output) (kind : FileKind) → HasNoFault old new before now → IsReadFault command old new kind → ⊥

@@ -1,9 +1,9 @@
 -- What each command gives, by the bytes of its inputs.
-use Rattle.std.specs.Prelude.{◌≡◌, ◌⊎◌, ℕ, suc, Bool, true, false, Option, Some, None, Result, Ok, Err, List, [], ◌∷◌, ◌++◌, codes, length, replicate, reverse}
+use Rattle.std.specs.Prelude.{◌≡◌, ◌⊎◌, ℕ, ℤ, suc, Bool, true, false, Option, Some, None, Result, Ok, Err, List, [], ◌∷◌, ◌++◌, codes, length, replicate, reverse}
 use Rattle.line_text.specs.LineText.{Says, stated}
 use Rattle.auction_model.specs.Greatest.{IsWinning}
 use Rattle.auction_model.specs.Book.{market_of, Book as BookValue}
-use Rattle.auction_model.specs.Prices.{weight_of}
+use Rattle.auction_model.specs.Prices.{Point, weight_of}
 use Rattle.auction_model.specs.PricingRun.{Turn, IsPricingRun}
 use Rattle.auction_rules.specs.Terms.{Terms}
 use Rattle.auction_rules.specs.declared.Event.{Event}
@@ -22,6 +22,7 @@ use Rattle.cert_laws.specs.Tests.{FailsFirst, Holds, bidders_of, states}
 use Rattle.core_price.specs.Weights.{FewWin, ManyWin}
 use Rattle.limits.specs.declared.LimitKind.TheVariants.{Rounds, Price, Winners}
 use Rattle.limits.specs.declared.TheConstants.{AWARD_BYTES, LOG_BYTES, BOOK_BYTES, CERT_BYTES}
+use Rattle.print_form.specs.Json.{IsOutcomeJson}
 use Rattle.print_form.specs.Prices.{IsPriceText}
 use Rattle.print_form.specs.Turns.{AreTurnLines}
 use Rattle.row_laws.specs.Turns.{IsLastPoint}
@@ -30,6 +31,7 @@ use Rattle.cca_inputs.specs.Answers.{AwardAnswers, BookAnswers, CertAnswers, Log
 use Rattle.cca_inputs.specs.Command.{CommandValue, win, price, check, auction, award, audit, command_of, contents_of}
 use Rattle.cca_inputs.specs.Outcome.{InputGives, Outcome, done, stopped, stopped_after}
 use Rattle.cca_inputs.specs.declared.file_text.FileText.{FileText}
+use Rattle.cca_inputs.specs.declared.price_form.PriceForm.{PriceForm}
 use Rattle.cca_inputs.specs.declared.status.FileKind.{FileKind}
 use Rattle.cca_inputs.specs.declared.status.FileKind.TheVariants.{Award, Log, Book, Cert}
 use Rattle.cca_inputs.specs.declared.status.Status.{Status}
@@ -48,20 +50,42 @@ abbrev pub AreRounds : Bool → List ℕ → List Turn → List ℕ → Type 0
 AreRounds true z turns text = AreTurnLines z 0 turns text
 AreRounds false z turns text = text ≡ []
 
+-- The prices p of the winners of z as lines, those of the turns first where they are asked for; v are the Vickrey prices.
+pub record ArePriceLines (rounds : Bool) (book : BookValue) (z : List ℕ) (v : ℕ → ℤ) (p : Point) (turns : List Turn) (text : List ℕ) : Type 0 where
+  pub lines : List ℕ
+  pub are_rounds : AreRounds rounds z turns lines
+  pub prices : List ℕ
+  pub are_prices : IsPriceText book z v p prices
+  pub whole : text ≡ lines ++ prices
+
+-- the turns, where they are asked for
+abbrev pub turns_asked : Bool → List Turn → Option (List Turn)
+turns_asked true turns = Some turns
+turns_asked false turns = None
+
+-- the same as one line of JSON, with the turns where they are asked for
+abbrev pub IsPriceJson : Bool → BookValue → List ℕ → (ℕ → ℤ) → Point → List Turn → List ℕ → Type 0
+IsPriceJson rounds book z v p turns text = IsOutcomeJson book z v p (turns_asked rounds turns) text
+
+-- as JSON where it is asked for, else as lines
+abbrev pub IsPrinted : Bool → Bool → BookValue → List ℕ → (ℕ → ℤ) → Point → List Turn → List ℕ → Type 0
+IsPrinted true rounds book z v p turns text = IsPriceJson rounds book z v p turns text
+IsPrinted false rounds book z v p turns text = ArePriceLines rounds book z v p turns text
+
+-- the outcome that a certificate shows, and the turns that led to it, printed in the form that is asked for
+abbrev pub ArePrinted : PriceForm → BookValue → CertValue → List Turn → List ℕ → Type 0
+ArePrinted form book c turns text = IsPrinted form.json form.rounds book c.choice (cert_prices book c) (cert_point c) turns text
+
 -- What pricing a book gives: a certificate of the core outcome for which all tests hold, and a pricing run that ends at its payments;
--- printed are the lines of the turns, where they are asked for, and the prices.
-pub record IsPricing (book : BookValue) (weights : List ℕ) (rounds : Bool) (c : CertValue) (text : List ℕ) : Type 0 where
+-- both are printed in the form that is asked for.
+pub record IsPricing (book : BookValue) (weights : List ℕ) (form : PriceForm) (c : CertValue) (text : List ℕ) : Type 0 where
   pub certificate : IsCertificate (bidders_of book) (states book) c
   pub priced : IsPricedCert book (weight_of weights) c
   pub few : FewWin c.choice weights
   pub turns : List Turn
   pub run : IsPricingRun (market_of book) (weight_of weights) c.choice turns
   pub last : IsLastPoint turns (cert_point c)
-  pub lines : List ℕ
-  pub are_rounds : AreRounds rounds c.choice turns lines
-  pub prices : List ℕ
-  pub are_prices : IsPriceText book c.choice (cert_prices book c) (cert_point c) prices
-  pub whole : text ≡ lines ++ prices
+  pub printed : ArePrinted form book c turns text
 
 -- more winners than can be priced with the weights win
 pub record HasTooMany (book : BookValue) (z weights : List ℕ) : Type 0 where
@@ -73,9 +97,9 @@ abbrev pub cert_file : List ℕ → FileText
 cert_file text = record { kind = Cert; text = text }
 
 -- The prices are printed and their certificate is appended; more winners than can be priced are the limit of winners.
-abbrev pub PriceGives : BookValue → List ℕ → Bool → Outcome → Type 0
-PriceGives book weights rounds outcome =
-    ((c : CertValue) × (text : List ℕ) × IsPricing book weights rounds c text × (outcome ≡ done text (cert_file (cert_text c) ∷ [])))
+abbrev pub PriceGives : BookValue → List ℕ → PriceForm → Outcome → Type 0
+PriceGives book weights form outcome =
+    ((c : CertValue) × (text : List ℕ) × IsPricing book weights form c text × (outcome ≡ done text (cert_file (cert_text c) ∷ [])))
     ⊎ ((z : List ℕ) × HasTooMany book z weights × (outcome ≡ stopped (Limit Winners (winners_in z))))
 
 -- the line `yes`, and the outcome that the certificate shows
@@ -135,11 +159,11 @@ CertGives book content follows outcome = InputGives Cert CERT_BYTES (CertAnswers
 -- What a command gives, by the bytes of its inputs of each kind.
 abbrev pub CommandGives : CommandValue → (FileKind → Option (List ℕ)) → Outcome → Type 0
 CommandGives (win book) contents outcome = BookGives (contents Book) WinGives outcome
-CommandGives (price book cert rounds) contents outcome = BookGives (contents Book) (λ b. PriceGives b (ones b) rounds) outcome
+CommandGives (price book cert form) contents outcome = BookGives (contents Book) (λ b. PriceGives b (ones b) form) outcome
 CommandGives (check book cert) contents outcome = BookGives (contents Book) (λ b. CertGives b (contents Cert) (VerdictGives b (ones b))) outcome
 CommandGives (auction terms log book) contents outcome = AwardGives (contents Award) (λ t. LogGives t (contents Log) (AuctionGives t)) outcome
-CommandGives (award terms log cert rounds) contents outcome =
-    AwardGives (contents Award) (λ t. LogGives t (contents Log) (λ events. BookOfLogGives t events (λ b. PriceGives b (ones b) rounds))) outcome
+CommandGives (award terms log cert form) contents outcome =
+    AwardGives (contents Award) (λ t. LogGives t (contents Log) (λ events. BookOfLogGives t events (λ b. PriceGives b (ones b) form))) outcome
 CommandGives (audit terms log cert) contents outcome =
     AwardGives (contents Award) (λ t. LogGives t (contents Log) (λ events. BookOfLogGives t events (λ b. CertGives b (contents Cert) (VerdictGives b (ones b))))) outcome
 

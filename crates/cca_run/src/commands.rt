@@ -12,7 +12,7 @@ use crate::win::win_of;
 use crate::work::{Stop, Work};
 use bid_book::BidBook;
 use cca_base::Files;
-use cca_inputs::{AwardInput, BookInput, CertInput, Command, LogInput, read_input};
+use cca_inputs::{AwardInput, BookInput, CertInput, Command, LogInput, PriceForm, read_input};
 use log_file::packages_of_log;
 use std::alloc::Global;
 
@@ -38,13 +38,13 @@ fn price_work<F: Files>(
     alloc: Global,
     files: &mut F,
     book: &str,
-    rounds: bool,
+    form: PriceForm,
 ) -> Result<Work, Stop>
     requires { IsTrue ((F.folder files.old).knows book.now) }
-    ensures { (cert : List ℕ) → Works (price book.now cert rounds) (F.folder files.old) (F.folder files.new) result }
+    ensures { (cert : List ℕ) → Works (price book.now cert form) (F.folder files.old) (F.folder files.new) result }
 {
     let book = read_input(alloc, files, book, &BookInput)?;
-    price_alike(alloc, &book, rounds)
+    price_alike(alloc, &book, form)
 }
 
 fn check_work<F: Files>(alloc: Global, files: &mut F, book: &str, cert: &str) -> Result<Work, Stop>
@@ -78,17 +78,17 @@ fn award_work<F: Files>(
     files: &mut F,
     terms: &str,
     log: &str,
-    rounds: bool,
+    form: PriceForm,
 ) -> Result<Work, Stop>
     requires terms { IsTrue ((F.folder files.old).knows terms.now) }
     requires log { IsTrue ((F.folder files.old).knows log.now) }
-    ensures { (cert : List ℕ) → Works (award terms.now log.now cert rounds) (F.folder files.old) (F.folder files.new) result }
+    ensures { (cert : List ℕ) → Works (award terms.now log.now cert form) (F.folder files.old) (F.folder files.new) result }
 {
     let award = read_input(alloc, files, terms, &AwardInput)?;
     let events = read_input(alloc, files, log, &LogInput { award: &award })?;
     packages_of_log();
     let book = logged_book(alloc, award, &events)?;
-    price_alike(alloc, &book, rounds)
+    price_alike(alloc, &book, form)
 }
 
 fn audit_work<F: Files>(
@@ -118,15 +118,15 @@ pub fn work_out<F: Files>(alloc: Global, files: &mut F, command: Command<'_>) ->
 {
     match command {
         Command::Win { book } => win_work(alloc, files, book),
-        Command::Price { book, rounds, .. } => price_work(alloc, files, book, rounds),
+        Command::Price { book, form, .. } => price_work(alloc, files, book, form),
         Command::Check { book, cert } => check_work(alloc, files, book, cert),
         Command::Auction { award, log, .. } => auction_work(alloc, files, award, log),
         Command::Award {
             award,
             log,
-            rounds,
+            form,
             ..
-        } => award_work(alloc, files, award, log, rounds),
+        } => award_work(alloc, files, award, log, form),
         Command::Audit { award, log, cert } => audit_work(alloc, files, award, log, cert),
     }
 }

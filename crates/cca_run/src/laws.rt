@@ -1,12 +1,13 @@
 // What holds of the definitions of a run, whoever runs it.
-ghost use Rattle.std.specs.Prelude.{◌≡◌, ◌<◌, ◌≤◌, ◌++◌, ◌∷◌, ℕ, Bool, false, List, [], Option, codes, length};
+ghost use Rattle.std.specs.Prelude.{◌≡◌, ◌<◌, ◌≤◌, ◌++◌, ◌∷◌, ℕ, false, List, [], Option, codes, length};
 ghost use Rattle.auction_model.specs.Book.{Book};
 ghost use Rattle.cert_laws.specs.Tests.{bidders_of};
 ghost use Rattle.core_price.specs.Weights.{FewWin, ManyWin};
 ghost use Rattle.limits.specs.declared.TheConstants.{MOST_WINNERS};
 ghost use Rattle.row_laws.specs.Winners.{winners_in};
-ghost use Rattle.cca_inputs.specs.Command.{price, check, award, audit};
+ghost use Rattle.cca_inputs.specs.Command.{form_with, price, check, award, audit};
 ghost use Rattle.cca_inputs.specs.Outcome.{Outcome};
+ghost use Rattle.cca_inputs.specs.declared.price_form.PriceForm.{PriceForm};
 ghost use Rattle.cca_inputs.specs.declared.status.Status.TheVariants.{Done};
 ghost use Rattle.cca_run.specs.Gives.{FilesGive, Gives, cert_file, ones};
 ghost use Rattle.cca_run.specs.Headline.{IsAudited, IsAwarded};
@@ -19,7 +20,7 @@ use bid_book::one_book;
 use cert_form::{one_cert, text_of_cert};
 use cert_laws::{one_verdict, short_text, sound_yes};
 use log_file::{one_reading, packages_of_log};
-use print_form::{one_price_text, one_run_text};
+use print_form::{one_outcome_json, one_price_text, one_run_text};
 
 /// The words and the bytes of the files give at most one status and one printed text. So each status that is decided comes exactly
 /// where they give it.
@@ -40,6 +41,7 @@ pub fn one_outcome()
     core_outcome();
     one_price_text();
     one_run_text();
+    one_outcome_json();
 }
 
 /// With weights of 1 too many win exactly where more than six do. The choice has a number for each bidder.
@@ -49,12 +51,12 @@ pub fn limit_of_ones()
 {}
 
 /// What `price` writes, `check` accepts. Where the file of the certificate holds just the text that `price` appended, and that of the
-/// book what it held, `check` gives Done, and nothing else. Without `--rounds` it prints `yes` and then what `price` printed.
+/// book what it held, `check` gives Done, and nothing else. Without flags it prints `yes` and then what `price` printed.
 pub fn written_cert_passes()
-    ensures passes { (book cert : List ℕ) (rounds : Bool) (file later : List ℕ → Option (List ℕ)) (o p : Outcome)
-        → FilesGive (price book cert rounds) file o → HoldsCert book cert file later o → FilesGive (check book cert) later p → p.status ≡ Done }
+    ensures passes { (book cert : List ℕ) (form : PriceForm) (file later : List ℕ → Option (List ℕ)) (o p : Outcome)
+        → FilesGive (price book cert form) file o → HoldsCert book cert file later o → FilesGive (check book cert) later p → p.status ≡ Done }
     ensures prints { (book cert : List ℕ) (file later : List ℕ → Option (List ℕ)) (o p : Outcome)
-        → FilesGive (price book cert false) file o → HoldsCert book cert file later o → FilesGive (check book cert) later p
+        → FilesGive (price book cert (form_with false false)) file o → HoldsCert book cert file later o → FilesGive (check book cert) later p
         → p.printed ≡ codes "yes\n" ++ o.printed }
 {
     one_book();
@@ -70,7 +72,7 @@ pub fn written_cert_passes()
 pub fn headline()
     ensures audit { (file : List ℕ → Option (List ℕ)) (terms log cert : List ℕ) (o : Outcome) → FilesGive (audit terms log cert) file o → o.status ≡ Done
         → IsAudited file terms log cert o.printed × (o.appended ≡ []) }
-    ensures award { (file : List ℕ → Option (List ℕ)) (terms log cert : List ℕ) (rounds : Bool) (o : Outcome) → FilesGive (award terms log cert rounds) file o → o.status ≡ Done
+    ensures award { (file : List ℕ → Option (List ℕ)) (terms log cert : List ℕ) (form : PriceForm) (o : Outcome) → FilesGive (award terms log cert form) file o → o.status ≡ Done
         → (text : List ℕ) × IsAwarded file terms log text × (o.appended ≡ cert_file text ∷ []) }
 {
     plain_outcome();

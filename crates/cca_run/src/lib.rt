@@ -6,6 +6,7 @@ mod auction;
 mod auction_laws;
 mod commands;
 mod laws;
+mod price_text;
 mod pricing;
 mod print;
 mod top;

@@ -111,6 +111,23 @@ pub const PRICE: &[&str] = &["price", "BOOK", "CERT"];
 
 const PRICE_WITH_ROUNDS: &[&str] = &["price", "BOOK", "CERT", "--rounds"];
 
+const PRICE_AS_JSON: &[&str] = &["price", "BOOK", "CERT", "--json"];
+
+const PRICE_AS_JSON_WITH_ROUNDS: &[&str] = &["price", "BOOK", "CERT", "--json", "--rounds"];
+
+const PRICE_WITH_ROUNDS_AS_JSON: &[&str] = &["price", "BOOK", "CERT", "--rounds", "--json"];
+
+const DAY_CRAMTON_JSON: &[&str] = &[
+    "{\"net\":48,\"revenue\":\"32\",",
+    "\"winners\":[{\"bid\":28,\"name\":\"b1\",\"package\":[1,0],\"pays\":\"17\",\"vickrey\":14},{\"bid\":20,\"name\":\"b2\",\"package\":[0,1],\"pays\":\"15\",\"vickrey\":12}]}\n",
+];
+
+const DAY_CRAMTON_JSON_WITH_ROUNDS: &[&str] = &[
+    "{\"net\":48,\"revenue\":\"32\",",
+    "\"rounds\":[\"round 1 point 14 12 row 1 2 choice 0 0 1 0 0 excess 6\",\"round 2 point 17 15 end\"],",
+    "\"winners\":[{\"bid\":28,\"name\":\"b1\",\"package\":[1,0],\"pays\":\"17\",\"vickrey\":14},{\"bid\":20,\"name\":\"b2\",\"package\":[0,1],\"pays\":\"15\",\"vickrey\":12}]}\n",
+];
+
 /// The words of a run that tests a certificate.
 pub const CHECK: &[&str] = &["check", "BOOK", "CERT"];
 
@@ -153,6 +170,22 @@ fn prices_and_checks(rt: HostRuntime) -> Result<(), Fail> {
             &["yes\n", outcome],
         )?;
         assert_eq!(rt; kept.as_deref(), cert.as_deref());
+    }
+    Ok(())
+}
+
+#[test]
+fn prints_json(rt: HostRuntime) -> Result<(), Fail> {
+    let alloc = rt.alloc();
+    let table: [(&[&str], &[&str]); 3] = [
+        (PRICE_AS_JSON, DAY_CRAMTON_JSON),
+        (PRICE_AS_JSON_WITH_ROUNDS, DAY_CRAMTON_JSON_WITH_ROUNDS),
+        (PRICE_WITH_ROUNDS_AS_JSON, DAY_CRAMTON_JSON_WITH_ROUNDS),
+    ];
+    let text = joined(alloc, DAY_CRAMTON_CERT)?;
+    for (words, line) in table {
+        let cert = left_by(&rt, alloc, words, DAY_CRAMTON, None, line)?;
+        assert_eq!(rt; cert.as_deref(), Some(text.as_slice()));
     }
     Ok(())
 }

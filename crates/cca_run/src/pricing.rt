@@ -1,27 +1,23 @@
 // Prices of a book, with their certificate.
-ghost use Rattle.std.specs.Prelude.{◌≡◌, ◌<◌, ◌^◌, ℕ, [], ◌∷◌, IfOk, Err, length};
-ghost use Rattle.std.specs.List.{AllByRecursion};
+ghost use Rattle.std.specs.Prelude.{◌≡◌, ℕ, [], ◌∷◌, IfOk, Err};
 ghost use Rattle.limits.specs.declared.LimitKind.{LimitKind};
 ghost use Rattle.cert_laws.specs.Weights.{IsWeighing};
-ghost use Rattle.core_price.specs.Turns.{turns_of};
 ghost use Rattle.core_price.specs.declared.priced.PriceStop.{PriceStop};
-ghost use Rattle.outcome.specs.Turns.{CanPrintTurn};
 ghost use Rattle.cca_inputs.specs.Outcome.{done, stopped};
 ghost use Rattle.cca_inputs.specs.declared.status.FileKind.{FileKind};
 ghost use Rattle.cca_inputs.specs.declared.status.Status.{Status};
-ghost use Rattle.cca_run.specs.Gives.{AreRounds, PriceGives, cert_file, ones};
+ghost use Rattle.cca_run.specs.Gives.{PriceGives, cert_file, ones};
 ghost use Rattle.cca_run.specs.Works.{IsWork};
 
+use crate::price_text::price_text;
 use crate::work::{Stop, Work};
 use crate::{FileKind, Status};
 use bid_book::BidBook;
 use book_price::price_book;
-use cca_inputs::FileText;
+use cca_inputs::{FileText, PriceForm};
 use cert_text::write_cert;
-use choices::Choice;
-use core_price::{PriceStop, Turn};
+use core_price::PriceStop;
 use limits::LimitKind;
-use outcome::{outcome_text, rounds_text};
 use std::alloc::{AllocError, Global};
 use wide_num::Text;
 
@@ -30,24 +26,6 @@ use wide_num::Text;
 struct PriceTexts {
     printed: Text,
     cert: Text,
-}
-
-// The lines of the turns, where they are asked for.
-fn rounds_part(
-    alloc: Global,
-    winners: &Choice,
-    turns: &[Turn],
-    rounds: bool,
-) -> Result<Text, AllocError>
-    requires turns { AllByRecursion (CanPrintTurn winners.now) turns.now }
-    requires few { length winners.now < 2 ^ 16 }
-    ensures { IfOk result (λ text. AreRounds rounds winners.now (turns_of winners.now turns.now) text) }
-{
-    if rounds {
-        rounds_text(alloc, winners, turns)
-    } else {
-        Ok(Text::new(alloc))
-    }
 }
 
 /// A weight of 1 for each bidder.
@@ -61,18 +39,15 @@ fn price_texts(
     alloc: Global,
     book: &BidBook,
     weights: &[u32],
-    rounds: bool,
+    form: PriceForm,
 ) -> Result<PriceTexts, PriceStop>
     requires { IsWeighing book.now weights.now }
-    ensures done { IfOk result (λ p. PriceGives book.now weights.now rounds (done p.printed (cert_file p.cert ∷ []))) }
-    ensures stop { (n : ℕ) → result ≡ Err (PriceStop.Winners n) → PriceGives book.now weights.now rounds (stopped (Status.Limit LimitKind.Winners n)) }
+    ensures done { IfOk result (λ p. PriceGives book.now weights.now form (done p.printed (cert_file p.cert ∷ []))) }
+    ensures stop { (n : ℕ) → result ≡ Err (PriceStop.Winners n) → PriceGives book.now weights.now form (stopped (Status.Limit LimitKind.Winners n)) }
 {
-    let _bidders = book.bidders();
     let priced = price_book(alloc, book, weights)?;
     let cert = &priced.cert;
-    let mut printed = rounds_part(alloc, &cert.choice, priced.turns.items(), rounds)?;
-    let prices = outcome_text(alloc, book, cert)?;
-    printed.add(prices.items())?;
+    let printed = price_text(alloc, book, cert, priced.turns.items(), form)?;
     let cert = write_cert(alloc, cert)?;
     Ok(PriceTexts { printed, cert })
 }
@@ -92,26 +67,26 @@ fn with_cert(alloc: Global, texts: PriceTexts) -> Result<Work, Stop>
     })
 }
 
-/// The prices of a book by weights, printed behind the lines of the turns where the rounds are asked for, and their certificate.
+/// The prices of a book by weights, printed in this form, and their certificate.
 pub fn price_weighed(
     alloc: Global,
     book: &BidBook,
     weights: &[u32],
-    rounds: bool,
+    form: PriceForm,
 ) -> Result<Work, Stop>
     requires { IsWeighing book.now weights.now }
-    ensures { IsWork (PriceGives book.now weights.now rounds) (FileKind.Cert ∷ []) result }
+    ensures { IsWork (PriceGives book.now weights.now form) (FileKind.Cert ∷ []) result }
 {
-    match price_texts(alloc, book, weights, rounds) {
+    match price_texts(alloc, book, weights, form) {
         Ok(texts) => with_cert(alloc, texts),
         Err(stop) => Err(Stop::from(stop)),
     }
 }
 
 /// The same with a weight of 1 for each bidder.
-pub fn price_alike(alloc: Global, book: &BidBook, rounds: bool) -> Result<Work, Stop>
-    ensures { IsWork (PriceGives book.now (ones book.now) rounds) (FileKind.Cert ∷ []) result }
+pub fn price_alike(alloc: Global, book: &BidBook, form: PriceForm) -> Result<Work, Stop>
+    ensures { IsWork (PriceGives book.now (ones book.now) form) (FileKind.Cert ∷ []) result }
 {
     let weights = ones_of(alloc, book)?;
-    price_weighed(alloc, book, &weights, rounds)
+    price_weighed(alloc, book, &weights, form)
 }

@@ -251,7 +251,7 @@ fn refuses_other_words(rt: HostRuntime) -> Result<(), Fail> {
         &["price", "BOOK", "--rounds"],
         &["price", "--rounds", "BOOK", "CERT"],
         &["price", "BOOK", "--rounds", "CERT"],
-        &["price", "BOOK", "CERT", "--json"],
+        &["price", "BOOK", "CERT", "--json", "--json"],
         &["price", "BOOK", "CERT", "--rounds", "--rounds"],
         &["check", "BOOK"],
         &["check", "BOOK", "BOOK"],

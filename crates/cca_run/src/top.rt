@@ -1,5 +1,5 @@
 // The top call.
-ghost use Rattle.std.specs.Prelude.{◌≡◌, ◌⊎◌, ◌≤◌, ◌<◌, ◌∷◌, ℕ, Bool, List, [], length, map, string_bytes, All, IsTrue, Some, None};
+ghost use Rattle.std.specs.Prelude.{◌≡◌, ◌⊎◌, ◌≤◌, ◌<◌, ◌∷◌, ℕ, List, [], length, map, string_bytes, All, IsTrue, Some, None};
 ghost use Rattle.cca_base.specs.Files.{KeepsFiles};
 ghost use Rattle.cca_base.specs.Sink.{Puts};
 ghost use Rattle.cca_inputs.specs.Command.{audit, award, command_of};
@@ -7,6 +7,7 @@ ghost use Rattle.cca_inputs.specs.Outcome.{Outcome};
 ghost use Rattle.cca_inputs.specs.StatusLine.{status_line};
 ghost use Rattle.cca_inputs.specs.Statuses.{IsDecided, IsHindered, KeepsAll};
 ghost use Rattle.cca_inputs.specs.Words.{KnowsFiles, command_value};
+ghost use Rattle.cca_inputs.specs.declared.price_form.PriceForm.{PriceForm};
 ghost use Rattle.cca_inputs.specs.declared.status.FileKind.{FileKind};
 ghost use Rattle.cca_inputs.specs.declared.status.Status.{Status};
 ghost use Rattle.cca_run.specs.Gives.{Gives, cert_file};
@@ -74,8 +75,8 @@ fn tell_words<F: Files, O: Sink>(files: &F, out: &mut O) -> Status
 ///
 /// `win BOOK` prints the winners of a book and their net value. `price BOOK CERT` prices the book, appends the certificate to CERT and
 /// prints what the winners bid, their Vickrey prices and what they pay; with `--rounds` behind the files a line for each turn of pricing
-/// comes before that. `check BOOK CERT` tests a certificate of the book, whoever wrote it, and prints `yes` and the outcome that it
-/// shows, or the first test that fails with its place. A yes is sound: the choice is the winning one, and the payments are the core
+/// comes before that, and with `--json` all is one line of JSON. `check BOOK CERT` tests a certificate of the book, whoever wrote it, and
+/// prints `yes` and the outcome that it shows, or the first test that fails with its place. A yes is sound: the choice is the winning one, and the payments are the core
 /// outcome. `auction AWARD LOG BOOK` replays the log of an auction, appends the text of its book to BOOK and prints a line for the reply
 /// to each record; where a close is refused for a limit, or the log isn't complete, there is no book, and the line of the status comes
 /// behind those lines.
@@ -95,9 +96,9 @@ pub fn run<F: Files, O: Sink>(alloc: Global, words: &[String], files: &mut F, ou
     // core point of that sum lies farther from the Vickrey point; and `award` appends a certificate of such an outcome.
     ensures audit { (terms log cert : List ℕ) → command_of (map string_bytes words.now) ≡ Some (audit terms log cert) → IsTrue (F.folder files.old).told
         → result ≡ Status.Done → (text : List ℕ) × IsAudited (F.folder files.old).file terms log cert text × Puts (O.output out.old) (O.output out.new) text (length text) }
-    ensures award { (terms log cert : List ℕ) (rounds : Bool) → command_of (map string_bytes words.now) ≡ Some (award terms log cert rounds) → IsTrue (F.folder files.old).told
+    ensures award { (terms log cert : List ℕ) (form : PriceForm) → command_of (map string_bytes words.now) ≡ Some (award terms log cert form) → IsTrue (F.folder files.old).told
         → result ≡ Status.Done → (text : List ℕ) × IsAwarded (F.folder files.old).file terms log text
-        × AppendsAll (award terms log cert rounds) (cert_file text ∷ []) (F.folder files.old) (F.folder files.new) }
+        × AppendsAll (award terms log cert form) (cert_file text ∷ []) (F.folder files.old) (F.folder files.new) }
 
     // Where no fault was counted, the status is one that the words and the bytes decide, or want of memory.
     ensures complete { HasNoFault (F.folder files.old) (F.folder files.new) (O.output out.old) (O.output out.new) → (result ≡ Status.Memory) ⊎ IsDecided result }
