@@ -9,14 +9,14 @@ use std::test::Fail;
 
 const AUCTION: &[&str] = &["auction", "AWARD", "LOG", "BOOK"];
 
-const AWARD_UP_TO_RESERVE: &str =
+pub const AWARD_UP_TO_RESERVE: &str =
     "version = 1\ntick = 1\n\n[[category]]\nname = \"lot\"\nsupply = 3\npoints = 1\n";
 
 const AWARD_BEHIND_RESERVE: &str =
     "\n[[bidder]]\nname = \"east\"\neligibility = 3\n\n[[bidder]]\nname = \"west\"\neligibility = 2\n\n[[step]]\nexcess = 1\npermille = 200\n";
 
-// An award of one category, for which two bidders are eligible together for more than there is.
-const SAMPLE: &[&str] = &[AWARD_UP_TO_RESERVE, "reserve = 10\n", AWARD_BEHIND_RESERVE];
+/// An award of one category, for which two bidders are eligible together for more than there is.
+pub const SAMPLE: &[&str] = &[AWARD_UP_TO_RESERVE, "reserve = 10\n", AWARD_BEHIND_RESERVE];
 
 // The same award at the greatest reserve.
 const GREATEST_RESERVE: &[&str] = &[
@@ -27,14 +27,14 @@ const GREATEST_RESERVE: &[&str] = &[
 
 const NO_AWARD: &[&str] = &["version =\n"];
 
-const ROUND_1: &str = "bid,east,3,\nbid,west,2,\nclose,,,\n";
+pub const ROUND_1: &str = "bid,east,3,\nbid,west,2,\nclose,,,\n";
 
 const ROUND_2: &str = "bid,east,1,\nbid,west,2,\nclose,,,\n";
 
 const CLOCK_REPLIES: &str = "1 ok\n2 ok\n3 round 2 12\n4 ok\n5 ok\n6 sealed\n";
 
-// East's first list is above a cap, and it lowers an entry.
-const LOWERED: &[&str] = &[
+/// East's first list is above a cap, and it lowers an entry.
+pub const LOWERED: &[&str] = &[
     ROUND_1,
     ROUND_2,
     "draft,east,1,20\ndraft,east,3,45\nsubmit,east,,\ndraft,east,3,44\nsubmit,east,,\nclose,,,\n",
@@ -49,8 +49,8 @@ const LOWERED_BOOK: &[&str] = &[
     "book 1\nsupply 3\nreserve 10\nbidder east\nbid 1 20\nbid 3 44\nbidder west\nbid 2 24\nend\n",
 ];
 
-// The same, where it drops the entry.
-const DROPPED: &[&str] = &[
+/// The same, where it drops the entry.
+pub const DROPPED: &[&str] = &[
     ROUND_1,
     ROUND_2,
     "draft,east,1,20\ndraft,east,3,45\nsubmit,east,,\ndrop,east,3,\nsubmit,east,,\nclose,,,\n",
@@ -103,37 +103,45 @@ struct Case<'a> {
     book: &'a [&'a str],
 }
 
-// What a run answers, prints and leaves in the book's file.
+/// What a run answers, prints and leaves in its third file.
 #[derive(Drop)]
-struct Ended {
-    status: Status,
-    printed: Vec<u8>,
-    book: Option<Vec<u8>>,
+pub struct Ended {
+    pub status: Status,
+    pub printed: Vec<u8>,
+    pub third: Option<Vec<u8>>,
 }
 
-fn replay(alloc: Global, award: &[u8], log: &[u8]) -> Result<Ended, AllocError> {
-    let words = words_of(alloc, AUCTION)?;
+/// A run with three files, of which the third may be missing.
+pub fn run_three(
+    alloc: Global,
+    words: &[&str],
+    award: &[u8],
+    log: &[u8],
+    third: Option<&[u8]>,
+) -> Result<Ended, AllocError> {
+    let words = words_of(alloc, words)?;
     let mut files = no_files(alloc, &words)?;
     fill(&mut files, &words, 1, Some(award))?;
     fill(&mut files, &words, 2, Some(log))?;
+    fill(&mut files, &words, 3, third)?;
     let mut out = MemSink::new(alloc, 5);
     let status = run(alloc, &words, &mut files, &mut out);
     Ok(Ended {
         status,
         printed: out.bytes,
-        book: left_at(alloc, &files, 3)?,
+        third: left_at(alloc, &files, 3)?,
     })
 }
 
 fn ends_so(rt: &impl Abort, alloc: Global, case: Case<'_>) -> Result<(), Fail> {
     let award = joined(alloc, case.award)?;
     let log = joined(alloc, case.log)?;
-    let ended = replay(alloc, &award, &log)?;
+    let ended = run_three(alloc, AUCTION, &award, &log, None)?;
     let printed = joined(alloc, case.printed)?;
     let book = joined(alloc, case.book)?;
     assert_eq!(rt; ended.status, case.status);
     assert_eq!(rt; ended.printed.as_slice(), printed.as_slice());
-    assert_eq!(rt; ended.book.as_deref().unwrap_or(b""), book.as_slice());
+    assert_eq!(rt; ended.third.as_deref().unwrap_or(b""), book.as_slice());
     Ok(())
 }
 
@@ -223,4 +231,33 @@ fn refuses_faulty_awards_and_logs(rt: HostRuntime) -> Result<(), Fail> {
     };
     ends_so(&rt, rt.alloc(), three_fields)?;
     ends_so(&rt, rt.alloc(), no_award)
+}
+
+// Each raise of this award is one tick.
+const SLOW: &[&str] = &[
+    AWARD_UP_TO_RESERVE,
+    "reserve = 10\n",
+    "\n[[bidder]]\nname = \"east\"\neligibility = 3\n\n[[bidder]]\nname = \"west\"\neligibility = 2\n\n[[step]]\nexcess = 1\npermille = 1\n",
+];
+
+// As many rounds as there may be, in each of which too much is asked for.
+const EVERY_ROUND: [&str; 300] = [ROUND_1; 300];
+
+const LAST_REPLIES: &[u8] =
+    b"\n897 round 300 309\n898 ok\n899 ok\n900 full 300\ncca: limit rounds 301\n";
+
+#[test]
+fn ends_at_the_limit_of_rounds(rt: HostRuntime) -> Result<(), Fail> {
+    let alloc = rt.alloc();
+    let award = joined(alloc, SLOW)?;
+    let log = joined(alloc, &EVERY_ROUND)?;
+    let ended = run_three(alloc, AUCTION, &award, &log, None)?;
+    let limit = Status::Limit {
+        which: LimitKind::Rounds,
+        count: 301,
+    };
+    assert_eq!(rt; ended.status, limit);
+    assert!(rt; ended.printed.ends_with(LAST_REPLIES));
+    assert!(rt; ended.third.is_none());
+    Ok(())
 }

@@ -22,6 +22,8 @@ pub use top::run;
 #[cfg(test)]
 mod auction_tests;
 #[cfg(test)]
+mod award_tests;
+#[cfg(test)]
 mod cert_tests;
 #[cfg(test)]
 mod fault_tests;
