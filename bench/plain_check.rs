@@ -112,7 +112,10 @@ impl Reader<'_> {
     }
 
     fn cert(&mut self, bidders: usize, states: usize) -> Cert {
-        self.line(1);
+        // the second version has a line of limits behind the first line
+        if self.line(1)[0] == 2 {
+            self.line(2);
+        }
         let (den, value) = (self.one(), self.one());
         let choice = self.small(bidders);
         let table = self.table(bidders + 1, states);

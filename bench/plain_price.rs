@@ -91,7 +91,9 @@ fn main() {
 
     let whole = table(&book, &[vec![0; book.states()]], |_, bid| bid.net);
     let choice = trace(&book, &whole, None, |_, bid| bid.net);
-    let (mut out, mut blocks) = (String::from("cert 1\n"), String::new());
+    let first = book.bidders.len() <= 12 && book.states() <= 4096;
+    let head = if first { "cert 1\n" } else { "cert 2\nlimits 16 16384\n" };
+    let (mut out, mut blocks) = (String::from(head), String::new());
     add_numbers(&mut out, "den", &[den]);
     add_numbers(&mut out, "value", &[whole[0][book.states() - 1]]);
     add_numbers(&mut out, "choice", &choice);
