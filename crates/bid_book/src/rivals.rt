@@ -5,7 +5,7 @@ use std::alloc::{AllocError, Global};
 
 /// The bids of one bidder so far. They come in the order of their places.
 #[derive(Drop)]
-pub struct Rivals {
+pub(crate) struct Rivals {
     /// The net amounts of the bids.
     nets: Vec<i128>,
     /// For each place up to that of the last bid the number of the bid that is worth most of those that fit there, or 0.
@@ -16,7 +16,7 @@ pub struct Rivals {
 
 impl Rivals {
     /// No bids. It takes no memory.
-    pub fn new(alloc: Global) -> Rivals {
+    pub(crate) fn new(alloc: Global) -> Rivals {
         Rivals {
             nets: Vec::new(alloc),
             best: Vec::new(alloc),
@@ -25,14 +25,14 @@ impl Rivals {
     }
 
     /// Forgets the bids, for the next bidder.
-    pub fn clear(&mut self) {
+    pub(crate) fn clear(&mut self) {
         self.nets.clear();
         self.best.clear();
         self.next = [0; MOST_CATEGORIES];
     }
 
     /// The earlier bid that is worth most of those that are no larger, or 0; then this bid is one of them.
-    pub fn take(
+    pub(crate) fn take(
         &mut self,
         supply: &Supply,
         package: &Package,

@@ -1,11 +1,11 @@
 // What a book says of a choice.
-ghost use Rattle.std.specs.Prelude.{◌≡◌, ◌≤◌, ◌<◌, length, IsTrue, IsFalse, IfSome, IfNone, unsigned_abs};
+ghost use Rattle.std.specs.Prelude.{◌≡◌, ◌≤◌, ◌<◌, ◌*◌, pos, ◌≤ℤ◌, length, IsTrue, IsFalse, IfSome, IfNone, unsigned_abs};
 ghost use Rattle.auction_model.specs.Package.{is_within, less};
 ghost use Rattle.auction_model.specs.Place.{states_of, place_of, left_at};
 ghost use Rattle.auction_model.specs.Menu.{is_known_after, fits_after};
 ghost use Rattle.auction_model.specs.Market.{value_of};
 ghost use Rattle.auction_model.specs.Book.{bids_of, lots_of, net_of, menu_of, market_of};
-ghost use Rattle.limits.specs.declared.TheConstants.{MOST_AMOUNT};
+ghost use Rattle.limits.specs.declared.TheConstants.{MOST_AMOUNT, MOST_BIDDERS};
 
 use crate::Choice;
 use bid_book::BidBook;
@@ -71,17 +71,19 @@ pub fn place_after(book: &BidBook, j: u16, i: u16, place: usize) -> Option<usize
     book.supply().minus(place, &bid.package)
 }
 
-/// The value of a known choice: the sum of the net amounts of its bids. It is at least 0 and below 2^46.
+/// The value of a known choice: the sum of the net amounts of its bids. It is at least 0 and at most 2^46.
 pub fn value(book: &BidBook, choice: &Choice) -> i128
     requires { IsTrue (is_known_after (menu_of book.now) 0 choice.now) }
-    ensures { result ≡ value_of (market_of book.now) choice.now }
+    ensures value { result ≡ value_of (market_of book.now) choice.now }
+    ensures range { (pos 0 ≤ℤ result) × (result ≤ℤ pos (MOST_BIDDERS * MOST_AMOUNT)) }
 {
     value_among(book, choice.numbers())
 }
 
 fn value_among(book: &BidBook, numbers: &[u16]) -> i128
     requires { IsTrue (is_known_after (menu_of book.now) 0 numbers.now) }
-    ensures { result ≡ value_of (market_of book.now) numbers.now }
+    ensures value { result ≡ value_of (market_of book.now) numbers.now }
+    ensures range { (pos 0 ≤ℤ result) × (result ≤ℤ pos (MOST_BIDDERS * MOST_AMOUNT)) }
 {
     let mut value = 0i128;
     for k in 0..book.bidders() {
@@ -95,6 +97,7 @@ pub fn worth(book: &BidBook, j: u16, i: u16) -> i128
     requires bidder { (0 < j) × (j ≤ length book.now.bidders) }
     requires bid { i ≤ length (bids_of book.now j) }
     ensures worth { result ≡ net_of book.now j i }
+    ensures not_negative { pos 0 ≤ℤ result }
     ensures size { unsigned_abs result ≤ MOST_AMOUNT }
 {
     let _bidders = book.bidders();
