@@ -19,4 +19,4 @@ pub returns-then-part-j : goal.returns-then-part-j
 returns-then-part-j c =
     let whole = sym (from-found c.args.parts.now c.loop-part.part-index c.args.j c.part-item.result c.loop-part-test.true c.part-item.is (sym c.loop-part.invariant) c.if-part-j.true) in
     let value_fits : SFits w128 c.value.result = search rules in
-    to_z-of_z w128 c.value.result value_fits ∙ c.value.ensures ∙ ap (λ (w : WithoutValue). value_of (market_of c.args.book.now) w.choice) whole
+    to_z-of_z w128 c.value.result value_fits ∙ c.value.ensures.value ∙ ap (λ (w : WithoutValue). value_of (market_of c.args.book.now) w.choice) whole

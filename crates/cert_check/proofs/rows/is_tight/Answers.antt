@@ -25,7 +25,7 @@ overflow_sub-rest c =
     let beside = some-won book cert c.requires.shape.bidders_are c.requires.head c.won_beside.ensures.kept others in
     let value = allowed-value book cert c.requires.shape.bidders_are c.requires.head c.won_beside.ensures.kept c.args.row.now.choice c.requires.allowed in
     let value_fits : SFits w128 c.args.cert.now.value = search rules in
-    omega (arith, ints, total, beside.0, beside.1, value.0, value.1, c.value.ensures, value_fits)
+    omega (arith, ints, total, beside.0, beside.1, value.0, value.1, c.value.ensures.value, value_fits)
 
 pub paid_by-requires-clause-count : goal.paid_by-requires-clause-count
 paid_by-requires-clause-count c =
@@ -43,8 +43,8 @@ times-requires c =
     let value_fits : SFits w128 c.args.cert.now.value = search rules in
     let den_fits : SFits w128 c.args.cert.now.den = search rules in
     let rest : to_z w128 (of_z w128 (to_z w128 (of_z w128 c.value.result) -ℤ to_z w128 (of_z w128 c.won_beside.result))) ≡ c.value.result -ℤ c.won_beside.result =
-    omega (arith, ints, total, beside.0, beside.1, value.0, value.1, c.value.ensures, value_fits) in
-    let low : unsigned_abs (c.value.result -ℤ c.won_beside.result) ≤ unsigned_abs c.args.cert.now.value = omega (arith, ints, total, beside.0, beside.1, value.0, value.1, c.value.ensures) in
+    omega (arith, ints, total, beside.0, beside.1, value.0, value.1, c.value.ensures.value, value_fits) in
+    let low : unsigned_abs (c.value.result -ℤ c.won_beside.result) ≤ unsigned_abs c.args.cert.now.value = omega (arith, ints, total, beside.0, beside.1, value.0, value.1, c.value.ensures.value) in
     rw (to_z-of_z w128 c.args.cert.now.den den_fits, rest)
     (times-small book cert c.requires.shape.bidders_are c.requires.head c.won_beside.ensures.kept (c.value.result -ℤ c.won_beside.result) low)
 
@@ -60,12 +60,12 @@ returns c =
     let value_fits : SFits w128 c.args.cert.now.value = search rules in
     let den_fits : SFits w128 c.args.cert.now.den = search rules in
     let rest : to_z w128 (of_z w128 (to_z w128 (of_z w128 c.value.result) -ℤ to_z w128 (of_z w128 c.won_beside.result))) ≡ c.value.result -ℤ c.won_beside.result =
-    omega (arith, ints, total, beside.0, beside.1, value.0, value.1, c.value.ensures, value_fits) in
+    omega (arith, ints, total, beside.0, beside.1, value.0, value.1, c.value.ensures.value, value_fits) in
     let times_fits : SFits w128 c.times.result = search rules in
     let paid_fits : SFits w128 c.paid_by.result = search rules in
     let product = rw (to_z-of_z w128 c.args.cert.now.den den_fits, rest) at c.times.ensures in
     let times = product
-    ∙ ap (λ (z : ℤ). c.args.cert.now.den *ℤ (z -ℤ c.won_beside.result)) c.value.ensures
+    ∙ ap (λ (z : ℤ). c.args.cert.now.den *ℤ (z -ℤ c.won_beside.result)) c.value.ensures.value
     ∙ ap (λ (z : ℤ). c.args.cert.now.den *ℤ (value_of (market_of book) c.args.row.now.choice -ℤ z)) total
     ∙ ap (λ (l : List ℕ). c.args.cert.now.den *ℤ (value_of (market_of book) c.args.row.now.choice -ℤ sum_over (λ j. not (is_member l j)) (won book cert) (bidders_of book))) c.items-members.ensures in
     let count : length c.args.cert.now.pay ≡ bidders_of c.args.book.now = c.args.cert.now.rules.pay.0 ∙ c.requires.shape.bidders_are in

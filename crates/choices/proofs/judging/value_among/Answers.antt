@@ -31,14 +31,23 @@ loop-k-preserved c =
     let step = sum-step net numbers k inside in
     record {
       whole = rw (own_same, sum_same) (omega (arith, ints, step, c.loop-k.invariant.whole, c.worth-value.ensures.worth));
+      not_negative = rw (own_same, sum_same) (omega (arith, ints, c.loop-k.invariant.not_negative, c.worth-value.ensures.not_negative));
       size = rw (own_same, sum_same) (omega (arith, ints, c.loop-k.invariant.size, c.worth-value.ensures.size));
     }
 
-pub returns : goal.returns
-returns c =
+pub returns-clause-value : goal.returns-clause-value
+returns-clause-value c =
     let numbers = c.args.numbers.now in
     let k = c.loop-k.k in
     let net = net_of c.args.book.now in
     let all : length numbers ≤ k = omega (arith, known-length (menu_of c.args.book.now) 0 numbers c.requires, c.bidders-k-end.ensures.bidders) in
     let rest : sum_after net k (drop k numbers) ≡ sum_after net k [] = ap (sum_after net k) (drop_all k numbers all) in
     omega (arith, ints, rest, c.loop-k.invariant.whole)
+
+pub returns-clause-range : goal.returns-clause-range
+returns-clause-range c =
+    let most : c.loop-k.k ≤ 16 = omega (arith, c.bidders-k-end.ensures.bidders, c.bidders-k-end.ensures.most) in
+    record {
+      0 = c.loop-k.invariant.not_negative;
+      1 = omega (arith, ints, most, c.loop-k.invariant.size, c.loop-k.invariant.not_negative);
+    }

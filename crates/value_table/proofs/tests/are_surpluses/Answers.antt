@@ -42,7 +42,7 @@ returns c =
     let value_fits : SFits w128 c.value-all.result = search rules in
     let low : pos 0 ≤ℤ c.value-all.result = at_most c.value-all.result (pos 0) (rw (to_z-of_z w128 c.value-all.result value_fits) at c.if-all-lt0.false) in
     let high : c.value-all.result ≤ℤ pos 1000000 = at_most (pos 1000000) c.value-all.result (rw (to_z-of_z w128 c.value-all.result value_fits) at c.if-all-gt1000000.false) in
-    let all : unsigned_abs V ≤ 1000000 = rw (← c.value-all.ensures) (size c.value-all.result low high) in
+    let all : unsigned_abs V ≤ 1000000 = rw (← c.value-all.ensures.value) (size c.value-all.result low high) in
     let sum = small-sum (λ j. unsigned_abs (of_bidder c.args.surplus.now j)) m.bidders 1000000 (λ j some inside. c.loop-k.invariant.small (j - 1) (omega (arith, count))) in
     λ _. record {
       bidders = count;
