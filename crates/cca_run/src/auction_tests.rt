@@ -112,7 +112,7 @@ pub struct Ended {
 }
 
 /// A run with three files, of which the third may be missing.
-pub fn run_three(
+pub(crate) fn run_three(
     alloc: Global,
     words: &[&str],
     award: &[u8],

@@ -76,14 +76,17 @@ fn tell_words<F: Files, O: Sink>(files: &F, out: &mut O) -> Status
 /// `win BOOK` prints the winners of a book and their net value. `price BOOK CERT` prices the book, appends the certificate to CERT and
 /// prints what the winners bid, their Vickrey prices and what they pay; with `--rounds` behind the files a line for each turn of pricing
 /// comes before that, and with `--json` all is one line of JSON. `check BOOK CERT` tests a certificate of the book, whoever wrote it, and
-/// prints `yes` and the outcome that it shows, or the first test that fails with its place. A yes is sound: the choice is the winning one, and the payments are the core
-/// outcome. `auction AWARD LOG BOOK` replays the log of an auction, appends the text of its book to BOOK and prints a line for the reply
-/// to each record; where a close is refused for a limit, or the log isn't complete, there is no book, and the line of the status comes
-/// behind those lines.
+/// prints `yes` and the outcome that it shows, or the first test that fails with its place. A yes is sound: the choice is the winning
+/// one, and the payments are the core outcome.
+///
+/// `auction AWARD LOG BOOK` replays the log of an auction, appends the text of its book to BOOK and prints a line for the reply to each
+/// record; where a close is refused for a limit, or the log isn't complete, there is no book, and the line of the status comes behind
+/// those lines. `award AWARD LOG CERT` prices the book of the log as `price` does, with the same flags, and `audit AWARD LOG CERT` makes
+/// the book from the log itself and tests the certificate as `check` does; both end where `auction` would, with its status and its lines.
 ///
 /// All is worked out before anything is written, and files are appended before anything is printed. But for that, a status other than
-/// Done prints its line alone; a fault of the output is WriteFault of Out, whatever came before. Words that aren't of the plain form are told without
-/// taking memory. The condition is that `files` knows each of the words.
+/// Done prints its line alone; a fault of the output is WriteFault of Out, whatever came before. Words that aren't of the plain form are
+/// told without taking memory. The condition is that `files` knows each of the words.
 pub fn run<F: Files, O: Sink>(alloc: Global, words: &[String], files: &mut F, out: &mut O) -> Status
     requires { All (λ w. IsTrue ((F.folder files.old).knows w)) (map string_bytes words.now) }
 
