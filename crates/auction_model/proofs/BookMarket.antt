@@ -20,17 +20,17 @@ pub none-taken : (m : Menu) (k n : ℕ) → ((j : ℕ) → m.lots j 0 ≡ []) �
 none-taken m k zero none = refl
 none-taken m k (suc n) none = rw (none (suc k)) (none-taken m (suc k) n none)
 
-together-comm : (p q : List ℕ) → together p q ≡ together q p
+pub together-comm : (p q : List ℕ) → together p q ≡ together q p
 together-comm [] [] = refl
 together-comm [] (b ∷ q) = refl
 together-comm (a ∷ p) [] = refl
 together-comm (a ∷ p) (b ∷ q) = let e : a + b ≡ b + a = omega arith in rw (e, together-comm p q) refl
 
 -- a bid less takes no more
-fewer-within : (p q s : List ℕ) → IsTrue (is_within (together p q) s) → IsTrue (is_within q s)
+pub fewer-within : (p q s : List ℕ) → IsTrue (is_within (together p q) s) → IsTrue (is_within q s)
 fewer-within p q s t = (and_parts (is_within q s) (is_within p (less s q)) (sym (within-together q p s) ∙ (ap (λ r. is_within r s) (together-comm q p) ∙ t))).0
 
-fewer-known : (m : Menu) (k : ℕ) (c : List ℕ) (i : ℕ) → IsTrue (is_known_after m k c) → IsTrue (is_known_after m k (set c i 0))
+pub fewer-known : (m : Menu) (k : ℕ) (c : List ℕ) (i : ℕ) → IsTrue (is_known_after m k c) → IsTrue (is_known_after m k (set c i 0))
 fewer-known m k [] i t = t
 fewer-known m k (x ∷ c) zero t =
     let p = and_parts (nat_le x (m.bids (suc k))) (is_known_after m (suc k) c) t in
@@ -39,7 +39,7 @@ fewer-known m k (x ∷ c) (suc i) t =
     let p = and_parts (nat_le x (m.bids (suc k))) (is_known_after m (suc k) c) t in
     and_from (nat_le x (m.bids (suc k))) (is_known_after m (suc k) (set c i 0)) p.0 (fewer-known m (suc k) c i p.1)
 
-fewer-taken : (m : Menu) (k : ℕ) (c : List ℕ) (i : ℕ) (s : List ℕ) → ((j : ℕ) → m.lots j 0 ≡ []) → IsTrue (is_within (packages_after m k c) s) → IsTrue (is_within (packages_after m k (set c i 0)) s)
+pub fewer-taken : (m : Menu) (k : ℕ) (c : List ℕ) (i : ℕ) (s : List ℕ) → ((j : ℕ) → m.lots j 0 ≡ []) → IsTrue (is_within (packages_after m k c) s) → IsTrue (is_within (packages_after m k (set c i 0)) s)
 fewer-taken m k [] i s none t = t
 fewer-taken m k (x ∷ c) zero s none t = rw (none (suc k)) (fewer-within (m.lots (suc k) x) (packages_after m (suc k) c) s t)
 fewer-taken m k (x ∷ c) (suc i) s none t =

@@ -6,7 +6,7 @@ use Rattle.auction_model.specs.Package.{is_within, less, IsNothingFrom}
 use Rattle.auction_model.specs.Place.{left_at}
 use Rattle.auction_model.specs.Steps.{raised}
 
-nothing-within : (p l : List ℕ) → IsNothingFrom 0 p → is_within p l ≡ true
+pub nothing-within : (p l : List ℕ) → IsNothingFrom 0 p → is_within p l ≡ true
 nothing-within [] l h = refl
 nothing-within (a ∷ p) [] h = rw (h 0 (omega arith)) (nothing-within p [] (λ k low. h (suc k) (omega arith)))
 nothing-within (a ∷ p) (b ∷ l) h = rw (le-leb a b (omega (arith, h 0 (omega arith)))) (nothing-within p l (λ k low. h (suc k) (omega arith)))
@@ -18,7 +18,7 @@ nothing-less (a ∷ p) (b ∷ l) h =
     let same : b - a ≡ b = omega (arith, h 0 (omega arith)) in
     rw (same, nothing-less p l (λ k low. h (suc k) (omega arith))) refl
 
-trim-within : (n : ℕ) (p l : List ℕ) → IsNothingFrom n p → is_within (take n p) l ≡ is_within p l
+pub trim-within : (n : ℕ) (p l : List ℕ) → IsNothingFrom n p → is_within (take n p) l ≡ is_within p l
 trim-within zero p l h = sym (nothing-within p l h)
 trim-within (suc n) [] l h = refl
 trim-within (suc n) (a ∷ p) [] h = ap (λ t. (a == 0) && t) (trim-within n p [] (λ k low. h (suc k) (omega arith)))

@@ -215,7 +215,7 @@ clock_bids-there (r ∷ rounds) list =
           (λ s. cost_of s.prices s.held ≤ greatest s.held (map clock_bid (r ∷ rounds) ++ list)) rounds (λ s h. omega (arith, h)) (clock_bids-there rounds list),
     )
 
-cost_of-empty : (prices lots : List ℕ) → is_empty lots ≡ true → cost_of prices lots ≡ 0
+pub cost_of-empty : (prices lots : List ℕ) → is_empty lots ≡ true → cost_of prices lots ≡ 0
 cost_of-empty [] lots h = refl
 cost_of-empty (p ∷ prices) [] h = refl
 cost_of-empty (p ∷ prices) (a ∷ lots) h =

@@ -142,7 +142,7 @@ bids_in_book-greatest terms log j = best_bids-greatest (pairs_of (standing terms
 
 -- ---- no bid is empty, and there are no more than pairs
 
-some-some : (ps : List (List ℕ)) → AllByRecursion (λ (lots : List ℕ). is_empty lots ≡ false) (filter (λ lots. not (is_empty lots)) ps)
+pub some-some : (ps : List (List ℕ)) → AllByRecursion (λ (lots : List ℕ). is_empty lots ≡ false) (filter (λ lots. not (is_empty lots)) ps)
 some-some [] = tt
 some-some (p ∷ ps) =
     elim (cases_Bool (is_empty p)) [

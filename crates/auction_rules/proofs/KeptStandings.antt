@@ -59,7 +59,7 @@ InOrder-submitted_list j (e ∷ lines) =
 
 -- ---- the length of draft lists
 
-not_same-sym : (p q : List ℕ) → is_same p q ≡ false → is_same q p ≡ false
+pub not_same-sym : (p q : List ℕ) → is_same p q ≡ false → is_same q p ≡ false
 not_same-sym p q apart =
     elim (cases_Bool (is_same q p)) [
       | inl same ↦ let no : true ≡ false = sym (subst (λ (x : List ℕ). is_same x q ≡ true) (is_same-true q p same) (is_same-refl q)) ∙ apart in cc
@@ -67,7 +67,7 @@ not_same-sym p q apart =
     ]
 
 -- a package before all those of a list has no entry in it
-absent-before : (x : List ℕ) (list : List BookBid) → AllAfter x (map bid_lots list) → has_entry x list ≡ false
+pub absent-before : (x : List ℕ) (list : List BookBid) → AllAfter x (map bid_lots list) → has_entry x list ≡ false
 absent-before x [] after = refl
 absent-before x (b ∷ list) after =
     let apart : is_same b.lots x ≡ false = not_same-sym x b.lots (is_before-not_same x b.lots after.0) in

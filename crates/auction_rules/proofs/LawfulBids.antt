@@ -89,7 +89,7 @@ draft-ok false false None None false e false false r false c false true t ok = c
 draft-ok false false None None false e false false r false c false false t ok = record { none_over = refl; eligible = refl; some = refl; reserve_reached = refl; room = refl; top_kept = refl }
 
 -- a package within the supply has at most its lots
-sum-within : (lots supply : List ℕ) → is_within lots supply ≡ true → sum lots ≤ sum supply
+pub sum-within : (lots supply : List ℕ) → is_within lots supply ≡ true → sum lots ≤ sum supply
 sum-within [] supply within = omega arith
 sum-within (a ∷ lots) [] within =
     let both : ((a == 0) ≡ true) × (is_within lots [] ≡ true) = and_parts (a == 0) (is_within lots []) within in
@@ -176,7 +176,7 @@ held-lawful terms [] r j lawful = IsLawfulPackage-no_lots terms
 held-lawful terms (e ∷ lines) r j lawful = held-after terms e lines r j (bid_by j e) refl lawful.0 (held-lawful terms lines r j lawful.1)
 
 -- drafts and submitted lists
-with_entry-each : (P : BookBid → Type 0) (x : List ℕ) (a : ℕ) (list : List BookBid) → P (record { lots = x; amount = a }) → AllByRecursion P list → AllByRecursion P (with_entry x a list)
+pub with_entry-each : (P : BookBid → Type 0) (x : List ℕ) (a : ℕ) (list : List BookBid) → P (record { lots = x; amount = a }) → AllByRecursion P list → AllByRecursion P (with_entry x a list)
 with_entry-each P x a [] new old = (new, tt)
 with_entry-each P x a (b ∷ list) new old =
     elim (cases_Bool (is_same x b.lots)) [

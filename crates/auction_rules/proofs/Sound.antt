@@ -23,6 +23,7 @@ use Rattle.auction_rules.specs.BookOfLog.{bids_in_book}
 use Rattle.auction_rules.proofs.Standings.{after_own, after_close, own_now, stage_stopped, standing-own, standing-other, standing-close}
 use Rattle.auction_rules.proofs.Views.{a_close, an_own, another, cases_line, with_line-ok, with_line-refused, reply_after-own, is_of-parts}
 use Rattle.auction_rules.proofs.BookCaps.{RisesTo, rises, RisesToEach, AreRising, AreEligible, list_fault-best_bids}
+use Rattle.auction_rules.proofs.Stands.{same_either}
 
 -- prices never fall
 cost_of-raised_prices : (tick : ℕ) (thresholds : List (ℕ × ℕ)) (prices d supply lots : List ℕ) → cost_of prices lots ≤ cost_of (raised_prices tick thresholds prices d supply) lots
@@ -106,10 +107,6 @@ submit-ok true strange fault ok = cc
 submit-ok false true fault ok = cc
 submit-ok false false (Some f) ok = cc
 submit-ok false false None ok = (refl, refl)
-
-same_either : (b : Bool) (x : List ℕ) → (if b then x else x) ≡ x
-same_either true x = refl
-same_either false x = refl
 
 sealed-no_clock : (stage : Stage) → not (is_sealed stage) ≡ false → is_clock stage ≡ true → ⊥
 sealed-no_clock Clock h k = cc

@@ -82,7 +82,7 @@ reply_in-state_after terms lines e =
           ∙ sym (cond-false (is_close e) (close_reply terms (held_in terms lines) (closes lines)) (own_reply terms (line_bidder e) (standing terms lines (line_bidder e)) e) other)
     ]
 
-same_either : (b : Bool) (x : List ℕ) → (if b then x else x) ≡ x
+pub same_either : (b : Bool) (x : List ℕ) → (if b then x else x) ≡ x
 same_either true x = refl
 same_either false x = refl
 

@@ -1,31 +1,30 @@
 -- The book of a log on an award keeps the rules and the limits of a book.
-use Rattle.std.proofs.Common.{◌≡◌, ◌≢◌, ℕ, zero, suc, ◌+◌, ◌-◌, ◌<◌, ◌≤◌, true, false, List, [], ◌∷◌, ◌++◌, Option, Some, None, length, map, get_or, replicate, refl, sym, ap, subst, ◌∙◌, inl, inr, arith, append_assoc}
-use Rattle.std.specs.Prelude.{codes, sum, ◌==◌}
-use Rattle.std.specs.List.{AllByRecursion, position_or_len}
+use Rattle.std.proofs.Common.{◌≡◌, ◌≢◌, ℕ, zero, suc, ◌+◌, ◌-◌, ◌<◌, ◌≤◌, true, false, List, [], ◌∷◌, ◌++◌, Option, None, length, map, get_or, replicate, refl, sym, ap, subst, ◌∙◌, inl, inr, arith, append_assoc}
+use Rattle.std.specs.Prelude.{codes, ◌==◌}
+use Rattle.std.specs.List.{AllByRecursion}
 use Rattle.std.specs.Option.{option_or}
 use Rattle.std.specs.Str.{bytes_eq}
 use Rattle.std.proofs.lemmas.Bool.{cases_Bool, eqb-true, true≢false}
 use Rattle.std.proofs.lemmas.Bool.Decides.{nat_tests}
 use Rattle.std.proofs.lemmas.List.{append-nil, length-map}
 use Rattle.std.proofs.lemmas.List.Elements.{recursion_from_All}
-use Rattle.std.proofs.lemmas.List.Sums.{sum_by-cons}
 use Rattle.std.proofs.lemmas.Map.Keys.{apart_from_distinct}
 use Rattle.std.proofs.lemmas.Slice.Eq.{bytes_eq-Decides}
 use Rattle.line_text.specs.LineText.{first_excess}
 use Rattle.line_text.proofs.Lines.{first_excess-append}
 use Rattle.auction_model.specs.Book.{BookBid, Bidder, Book}
 use Rattle.auction_model.specs.Package.{ComesBefore}
-use Rattle.book_form.specs.BookForm.{AreBids, IsBidder, AreBidders, IsOffer, IsName, empty_package}
+use Rattle.book_form.specs.BookForm.{AreBids, IsBidder, AreBidders, IsName, empty_package}
 use Rattle.book_form.specs.BookLines.{Excess, supply_excess, bid_excess, bidder_excess, bid_lines, bidder_line, bidder_lines, head_lines, IsBookWithinLimits}
-use Rattle.lots.specs.Limits.{IsSupply, categories_stop, zero_stop}
 use Rattle.auction_rules.specs.declared.Event.{Event}
 use Rattle.auction_rules.specs.PackageTests.{is_empty, is_before, AllAfter, InOrder}
 use Rattle.auction_rules.specs.Terms.{Terms, Entrant, entrant}
 use Rattle.auction_rules.specs.Rounds.{listing}
 use Rattle.auction_rules.specs.Lawful.{AreLimited, IsLawfulBid}
 use Rattle.auction_rules.specs.BookOfLog.{bid_lots, bids_in_book, book_bidder, book_by, book_of_log}
+use Rattle.auction_rules.proofs.States.{length-listing}
+use Rattle.bid_book.proofs.SupplyLaws.{offer_of, supply_within}
 use Rattle.award_file.specs.Award.{IsAward, names_of, entrant_with}
-use Rattle.award_file.proofs.LimitLaws.{within-limits}
 use Rattle.award_file.proofs.Names.{name-at}
 
 -- an award keeps the limits on which amounts rest
@@ -41,29 +40,6 @@ pub record AreKnown (terms : Terms) (bids : ℕ → List BookBid) : Type 0 where
   pub few : (j : ℕ) → length (bids j) ≤ 600
 
 -- ---- the supply
-
--- where no count is 0 and there are few lots, each category has 1 to 999
-counts-there : (ns : List ℕ) → length ns ≤ position_or_len (λ n. n == 0) ns → sum ns ≤ 40 → AllByRecursion (λ n. (1 ≤ n) × (n ≤ 999)) ns
-counts-there [] none few = tt
-counts-there (n ∷ ns) none few =
-    let parts : sum (n ∷ ns) ≡ n + sum ns = sum_by-cons (λ (m : ℕ). m) n ns in
-    ((grind (arith, nat_tests), omega arith), counts-there ns (grind (arith, nat_tests)) (omega arith))
-
-no_zero-tells : (supply : List ℕ) → zero_stop supply ≡ None → length supply ≤ position_or_len (λ n. n == 0) supply
-no_zero-tells supply none = grind (arith, nat_tests)
-
-is_offer : (supply : List ℕ) → IsSupply supply → IsOffer supply
-is_offer supply is =
-    let zero : zero_stop supply ≡ None = first_none (zero_stop supply) _ (second_none (categories_stop supply) _ is.allowed) in
-    record { some = is.some; each = counts-there supply (no_zero-tells supply zero) is.lots }
-  where
-    first_none : {O : Type 0} (a b : Option O) → option_or a b ≡ None → a ≡ None
-    first_none None b is = refl
-    first_none (Some x) b is = absurd (cc is)
-
-    second_none : {O : Type 0} (a b : Option O) → option_or a b ≡ None → b ≡ None
-    second_none None b is = is
-    second_none (Some x) b is = absurd (cc is)
 
 -- ---- the bids
 
@@ -180,14 +156,6 @@ listed-few terms bids (suc n) few = push-few (listing (book_bidder terms bids) n
     push-few [] x each last = (last, tt)
     push-few (y ∷ xs) x each last = (each.0, push-few xs x each.1 last)
 
-length-listing : {A : Type 0} (f : ℕ → A) (n : ℕ) → length (listing f n) ≡ n
-length-listing f zero = refl
-length-listing f (suc n) = omega (arith, length-push (listing f n) (f (suc n)), length-listing f n)
-  where
-    length-push : {A : Type 0} (xs : List A) (x : A) → length (xs ++ x ∷ []) ≡ suc (length xs)
-    length-push [] x = refl
-    length-push (y ∷ xs) x = omega (arith, length-push xs x)
-
 -- no line of the book exceeds a limit
 lines-within : (book : Book) → supply_excess book.supply ≡ None → first_excess (bidder_lines 0 book.bidders) ≡ None
     → first_excess ((head_lines book ++ bidder_lines 0 book.bidders) ++ (codes "end", None) ∷ []) ≡ None
@@ -202,11 +170,11 @@ book_by-within terms bids award known =
     let few : 0 + length (listing (book_bidder terms bids) (length terms.bidders)) ≤ 16 = omega (arith, length-listing (book_bidder terms bids) (length terms.bidders), award.few_bidders) in
     record {
       form = record {
-        supply = is_offer terms.supply award.supply;
+        supply = offer_of terms.supply award.supply;
         reserves = record { count = award.reserves; each = recursion_from_All _ terms.reserves award.most_reserve };
         bidders = bidders-are terms bids award known (length terms.bidders) (omega arith);
       };
-      limits = lines-within (book_by terms bids) (within-limits terms.supply award.supply)
+      limits = lines-within (book_by terms bids) (supply_within terms.supply award.supply)
           (bidders-few 0 (listing (book_bidder terms bids) (length terms.bidders)) few (listed-few terms bids (length terms.bidders) known.few));
     }
 

@@ -12,12 +12,13 @@ use Rattle.book_form.specs.BookForm.{IsOffer}
 use Rattle.auction_rules.specs.Step.{last_or}
 use Rattle.auction_rules.specs.Terms.{Terms}
 use Rattle.lots.specs.Limits.{IsSupply}
+use Rattle.bid_book.proofs.SupplyLaws.{none_first, none_second}
 use Rattle.award_file.specs.Award.{IsAward, IsSteps, IsEntrant, IsCap, AreThresholds, RiseAbove, AreNamedApart, steps_of}
 use Rattle.award_file.specs.Reading.{IsStated}
 use Rattle.award_file.specs.Stated.{has_other, name_at, list_of}
 use Rattle.award_file.specs.Walk as walk
 use Rattle.award_file.specs.Walk.{Fault, Category, tables_fault, first_fault, unless, entry_behind}
-use Rattle.award_file.proofs.FaultLaws.{none-first, none-second, three-hold, four-hold, five-hold, number-in, row-at, holding-at, name-in, list-count, list-passes}
+use Rattle.award_file.proofs.FaultLaws.{three-hold, four-hold, five-hold, number-in, row-at, holding-at, name-in, list-count, list-passes}
 
 -- ---- lists
 
@@ -25,7 +26,7 @@ use Rattle.award_file.proofs.FaultLaws.{none-first, none-second, three-hold, fou
 module _ {A : Type 0} (fault : List A → Members → Option Fault) (stated : Members → A) (P : Members → Type 0) (says : (before : List A) (t : Members) → fault before t ≡ None → P t) where
   each : (before : List A) (ts : List Members) → tables_fault fault stated before ts ≡ None → AllByRecursion P ts
   each before [] h = tt
-  each before (t ∷ ts) h = (says before t (none-first _ _ h), each (before ++ stated t ∷ []) ts (none-second _ _ h))
+  each before (t ∷ ts) h = (says before t (none_first _ _ h), each (before ++ stated t ∷ []) ts (none_second _ _ h))
 
 -- what holds of each item holds of what is made of it
 made : {A B : Type 0} (P : A → Type 0) (Q : B → Type 0) (f : A → B) → ((x : A) → P x → Q (f x)) → (xs : List A) → AllByRecursion P xs → AllByRecursion Q (map f xs)
@@ -85,15 +86,15 @@ step-is before t h =
 steps-rise : (e : ℕ) (es : List ℕ) (ts : List Members) → tables_fault walk.step_fault walk.excess_or_none (e ∷ es) ts ≡ None → RiseAbove (last_or e es) (map walk.threshold_of ts)
 steps-rise e es [] h = tt
 steps-rise e es (t ∷ ts) h =
-    let here = step-is (e ∷ es) t (none-first (walk.step_fault (e ∷ es) t) (tables_fault walk.step_fault walk.excess_or_none (e ∷ (es ++ walk.excess_or_none t ∷ [])) ts) h) in
-    let later = steps-rise e (es ++ walk.excess_or_none t ∷ []) ts (none-second (walk.step_fault (e ∷ es) t) (tables_fault walk.step_fault walk.excess_or_none (e ∷ (es ++ walk.excess_or_none t ∷ [])) ts) h) in
+    let here = step-is (e ∷ es) t (none_first (walk.step_fault (e ∷ es) t) (tables_fault walk.step_fault walk.excess_or_none (e ∷ (es ++ walk.excess_or_none t ∷ [])) ts) h) in
+    let later = steps-rise e (es ++ walk.excess_or_none t ∷ []) ts (none_second (walk.step_fault (e ∷ es) t) (tables_fault walk.step_fault walk.excess_or_none (e ∷ (es ++ walk.excess_or_none t ∷ [])) ts) h) in
     (here.0, here.1, here.2, here.3, subst (λ low. RiseAbove low (map walk.threshold_of ts)) (last-more e es (walk.excess_or_none t)) later)
 
 steps-are : (ts : List Members) → 0 < length ts → tables_fault walk.step_fault walk.excess_or_none [] ts ≡ None → AreThresholds (map walk.threshold_of ts)
 steps-are [] some h = absurd (omega arith)
 steps-are (t ∷ ts) some h =
-    let here = step-is [] t (none-first (walk.step_fault [] t) (tables_fault walk.step_fault walk.excess_or_none (walk.excess_or_none t ∷ []) ts) h) in
-    let later = steps-rise (walk.excess_or_none t) [] ts (none-second (walk.step_fault [] t) (tables_fault walk.step_fault walk.excess_or_none (walk.excess_or_none t ∷ []) ts) h) in
+    let here = step-is [] t (none_first (walk.step_fault [] t) (tables_fault walk.step_fault walk.excess_or_none (walk.excess_or_none t ∷ []) ts) h) in
+    let later = steps-rise (walk.excess_or_none t) [] ts (none_second (walk.step_fault [] t) (tables_fault walk.step_fault walk.excess_or_none (walk.excess_or_none t ∷ []) ts) h) in
     (here.0, (omega (arith, here.0), here.1, here.2, here.3, later))
 
 -- ---- bidders and caps
@@ -126,10 +127,10 @@ top-passes : (a b c : Bool) (f g h i : Option Fault) → first_fault (unless a 1
 top-passes false b c f g h i none = absurd (cc none)
 top-passes true false c f g h i none = absurd (cc none)
 top-passes true true c f g h i none =
-    let second = none-second f (option_or g (option_or h (option_or i (first_fault (unless c 18 0 ∷ []))))) none in
-    let third = none-second g (option_or h (option_or i (first_fault (unless c 18 0 ∷ [])))) second in
-    let fourth = none-second h (option_or i (first_fault (unless c 18 0 ∷ []))) third in
-    (refl, refl, none-first f _ none, none-first g _ second, none-first h _ third, none-first i _ fourth)
+    let second = none_second f (option_or g (option_or h (option_or i (first_fault (unless c 18 0 ∷ []))))) none in
+    let third = none_second g (option_or h (option_or i (first_fault (unless c 18 0 ∷ [])))) second in
+    let fourth = none_second h (option_or i (first_fault (unless c 18 0 ∷ []))) third in
+    (refl, refl, none_first f _ none, none_first g _ second, none_first h _ third, none_first i _ fourth)
 
 -- the parts of a table without a fault
 parts-pass : (t : Members) → walk.award_fault t ≡ None → (is_some (walk.version_at t) ≡ true) × (is_some (walk.tick_at t) ≡ true) × (walk.categories_fault t ≡ None) × (walk.bidders_fault (walk.category_count t) t ≡ None)

@@ -1,7 +1,6 @@
 -- What holds of a table without a fault.
 use Rattle.std.proofs.Common.{◌≡◌, ℕ, ℤ, pos, negsuc, ◌≤◌, Bool, true, false, List, [], ◌∷◌, length, replicate, Option, Some, None, refl, sym, arith}
 use Rattle.std.specs.Prelude.{◌&&◌, ◌==◌, nat_le, is_some, unwrap_or, option_and_then, codes, if◌then◌else◌}
-use Rattle.std.specs.Option.{option_or}
 use Rattle.std.specs.List.{AllByRecursion}
 use Rattle.std.proofs.lemmas.Bool.{false≢true}
 use Rattle.std.proofs.lemmas.Bool.Decides.{nat_tests}
@@ -14,14 +13,6 @@ use Rattle.award_file.specs.Walk.{Fault, unless, first_fault, is_new, name_or_no
 use Rattle.award_file.proofs.FieldLaws.{name-is}
 
 -- ---- faults
-
-pub none-first : {O : Type 0} (f g : Option O) → option_or f g ≡ None → f ≡ None
-none-first None g h = refl
-none-first (Some x) g h = absurd (cc h)
-
-pub none-second : {O : Type 0} (f g : Option O) → option_or f g ≡ None → g ≡ None
-none-second None g h = h
-none-second (Some x) g h = absurd (cc h)
 
 -- where none of three rules is broken, all hold; and so for four and five
 pub three-hold : (a b c : Bool) (i j k entry : ℕ) → first_fault (unless a i entry ∷ unless b j entry ∷ unless c k entry ∷ []) ≡ None → (a ≡ true) × (b ≡ true) × (c ≡ true)

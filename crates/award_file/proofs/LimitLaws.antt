@@ -2,7 +2,6 @@
 use Rattle.std.proofs.Common.{◌≡◌, ℕ, ◌≤◌, ◌<◌, Bool, true, false, not, Option, Some, None, List, [], ◌∷◌, length, refl, sym, ap, subst, ◌∙◌, arith}
 use Rattle.std.specs.Prelude.{sum, nat_le, nat_lt, ◌&&◌, ◌==◌, if◌then◌else◌}
 use Rattle.std.specs.Option.{option_or}
-use Rattle.std.specs.List.{AllByRecursion, position_or_len}
 use Rattle.std.proofs.lemmas.Bool.Decides.{nat_tests}
 use Rattle.std.proofs.lemmas.Option.{same_Some}
 use Rattle.auction_model.specs.Place.{states_of}
@@ -11,7 +10,8 @@ use Rattle.book_form.specs.BookLines.{Excess, supply_excess}
 use Rattle.limits.specs.declared.LimitKind.TheVariants.{Categories, Lots, States}
 use Rattle.lots.specs.declared.LotStop.{LotStop}
 use Rattle.lots.specs.declared.LotStop.TheVariants as lots
-use Rattle.lots.specs.Limits.{IsSupply, categories_stop, zero_stop, lots_stop, states_stop, supply_stop}
+use Rattle.lots.specs.Limits.{IsSupply, categories_stop, lots_stop, states_stop, supply_stop}
+use Rattle.bid_book.proofs.SupplyLaws.{zero_none}
 use Rattle.award_file.specs.Reading.{IsLimit, limit_stop}
 
 -- where the making of a supply stops, by the tests of its three limits
@@ -22,13 +22,6 @@ stop_by a b c l m t = option_or (if a then None else Some (lots.Categories l)) (
 abbrev excess_by : Bool → Bool → Bool → ℕ → ℕ → ℕ → Option Excess
 excess_by a b c l m t = if not a then Some (Categories, l) else if not b then Some (Lots, m) else if not c then Some (States, t) else None
 
-no-zero : (supply : List ℕ) → AllByRecursion (λ n. (1 ≤ n) × (n ≤ 999)) supply → position_or_len (λ n. n == 0) supply ≡ length supply
-no-zero [] all = refl
-no-zero (n ∷ ns) all = grind (arith, nat_tests, no-zero ns all.1, all.0)
-
-zero-none : (supply : List ℕ) → IsOffer supply → zero_stop supply ≡ None
-zero-none supply offer = grind (arith, nat_tests, no-zero supply offer.each)
-
 some-there : (l : ℕ) → 0 < l → (nat_lt 0 l && nat_le l 6) ≡ nat_le l 6
 some-there l some = grind (arith, nat_tests)
 
@@ -36,7 +29,7 @@ some-there l some = grind (arith, nat_tests)
 stop-is : (supply : List ℕ) → IsOffer supply
     → supply_stop supply ≡ stop_by (nat_le (length supply) 6) (nat_le (sum supply) 40) (nat_le (states_of supply) 16384) (length supply) (sum supply) (states_of supply)
 stop-is supply offer =
-    ap (λ (z : Option LotStop). option_or (categories_stop supply) (option_or z (option_or (lots_stop supply) (states_stop supply)))) (zero-none supply offer)
+    ap (λ (z : Option LotStop). option_or (categories_stop supply) (option_or z (option_or (lots_stop supply) (states_stop supply)))) (zero_none supply offer)
     ∙ ap (λ (a : Bool). stop_by a (nat_le (sum supply) 40) (nat_le (states_of supply) 16384) (length supply) (sum supply) (states_of supply)) (some-there (length supply) offer.some)
 
 above : (limit n : ℕ) → nat_lt limit n ≡ not (nat_le n limit)
@@ -68,13 +61,6 @@ made-within supply offer none =
       lots = at-most (sum supply) 40 pass.1;
       states = at-most (states_of supply) 16384 pass.2;
     }
-
-passed : (n limit : ℕ) → n ≤ limit → nat_le n limit ≡ true
-passed n limit h = grind (arith, nat_tests)
-
--- a supply exceeds no limit
-pub within-limits : (supply : List ℕ) → IsSupply supply → supply_excess supply ≡ None
-within-limits supply is = excess-is supply ∙ rw (passed (length supply) 6 is.categories, passed (sum supply) 40 is.lots, passed (states_of supply) 16384 is.states) refl
 
 -- ---- counts of which none is made
 

@@ -7,6 +7,7 @@ use Rattle.line_text.specs.LineText.{text_of, Says, stated}
 use Rattle.auction_model.specs.Book.{Book, BookBid, Bidder, no_bid, no_bidder, bidder_of, bids_of, bid_of, lots_of}
 use Rattle.book_form.specs.BookForm.{IsBook}
 use Rattle.book_form.specs.BookLines.{Line, bid_line, bid_lines, bidder_line, bidder_lines, lines, numbers_text}
+use Rattle.book_form.proofs.TextLaws.{numbers-append}
 use Rattle.lots.specs.declared.package.Bid.{Bid}
 use Rattle.bid_book.specs.Kept.{IsBidBook}
 use Rattle.bid_book.specs.Lists as given
@@ -77,15 +78,10 @@ bid_is book bid j i lots amount =
 pub bidder_is : (book : Book) (k : ℕ) → bidder_of book (k + 1) ≡ get_or book.bidders k no_bidder
 bidder_is book k = ap (λ (n : ℕ). get_or book.bidders n no_bidder) (omega arith)
 
--- numbers, and then more
-numbers_append : (xs ys : List ℕ) → numbers_text (xs ++ ys) ≡ numbers_text xs ++ numbers_text ys
-numbers_append [] ys = refl
-numbers_append (x ∷ xs) ys = ap (λ (t : List ℕ). 32 ∷ decimal x ++ t) (numbers_append xs ys) ∙ ap (λ (t : List ℕ). 32 ∷ t) (sym (append_assoc (decimal x) (numbers_text xs) (numbers_text ys)))
-
 -- the line of a bid, piece by piece
 pub whole_bid : (bid : BookBid) (a b c d e : List ℕ) → b ≡ a ++ codes "bid" → c ≡ b ++ numbers_text bid.lots → d ≡ c ++ 32 ∷ decimal bid.amount → e ≡ d ++ codes "\n" → e ≡ a ++ bid_text bid
 whole_bid bid a b c d e one two three four =
-    let last : numbers_text (bid.lots ++ bid.amount ∷ []) ≡ numbers_text bid.lots ++ 32 ∷ decimal bid.amount = numbers_append bid.lots (bid.amount ∷ []) ∙ ap (λ (t : List ℕ). numbers_text bid.lots ++ 32 ∷ t) (append-nil (decimal bid.amount)) in
+    let last : numbers_text (bid.lots ++ bid.amount ∷ []) ≡ numbers_text bid.lots ++ 32 ∷ decimal bid.amount = numbers-append bid.lots (bid.amount ∷ []) ∙ ap (λ (t : List ℕ). numbers_text bid.lots ++ 32 ∷ t) (append-nil (decimal bid.amount)) in
     rw (four, three, two, one, last) (simp append_assoc)
 
 -- the lines of a bidder: the first, and those of its bids

@@ -1,5 +1,5 @@
 -- The bids of a bidder in the book: what one bid more changes of them.
-use Rattle.std.proofs.Common.{◌≡◌, ℕ, max, true, false, not, List, [], ◌∷◌, Option, Some, refl, sym, ◌∙◌, ap, subst, inl, inr, arith, map}
+use Rattle.std.proofs.Common.{◌≡◌, ℕ, max, true, false, not, List, [], ◌∷◌, Option, Some, refl, sym, ◌∙◌, ap, inl, inr, arith, map}
 use Rattle.std.specs.Prelude.{filter}
 use Rattle.std.specs.List.{AllByRecursion}
 use Rattle.std.proofs.lemmas.Bool.{cases_Bool, cond-true, cond-false}
@@ -12,6 +12,8 @@ use Rattle.auction_rules.proofs.PackageLaws.{is_same-true, is_same-refl, is_befo
 use Rattle.auction_rules.proofs.Drafts.{InOrder-in_order, priced-placed}
 use Rattle.auction_rules.proofs.BookCaps.{greatest-best_bids}
 use Rattle.auction_rules.proofs.LawfulBids.{each-in_order}
+use Rattle.auction_rules.proofs.BookPairs.{some-some}
+use Rattle.auction_rules.proofs.KeptStandings.{not_same-sym}
 use Rattle.bid_desk.specs.BookBids.{with_most}
 
 -- the packages of the bids that are not empty
@@ -21,15 +23,6 @@ some_lots bids = filter (λ lots. not (is_empty lots)) (map bid_lots bids)
 -- the greatest amount for each package
 abbrev best_of : List BookBid → List ℕ → Option ℕ
 best_of bids lots = Some (greatest lots bids)
-
--- none of them is empty
-some-some : (ps : List (List ℕ)) → AllByRecursion (λ (lots : List ℕ). is_empty lots ≡ false) (filter (λ lots. not (is_empty lots)) ps)
-some-some [] = tt
-some-some (p ∷ ps) =
-    elim (cases_Bool (is_empty p)) [
-      | inl empty ↦ rw empty (some-some ps)
-      | inr some ↦ rw some (some, some-some ps)
-    ]
 
 -- amounts that are the same for packages with a lot
 priced-some : (f g : List ℕ → Option ℕ) (ps : List (List ℕ)) → ((q : List ℕ) → is_empty q ≡ false → g q ≡ f q) → AllByRecursion (λ (lots : List ℕ). is_empty lots ≡ false) ps
@@ -81,13 +74,6 @@ best_bids-more b bids =
     ]
 
 -- ---- a list in order is its own
-
-not_same-sym : (p q : List ℕ) → is_same p q ≡ false → is_same q p ≡ false
-not_same-sym p q apart =
-    elim (cases_Bool (is_same q p)) [
-      | inl same ↦ let no : true ≡ false = sym (subst (λ (x : List ℕ). is_same x q ≡ true) (is_same-true q p same) (is_same-refl q)) ∙ apart in cc
-      | inr other ↦ other
-    ]
 
 -- a package before all others of a list has no amount there
 greatest-before : (x : List ℕ) (list : List BookBid) → AllAfter x (map bid_lots list) → greatest x list ≡ 0

@@ -14,6 +14,7 @@ use Rattle.auction_rules.specs.Terms.{Terms, entrant}
 use Rattle.auction_rules.specs.BookOfLog.{bid_lots, best_bids, book_bidder}
 use Rattle.auction_rules.proofs.PackageLaws.{is_same-true}
 use Rattle.auction_rules.proofs.Drafts.{InOrder-placed}
+use Rattle.auction_rules.proofs.LawfulBids.{with_entry-each}
 use Rattle.clock_stage.specs.Kept.{IsHeld, no_round, round_at}
 use Rattle.relative_cap.specs.OwnRounds.{own_in, rounds_of}
 use Rattle.bid_desk.specs.Lists.{IsKept, IsKeptEntry, Lists}
@@ -21,18 +22,6 @@ use Rattle.bid_desk.specs.BookBids.{IsBooked, bids_by, submitted_in, with_most}
 use Rattle.bid_desk.proofs.BestBids.{best_bids-more, best_bids-own}
 
 -- ---- kept lists
-
--- each entry of a list with one more
-each-with_entry : (P : BookBid → Type 0) (x : List ℕ) (a : ℕ) (list : List BookBid) → P (record { lots = x; amount = a }) → AllByRecursion P list → AllByRecursion P (with_entry x a list)
-each-with_entry P x a [] new each = (new, tt)
-each-with_entry P x a (b ∷ list) new each =
-    elim (cases_Bool (is_same x b.lots)) [
-      | inl same ↦ rw same (new, each.1)
-      | inr apart ↦ elim (cases_Bool (is_before x b.lots)) [
-        | inl first ↦ rw (apart, first) (new, each)
-        | inr later ↦ rw (apart, later) (each.0, each-with_entry P x a list new each.1)
-      ]
-    ]
 
 -- the packages of a list with an entry more
 lots-with_entry : (x : List ℕ) (a : ℕ) (list : List BookBid) → map bid_lots (with_entry x a list) ≡ placed x (map bid_lots list)
@@ -50,7 +39,7 @@ lots-with_entry x a (b ∷ list) =
 kept-with_entry : (categories : ℕ) (x : List ℕ) (a : ℕ) (list : List BookBid) → IsKeptEntry categories (record { lots = x; amount = a }) → IsKept categories list
     → IsKept categories (with_entry x a list)
 kept-with_entry categories x a list new kept = record {
-  each = each-with_entry (IsKeptEntry categories) x a list new kept.each;
+  each = with_entry-each (IsKeptEntry categories) x a list new kept.each;
   order = subst InOrder (sym (lots-with_entry x a list)) (InOrder-placed x (map bid_lots list) kept.order);
 }
 

@@ -1,8 +1,7 @@
 -- What bids and closes make of the fields of a desk they make of its state, and a desk that stands for a log stands for one more line.
-use Rattle.std.proofs.Common.{◌≡◌, ℕ, zero, suc, ◌+◌, Bool, true, false, List, ◌∷◌, ◌++◌, refl, sym, ap, subst, ◌∙◌, inl, inr, map, length, [], arith}
+use Rattle.std.proofs.Common.{◌≡◌, ℕ, zero, suc, ◌+◌, Bool, true, false, List, ◌∷◌, ◌++◌, refl, sym, ap, subst, ◌∙◌, inl, inr, map, length, []}
 use Rattle.std.specs.Prelude.{replicate}
 use Rattle.std.specs.List.{AllByRecursion}
-use Rattle.std.proofs.lemmas.List.{replicate_more}
 use Rattle.std.proofs.lemmas.Bool.{cases_Bool}
 use Rattle.auction_model.specs.Book.{BookBid}
 use Rattle.auction_model.specs.Package.{is_within}
@@ -20,6 +19,7 @@ use Rattle.clock_stage.specs.ClockState.{ClockState, clock_with, clock_of, reply
 use Rattle.clock_stage.specs.declared.closes.Closed.{Closed}
 use Rattle.clock_stage.specs.declared.closes.Closed.TheVariants.{NextRound, StageEnds, Full, PriceTop, Memory}
 use Rattle.clock_stage.specs.Closings.{Tells}
+use Rattle.clock_stage.proofs.Demands.{listing-same_each}
 use Rattle.bid_desk.specs.Lists.{Lists, lists_with}
 use Rattle.bid_desk.specs.Closes.{reply_value}
 use Rattle.bid_desk.specs.DeskValue.{desk_value, stage_value}
@@ -138,20 +138,13 @@ start-lists : (terms : Terms) → with_lists terms (clock_of (state_of terms [])
 unfolding state_of
 start-lists terms = refl
 
--- as many as are listed, all the same
-listing-same : {A : Type 0} (x : A) (n : ℕ) → listing (λ j. x) n ≡ replicate n x
-listing-same x zero = refl
-listing-same x (suc n) =
-    let next : n + 1 ≡ suc n = omega arith in
-    ap (λ (xs : List _). xs ++ x ∷ []) (listing-same x n) ∙ replicate_more n x ∙ ap (λ (k : ℕ). replicate k x) next
-
 map-same : {A B : Type 0} (f : A → B) (n : ℕ) (x : A) → map f (replicate n x) ≡ replicate n (f x)
 map-same f zero x = refl
 map-same f (suc n) x = ap (λ (xs : List _). f x ∷ xs) (map-same f n x)
 
 -- an empty list for each bidder
 empty-each : (f : Lists → List BookBid) (n : ℕ) → f (lists_with [] []) ≡ [] → map f (replicate n (lists_with [] [])) ≡ listing (λ j. []) n
-empty-each f n none = map-same f n (lists_with [] []) ∙ ap (replicate n) none ∙ sym (listing-same {A = List BookBid} [] n)
+empty-each f n none = map-same f n (lists_with [] []) ∙ ap (replicate n) none ∙ sym (listing-same_each {A = List BookBid} [] n)
 
 -- the state of a desk at which no line has been taken
 pub start-state : (terms : Terms) (clock : ClockState) (count : ℕ) (bidders : List Lists) → clock ≡ clock_of (state_of terms []) → count ≡ length terms.bidders

@@ -11,6 +11,7 @@ use Rattle.auction_rules.specs.PackageTests.{is_same, is_before, AllAfter, InOrd
 use Rattle.auction_rules.specs.Replies.{has_entry}
 use Rattle.auction_rules.proofs.Drafts.{AllAfter-trans}
 use Rattle.auction_rules.proofs.PackageLaws.{is_same-true, is_same-refl, is_before-not_same, is_before-trans, is_before-total}
+use Rattle.auction_rules.proofs.KeptStandings.{absent-before, not_same-sym}
 use Rattle.lots.specs.declared.«package».Bid.{Bid}
 use Rattle.relative_cap.specs.Asked.{IsEntry}
 use Rattle.relative_cap.specs.OwnRounds.{bid_value, entry_lots}
@@ -42,14 +43,6 @@ kept-order categories list kept = subst InOrder (lots-values list) kept.order
 -- being the same goes both ways
 same-sym : (p q : List ℕ) → is_same p q ≡ true → is_same q p ≡ true
 same-sym p q same = subst (λ (x : List ℕ). is_same x p ≡ true) (is_same-true p q same) (is_same-refl p)
-
--- being apart goes both ways
-apart-sym : (p q : List ℕ) → is_same p q ≡ false → is_same q p ≡ false
-apart-sym p q apart =
-    elim (cases_Bool (is_same q p)) [
-      | inl same ↦ let no : false ≡ true = sym apart ∙ same-sym q p same in absurd (false≢true no)
-      | inr other ↦ other
-    ]
 
 -- a package that comes after another doesn't come before it
 not-before : (p q : List ℕ) → is_before p q ≡ true → is_before q p ≡ false
@@ -89,7 +82,7 @@ there-put : (list : List BookBid) (lots : List ℕ) (place amount : ℕ) → IsT
 there-put [] lots place amount there = absurd there
 there-put (b ∷ list) lots zero amount there = rw (same-sym b.lots lots there) refl
 there-put (b ∷ list) lots (suc place) amount there =
-    rw (apart-sym b.lots lots (is_before-not_same b.lots lots there.0), not-before b.lots lots there.0)
+    rw (not_same-sym b.lots lots (is_before-not_same b.lots lots there.0), not-before b.lots lots there.0)
     (ap (λ (l : List BookBid). b ∷ l) (there-put list lots place amount there.1))
 
 -- a list of packages behind this one has none
@@ -97,17 +90,13 @@ behind-without : (lots : List ℕ) (list : List BookBid) → AllAfter lots (map 
 behind-without lots [] after = refl
 behind-without lots (b ∷ list) after = rw (is_before-not_same lots b.lots after.0) (ap (λ (l : List BookBid). b ∷ l) (behind-without lots list after.1))
 
-behind-none : (lots : List ℕ) (list : List BookBid) → AllAfter lots (map bid_lots list) → has_entry lots list ≡ false
-behind-none lots [] after = refl
-behind-none lots (b ∷ list) after = rw (apart-sym lots b.lots (is_before-not_same lots b.lots after.0)) (behind-none lots list after.1)
-
 there-removed : (list : List BookBid) (lots : List ℕ) (place : ℕ) → InOrder (map bid_lots list) → IsThere list lots place → without_entry lots list ≡ remove list place
 there-removed [] lots place order there = absurd there
 there-removed (b ∷ list) lots zero order there =
     let after : AllAfter lots (map bid_lots list) = subst (λ (p : List ℕ). AllAfter p (map bid_lots list)) (is_same-true b.lots lots there) order.0 in
     rw (same-sym b.lots lots there) (behind-without lots list after)
 there-removed (b ∷ list) lots (suc place) order there =
-    rw (apart-sym b.lots lots (is_before-not_same b.lots lots there.0)) (ap (λ (l : List BookBid). b ∷ l) (there-removed list lots place order.1 there.1))
+    rw (not_same-sym b.lots lots (is_before-not_same b.lots lots there.0)) (ap (λ (l : List BookBid). b ∷ l) (there-removed list lots place order.1 there.1))
 
 gap-last : (list : List BookBid) (lots : List ℕ) (place : ℕ) → IsGap list lots place → place ≤ length list
 gap-last [] lots zero gap = omega arith
@@ -117,7 +106,7 @@ gap-last (b ∷ list) lots (suc place) gap = omega (arith, gap-last list lots pl
 
 gap-none : (list : List BookBid) (lots : List ℕ) (place : ℕ) → InOrder (map bid_lots list) → IsGap list lots place → has_entry lots list ≡ false
 gap-none [] lots place order gap = refl
-gap-none (b ∷ list) lots zero order gap = behind-none lots (b ∷ list) (gap, AllAfter-trans lots b.lots (map bid_lots list) gap order.0)
+gap-none (b ∷ list) lots zero order gap = absent-before lots (b ∷ list) (gap, AllAfter-trans lots b.lots (map bid_lots list) gap order.0)
 gap-none (b ∷ list) lots (suc place) order gap = rw (is_before-not_same b.lots lots gap.0) (gap-none list lots place order.1 gap.1)
 
 gap-put : (list : List BookBid) (lots : List ℕ) (place amount : ℕ) → IsGap list lots place → with_entry lots amount list ≡ insert list place (entry_of lots amount)
@@ -125,14 +114,14 @@ gap-put [] lots zero amount gap = refl
 gap-put [] lots (suc place) amount gap = absurd gap
 gap-put (b ∷ list) lots zero amount gap = rw (is_before-not_same lots b.lots gap, gap) refl
 gap-put (b ∷ list) lots (suc place) amount gap =
-    rw (apart-sym b.lots lots (is_before-not_same b.lots lots gap.0), not-before b.lots lots gap.0)
+    rw (not_same-sym b.lots lots (is_before-not_same b.lots lots gap.0), not-before b.lots lots gap.0)
     (ap (λ (l : List BookBid). b ∷ l) (gap-put list lots place amount gap.1))
 
 gap-same : (list : List BookBid) (lots : List ℕ) (place : ℕ) → InOrder (map bid_lots list) → IsGap list lots place → without_entry lots list ≡ list
 gap-same [] lots place order gap = refl
 gap-same (b ∷ list) lots zero order gap = behind-without lots (b ∷ list) (gap, AllAfter-trans lots b.lots (map bid_lots list) gap order.0)
 gap-same (b ∷ list) lots (suc place) order gap =
-    rw (apart-sym b.lots lots (is_before-not_same b.lots lots gap.0)) (ap (λ (l : List BookBid). b ∷ l) (gap-same list lots place order.1 gap.1))
+    rw (not_same-sym b.lots lots (is_before-not_same b.lots lots gap.0)) (ap (λ (l : List BookBid). b ∷ l) (gap-same list lots place order.1 gap.1))
 
 -- ---- from the search
 

@@ -2,10 +2,10 @@
 -- it would be an earlier choice.
 use Rattle.std.specs.Prelude.{◌≡◌, ℕ, zero, suc, ◌-◌, ◌≤◌, ◌<◌, ◌&&◌, ◌==◌, nat_le, IsTrue, List, [], ◌∷◌, ◌++◌, length, take, drop, slice_index, ℤ, ◌+ℤ◌, refl}
 use Rattle.std.proofs.Common.{sym, ◌∙◌, ap, subst, arith}
-use Rattle.std.proofs.lemmas.Bool.{and_from, and_parts, eq-eqb, le-leb, leb-true, or_left, or_right}
+use Rattle.std.proofs.lemmas.Bool.{and_from, and_parts, le-leb, leb-true}
 use Rattle.std.proofs.lemmas.Int.{ints}
 use Rattle.auction_model.specs.Greatest.{IsFirstGreatest}
-use Rattle.auction_model.specs.Market.{is_earlier, is_number_before, number_of, sum_after}
+use Rattle.auction_model.specs.Market.{is_earlier, number_of, sum_after}
 use Rattle.auction_model.specs.Menu.{Menu, fits_after}
 use Rattle.auction_model.specs.Package.{is_within, less}
 use Rattle.auction_model.specs.Place.{left_at, place_of, states_of}
@@ -14,6 +14,7 @@ use Rattle.auction_model.proofs.BookMarket.{fits-known}
 use Rattle.auction_model.proofs.ChoiceLaws.{known-length}
 use Rattle.auction_model.proofs.MenuLaws.{fits-cons}
 use Rattle.auction_model.proofs.PlaceLaws.{left_at-less, left_at-whole, place-less-below, states-positive}
+use Rattle.auction_model.proofs.OrderLaws.{earlier-number, earlier-rest}
 use Rattle.cert_laws.specs.Tests.{NoEarlier, left_after, worth_before}
 
 split-here : (z : List ℕ) (k : ℕ) → k < length z → drop k z ≡ slice_index z k ∷ drop (suc k) z
@@ -31,12 +32,6 @@ joined-here (x ∷ z) t (suc k) lt = ap (λ (l : List ℕ). x ∷ l) (joined-her
 
 joined-at : (z t : List ℕ) (k : ℕ) → k < length z → take (suc k) z ++ t ≡ take k z ++ number_of z (suc k) ∷ t
 joined-at z t k lt = let same : k ≡ suc k - 1 = omega arith in joined-here z t k lt ∙ ap (λ (n : ℕ). take k z ++ slice_index z n ∷ t) same
-
-same-first : (n : ℕ) (t d : List ℕ) → IsTrue (is_earlier t d) → IsTrue (is_earlier (n ∷ t) (n ∷ d))
-same-first n t d e = or_right (is_number_before n n) ((n == n) && is_earlier t d) (and_from (n == n) (is_earlier t d) (eq-eqb n n refl) e)
-
-before-first : (i n : ℕ) (t d : List ℕ) → IsTrue (is_number_before i n) → IsTrue (is_earlier (i ∷ t) (n ∷ d))
-before-first i n t d b = or_left (is_number_before i n) ((i == n) && is_earlier t d) b
 
 module _ (m : Menu) (worth : ℕ → ℕ → ℤ) (supply z : List ℕ) (fits : IsTrue (fits_after m 0 supply z)) where
   long : length z ≡ m.bidders
@@ -84,7 +79,7 @@ module _ (m : Menu) (worth : ℕ → ℕ → ℤ) (supply z : List ℕ) (fits : 
       record {
         fits_too = subst (λ (l : List ℕ). IsTrue (fits_after m 0 supply l)) (sym j) g.fits_too;
         sum_is = ap (sum_after worth 0) j ∙ g.sum_is ∙ omega (arith, ints);
-        earlier = λ e. subst (λ (l : List ℕ). IsTrue (is_earlier l z)) (sym j) (g.earlier (subst (λ (l : List ℕ). IsTrue (is_earlier (n ∷ t) l)) (sym (split-at z k lt)) (same-first n t (drop (suc k) z) e)));
+        earlier = λ e. subst (λ (l : List ℕ). IsTrue (is_earlier l z)) (sym j) (g.earlier (subst (λ (l : List ℕ). IsTrue (is_earlier (n ∷ t) l)) (sym (split-at z k lt)) (earlier-rest n t (drop (suc k) z) e)));
       }
 
   -- what the first bidders leave has a place
@@ -120,7 +115,7 @@ module _ (m : Menu) (worth : ℕ → ℕ → ℤ) (supply z : List ℕ) (fits : 
         let d = entry.reached.0 in
         let rest : IsTrue (fits_after m (suc k) (less left lots) d) = subst (λ (l : List ℕ). IsTrue (fits_after m (suc k) l d)) back entry.reached.1 in
         let other = swapped k (omega (arith, inside)) (i ∷ d) (cons-fits k i left d known own rest) in
-        let early = other.earlier (subst (λ (l : List ℕ). IsTrue (is_earlier (i ∷ d) l)) (sym (split-at z k inside)) (before-first i n d (drop (suc k) z) before)) in
+        let early = other.earlier (subst (λ (l : List ℕ). IsTrue (is_earlier (i ∷ d) l)) (sym (split-at z k inside)) (earlier-number i n d (drop (suc k) z) before)) in
         let smaller = first.first (take k z ++ i ∷ d) other.fits_too early in
         let sum = other.sum_is in
         let reached = entry.reached.2 in

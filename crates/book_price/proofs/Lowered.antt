@@ -11,7 +11,7 @@ use Rattle.auction_model.specs.Greatest.{IsFirstGreatest}
 use Rattle.auction_model.specs.Lawful.{IsMarket}
 use Rattle.auction_model.specs.Lowered.{lowered, of_bidder}
 use Rattle.auction_model.specs.Market.{uses}
-use Rattle.auction_model.specs.Menu.{Menu, fits_after}
+use Rattle.auction_model.specs.Menu.{fits_after}
 use Rattle.auction_model.specs.Prices.{IsCorePoint, everyone, sum_over}
 use Rattle.auction_model.specs.Table.{IsExactTable, entry_at}
 use Rattle.auction_model.proofs.PlaceLaws.{left_at-whole}
@@ -20,19 +20,10 @@ use Rattle.cert_laws.specs.Sound.{cert_point}
 use Rattle.cert_laws.specs.Tests.{C9, Obeys, bidders_of, full, lowered_net, won}
 use Rattle.cert_laws.proofs.Sizes.{exact_obeys}
 use Rattle.cert_laws.proofs.Winning.{full-below, lost-nothing}
+use Rattle.cert_laws.proofs.Exact.{obeys-same}
 use Rattle.row_laws.specs.Surplus.{AsksWinnersOnly, lowered_sum, surpluses_of}
 use Rattle.row_laws.proofs.Excess.{unblocked-free}
 use Rattle.row_laws.proofs.Surplus.{surpluses-are, surpluses-length}
-
--- the rules for other worths of the same bids
-obeys-same : (m : Menu) (worth other : ℕ → ℕ → ℤ) (supply : List ℕ) (table : List (List ℤ)) → ((k i : ℕ) → k < m.bidders → 0 < i → worth (suc k) i ≡ other (suc k) i) → Obeys m worth supply table → Obeys m other supply table
-obeys-same m worth other supply table same rules k s le lt =
-    let r = rules k s le lt in
-    record {
-      last = r.last;
-      none = r.none;
-      bid = λ inside i some known fits. rw (← same k i inside some) (r.bid inside i some known fits);
-    }
 
 idle-none : (x : ℤ) → pos 0 ≤ℤ x → int_max (pos 0) (neg_ℤ x) ≡ pos 0
 idle-none (pos zero) h = refl

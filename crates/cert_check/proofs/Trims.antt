@@ -1,20 +1,8 @@
 -- A package without its last categories, of which it has nothing, fits and has its place as before.
-use Rattle.std.specs.Prelude.{◌≡◌, ℕ, zero, suc, ◌+◌, ◌*◌, ◌&&◌, true, nat_le, ◌==◌, List, [], ◌∷◌, take, refl}
-use Rattle.std.proofs.Common.{sym, ◌∙◌, ap, arith}
-use Rattle.std.proofs.lemmas.Bool.{le-leb}
-use Rattle.auction_model.specs.Package.{is_within, IsNothingFrom}
+use Rattle.std.specs.Prelude.{◌≡◌, ℕ, zero, suc, ◌+◌, ◌*◌, ◌&&◌, ◌==◌, List, [], ◌∷◌, take, refl}
+use Rattle.std.proofs.Common.{◌∙◌, ap, arith}
+use Rattle.auction_model.specs.Package.{IsNothingFrom}
 use Rattle.auction_model.specs.Place.{states_of, place_of}
-
-nothing-within : (p l : List ℕ) → IsNothingFrom 0 p → is_within p l ≡ true
-nothing-within [] l h = refl
-nothing-within (a ∷ p) [] h = rw (h 0 (omega arith)) (nothing-within p [] (λ k low. h (suc k) (omega arith)))
-nothing-within (a ∷ p) (b ∷ l) h = rw (le-leb a b (omega (arith, h 0 (omega arith)))) (nothing-within p l (λ k low. h (suc k) (omega arith)))
-
-pub trim-within : (n : ℕ) (p l : List ℕ) → IsNothingFrom n p → is_within (take n p) l ≡ is_within p l
-trim-within zero p l h = sym (nothing-within p l h)
-trim-within (suc n) [] l h = refl
-trim-within (suc n) (a ∷ p) [] h = ap (λ t. (a == 0) && t) (trim-within n p [] (λ k low. h (suc k) (omega arith)))
-trim-within (suc n) (a ∷ p) (b ∷ l) h = ap (λ t. nat_le a b && t) (trim-within n p l (λ k low. h (suc k) (omega arith)))
 
 nothing-place : (supply p : List ℕ) → IsNothingFrom 0 p → place_of supply [] ≡ place_of supply p
 nothing-place [] p h = refl

@@ -44,7 +44,7 @@ small_numbers : (most : ℕ) (ns : List ℕ) → most < 2 ^ 120 → AtMost most 
 small_numbers most [] lt h = refl
 small_numbers most (n ∷ ns) lt h = or_from (is_out (pos n)) (any_out (as_numbers ns)) (in_range (pos n) (omega (arith, lt, h.0))) (small_numbers most ns lt h.1)
 
-low_members : (b before : ℕ) (js : List ℕ) → AreMembers b before js → AtMost b js
+pub low_members : (b before : ℕ) (js : List ℕ) → AreMembers b before js → AtMost b js
 low_members b before [] h = tt
 low_members b before (j ∷ js) h = (h.1, low_members b j js h.2)
 

@@ -9,7 +9,7 @@ use Rattle.cert_form.specs.CertText.{line, as_numbers, choice_line, table_lines,
 use Rattle.cert_form.proofs.PlanReads.{follows_both}
 use Rattle.cert_form.proofs.Version.{just_these, version_is}
 
-long_numbers : (ns : List ℕ) → length (as_numbers ns) ≡ length ns
+pub long_numbers : (ns : List ℕ) → length (as_numbers ns) ≡ length ns
 long_numbers [] = refl
 long_numbers (n ∷ ns) = ap suc (long_numbers ns)
 

@@ -6,19 +6,18 @@ use Rattle.std.proofs.lemmas.Int.{ints}
 use Rattle.auction_model.specs.Market.{uses}
 use Rattle.auction_model.specs.Lowered.{of_bidder}
 use Rattle.auction_model.specs.Book.{Book, market_of}
-use Rattle.auction_model.specs.Prices.{Point, AreWeights, sum_over, everyone, IsCorePoint, AreVickreyPrices, IsLeastSum, IsNearest, share, square_distance}
+use Rattle.auction_model.specs.Prices.{Point, AreWeights, IsCorePoint, AreVickreyPrices, IsLeastSum, IsNearest, share, square_distance}
 use Rattle.auction_model.proofs.PriceLaws.{vickrey-one}
 use Rattle.wide_num.specs.Sums.{total, dot}
 use Rattle.wide_num.proofs.Sums.{total-zero}
 use Rattle.point_laws.specs.Points.{SamePoint, square_distance as distance_to}
 use Rattle.point_laws.specs.Multipliers.{AreFirst, AreSecond, AreShares, SumsToOrStands}
-use Rattle.point_laws.proofs.PointLaws.{least, nearest}
+use Rattle.point_laws.proofs.PointLaws.{least, nearest, times_zero}
 use Rattle.point_laws.proofs.Shares.{share-positive, share-whole}
-use Rattle.row_laws.proofs.Sums.{over-is}
+use Rattle.row_laws.proofs.Excess.{everyone-is}
 use Rattle.cert_form.specs.Certificate.{CertValue, is_member, row_of}
 use Rattle.cert_laws.specs.Tests.{bidders_of, C1, C5, C6, C7, C8, vickrey_of}
 use Rattle.cert_laws.specs.Sound.{cert_point, cert_prices}
-use Rattle.cert_laws.proofs.Core.{times_zero}
 use Rattle.cert_laws.proofs.Rows.{coefficient, times_one, holding-is, row-at, bound, tight, meets}
 
 -- the point of a list with a number for each bidder, from 0
@@ -30,9 +29,6 @@ first c i = (row_of c.rows (suc i)).first
 
 abbrev pub second : CertValue → ℕ → ℤ
 second c i = (row_of c.rows (suc i)).second
-
-pub everyone-is : (f : ℕ → ℤ) (n : ℕ) → sum_over everyone f n ≡ total n (λ j. f (suc j))
-everyone-is f n = over-is everyone f n
 
 -- the weight of a coordinate, and its share
 abbrev pub weight_from : (ℕ → ℕ) → ℕ → ℤ

@@ -13,15 +13,13 @@ use Rattle.auction_model.proofs.PlaceLaws.{left_at-whole}
 use Rattle.wide_num.specs.Sums.{total}
 use Rattle.wide_num.proofs.Sums.{total-scale}
 use Rattle.point_laws.proofs.Sums.{total-sub, total-le}
+use Rattle.point_laws.proofs.PointLaws.{times_zero}
 use Rattle.row_laws.proofs.Sums.{over-is, choice-is}
 use Rattle.cert_form.specs.Certificate.{CertValue}
 use Rattle.cert_laws.specs.Tests.{bidders_of, states, full, C1, C5, C9, won, lowered_net}
 use Rattle.cert_laws.specs.Sound.{cert_point}
 use Rattle.cert_laws.proofs.Bounds.{counted, bounded}
 use Rattle.cert_laws.proofs.Winning.{full-below, allowed-length, lost-nothing}
-
-pub times_zero : (d x : ℤ) → x ≡ pos 0 → d *ℤ x ≡ pos 0
-times_zero d x e = ap (λ (z : ℤ). d *ℤ z) e ∙ omega (arith, ints)
 
 -- a used bidder counts its worth less its surplus, and the coalition has it
 used-most : (worth surplus lowered : ℤ) (winner member : Bool) → lowered ≡ worth -ℤ (if winner then surplus else pos 0) → (winner ≡ false → surplus ≡ pos 0) → IsTrue member

@@ -24,7 +24,7 @@ pub without-obeys : (book : Book) (j : ℕ) (table : List (List ℤ)) → IsExac
 without-obeys book j table exact = exact_obeys (without (menu_of book) j) (net_of book) book.supply table (λ i. refl) (λ i. refl) exact
 
 -- rules for other worths that are the same at each bid
-obeys-same : (m : Menu) (v w : ℕ → ℕ → ℤ) (supply : List ℕ) (table : List (List ℤ)) → ((k i : ℕ) → k < m.bidders → 0 < i → v (suc k) i ≡ w (suc k) i) → Obeys m v supply table → Obeys m w supply table
+pub obeys-same : (m : Menu) (v w : ℕ → ℕ → ℤ) (supply : List ℕ) (table : List (List ℤ)) → ((k i : ℕ) → k < m.bidders → 0 < i → v (suc k) i ≡ w (suc k) i) → Obeys m v supply table → Obeys m w supply table
 obeys-same m v w supply table same obeys k s le lt = record {
   last = (obeys k s le lt).last;
   none = (obeys k s le lt).none;

@@ -3,7 +3,7 @@ use Rattle.std.specs.Prelude.{◌≡◌, ℕ, zero, suc, ◌+◌, ◌-◌, ◌*�
 use Rattle.std.proofs.Common.{inl, inr, sym, ◌∙◌, ap, subst, arith, set}
 use Rattle.std.proofs.lemmas.Bool.{and_parts, and_from, le-leb, cases_Bool}
 use Rattle.std.proofs.lemmas.Int.{ints}
-use Rattle.auction_model.specs.Package.{together, is_within, less}
+use Rattle.auction_model.specs.Package.{is_within, less}
 use Rattle.auction_model.specs.Place.{states_of, place_of, left_at}
 use Rattle.auction_model.specs.Market.{sum_after, number_of, uses}
 use Rattle.auction_model.specs.Menu.{Menu, is_known_after, packages_after, fits_after}
@@ -11,9 +11,10 @@ use Rattle.auction_model.specs.Table.{entry_at, IsExactTable, IsEntry}
 use Rattle.auction_model.specs.Lowered.{of_bidder}
 use Rattle.auction_model.specs.Book.{Book, bids_of, net_of, menu_of, market_of, lots_of}
 use Rattle.auction_model.specs.Prices.{sum_over, everyone}
-use Rattle.auction_model.proofs.PackageLaws.{within-together, less-empty}
+use Rattle.auction_model.proofs.PackageLaws.{less-empty}
 use Rattle.auction_model.proofs.MenuLaws.{fits-cons, fits-at_end}
 use Rattle.auction_model.proofs.PlaceLaws.{left_at-less, place-less-below, left_at-whole}
+use Rattle.auction_model.proofs.BookMarket.{fewer-known, fewer-taken}
 use Rattle.cert_form.specs.Certificate.{CertValue, part_of}
 use Rattle.cert_laws.specs.Tests.{Obeys, bidders_of, states, C2, C3, C4, C5, won, vickrey_of}
 use Rattle.cert_laws.proofs.Winning.{obeys, full-below, allowed, value_is, most, part_most, unused_to, lost-nothing}
@@ -81,34 +82,6 @@ module _ (m : Menu) (counts : ℕ → ℕ → ℤ) (supply : List ℕ) (table : 
     where
       last : (k : ℕ) → k ≡ m.bidders → IsEntry m counts k (left_at supply s) (entry_at table k s) → pos 0 ≤ℤ entry_at table k s
       last k e is = is.bound [] (subst (λ (n : ℕ). IsTrue (fits_after m n (left_at supply s) [])) (sym e) (fits-at_end m (left_at supply s)))
-
--- a choice with one number set to 0
-together-comm : (p q : List ℕ) → together p q ≡ together q p
-together-comm [] [] = refl
-together-comm [] (b ∷ q) = refl
-together-comm (a ∷ p) [] = refl
-together-comm (a ∷ p) (b ∷ q) = let e : a + b ≡ b + a = omega arith in rw (e, together-comm p q) refl
-
-fewer-within : (p q s : List ℕ) → IsTrue (is_within (together p q) s) → IsTrue (is_within q s)
-fewer-within p q s t = (and_parts (is_within q s) (is_within p (less s q)) (sym (within-together q p s) ∙ (ap (λ r. is_within r s) (together-comm q p) ∙ t))).0
-
-fewer-known : (m : Menu) (k : ℕ) (c : List ℕ) (i : ℕ) → IsTrue (is_known_after m k c) → IsTrue (is_known_after m k (set c i 0))
-fewer-known m k [] i t = t
-fewer-known m k (x ∷ c) zero t =
-    let p = and_parts (nat_le x (m.bids (suc k))) (is_known_after m (suc k) c) t in
-    and_from (nat_le 0 (m.bids (suc k))) (is_known_after m (suc k) c) (le-leb 0 (m.bids (suc k)) (omega arith)) p.1
-fewer-known m k (x ∷ c) (suc i) t =
-    let p = and_parts (nat_le x (m.bids (suc k))) (is_known_after m (suc k) c) t in
-    and_from (nat_le x (m.bids (suc k))) (is_known_after m (suc k) (set c i 0)) p.0 (fewer-known m (suc k) c i p.1)
-
-fewer-taken : (m : Menu) (k : ℕ) (c : List ℕ) (i : ℕ) (s : List ℕ) → ((j : ℕ) → m.lots j 0 ≡ []) → IsTrue (is_within (packages_after m k c) s) → IsTrue (is_within (packages_after m k (set c i 0)) s)
-fewer-taken m k [] i s none t = t
-fewer-taken m k (x ∷ c) zero s none t = rw (none (suc k)) (fewer-within (m.lots (suc k) x) (packages_after m (suc k) c) s t)
-fewer-taken m k (x ∷ c) (suc i) s none t =
-    let own = m.lots (suc k) x in
-    let p = and_parts (is_within own s) (is_within (packages_after m (suc k) c) (less s own)) (sym (within-together own (packages_after m (suc k) c) s) ∙ t) in
-    within-together own (packages_after m (suc k) (set c i 0)) s
-    ∙ and_from (is_within own s) (is_within (packages_after m (suc k) (set c i 0)) (less s own)) p.0 (fewer-taken m (suc k) c i (less s own) none p.1)
 
 set_same : (c : List ℕ) (i : ℕ) → i < length c → slice_index_or (set c i 0) i 0 ≡ 0
 set_same [] i lt = absurd (omega arith)

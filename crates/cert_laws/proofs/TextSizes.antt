@@ -11,6 +11,8 @@ use Rattle.cert_form.specs.Certificate.{WithoutValue, RowValue, part_of}
 use Rattle.cert_form.specs.Plan.{placed, next_place}
 use Rattle.cert_form.specs.Lines.{Line, spell, over}
 use Rattle.cert_form.specs.CertText.{line, as_numbers, choice_line, table_lines, part_lines, row_lines, AtMost, IsChoice, AreTableLines, IsWithout, AreWithouts, AreMembers, AreRows}
+use Rattle.cert_form.proofs.Written.{long_numbers}
+use Rattle.cert_form.proofs.Ranges.{low_members}
 
 -- the bytes of lines, each with its line feed
 abbrev pub size : List Line → ℕ
@@ -48,10 +50,6 @@ small-below : (most : ℕ) (ns : List ℕ) → most < tens 37 → AtMost most ns
 small-below most [] lt all = tt
 small-below most (n ∷ ns) lt all = (omega (arith, lt, all.0), small-below most ns lt all.1)
 
-as-long : (ns : List ℕ) → length (as_numbers ns) ≡ length ns
-as-long [] = refl
-as-long (n ∷ ns) = ap suc (as-long ns)
-
 -- a line of so many numbers in range at most
 pub line-size : (word : List ℕ) (zs : List ℤ) (most : ℕ) → AllBelow (tens 37) zs → length zs ≤ most → length (spell (line word zs)) ≤ length word + 39 * most
 line-size word zs most small few =
@@ -59,7 +57,7 @@ line-size word zs most small few =
     omega (arith, long, times-39 (length zs), few, length-append word (numbers_text zs))
 
 pub choice-size : (b : ℕ) (choice : List ℕ) → b ≤ 16 → IsChoice b choice → length (spell (choice_line choice)) ≤ 630
-choice-size b choice few is = omega (arith, line-size (codes "choice") (as_numbers choice) 16 (small-below 65535 choice (omega arith) is.1) (omega (arith, few, is.0, as-long choice)))
+choice-size b choice few is = omega (arith, line-size (codes "choice") (as_numbers choice) 16 (small-below 65535 choice (omega arith) is.1) (omega (arith, few, is.0, long_numbers choice)))
 
 -- each line of a table has at most so many bytes of numbers
 abbrev pub AreShort : ℕ → List (List ℤ) → Type 0
@@ -95,7 +93,7 @@ AllParts T (w ∷ ws) = T w × AllParts T ws
 part-here : (w : WithoutValue) (ws : List WithoutValue) (j : ℕ) → w.winner ≡ j → part_of (w ∷ ws) j ≡ w
 part-here w ws j own = ap (λ b. cond b w (part_of ws j)) (eq-eqb w.winner j own)
 
-part-later : (w : WithoutValue) (ws : List WithoutValue) (j : ℕ) → w.winner ≢ j → part_of (w ∷ ws) j ≡ part_of ws j
+pub part-later : (w : WithoutValue) (ws : List WithoutValue) (j : ℕ) → w.winner ≢ j → part_of (w ∷ ws) j ≡ part_of ws j
 part-later w ws j other = ap (λ b. cond b w (part_of ws j)) (ne_eqb w.winner j other)
 
 -- what passes for the part of each winner passes for each part
@@ -137,14 +135,10 @@ members-few : (b before : ℕ) (js : List ℕ) → before ≤ b → AreMembers b
 members-few b before [] le is = omega (arith, le)
 members-few b before (j ∷ js) le is = omega (arith, is.0, members-few b j js is.1 is.2)
 
-members-low : (b before : ℕ) (js : List ℕ) → AreMembers b before js → AtMost b js
-members-low b before [] is = tt
-members-low b before (j ∷ js) is = (is.1, members-low b j js is.2)
-
 pub rows-size : (b : ℕ) (rows : List RowValue) → b ≤ 16 → AreRows b rows → size (row_lines rows) ≤ times (length rows) 1350
 rows-size b [] few is = omega arith
 rows-size b (r ∷ rows) few is =
-    let first = line-size (codes "row") (as_numbers r.members) 16 (small-below b r.members (omega (arith, few)) (members-low b 0 r.members is.0.members)) (omega (arith, as-long r.members, few, members-few b 0 r.members (omega arith) is.0.members)) in
+    let first = line-size (codes "row") (as_numbers r.members) 16 (small-below b r.members (omega (arith, few)) (low_members b 0 r.members is.0.members)) (omega (arith, long_numbers r.members, few, members-few b 0 r.members (omega arith) is.0.members)) in
     let second = line-size (codes "mult") (r.first ∷ r.second ∷ []) 2 (omega (arith, is.0.range.0), (omega (arith, is.0.range.1), tt)) (omega arith) in
     let third = choice-size b r.choice few is.0.choice in
     omega (arith, first, second, third, rows-size b rows few is.1)

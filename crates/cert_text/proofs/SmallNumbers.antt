@@ -10,6 +10,7 @@ use Rattle.std.proofs.lemmas.List.{take_more}
 use Rattle.cert_form.specs.Lines.{Numbers, kind, counted, members, AreNumbers, Rise, FitNumbers, rows_plan}
 use Rattle.text_lines.specs.Range.{any_out, is_out}
 use Rattle.cert_form.specs.CertText.{line, as_numbers, AtMost, IsChoice, AreMembers}
+use Rattle.cert_form.proofs.Written.{long_numbers}
 use Rattle.cert_text.specs.Readers.{IsLineAt, AreChosen, Leads, Halts, LeadsChosen, IsCount, AreSmall}
 use Rattle.cert_text.specs.declared.stop.CertStop.TheVariants.{Form}
 use Rattle.cert_text.proofs.PlanSteps.{line_next, line_unfit}
@@ -17,10 +18,6 @@ use Rattle.cert_text.proofs.PlanSteps.{line_next, line_unfit}
 pub as_more : (ns : List ℕ) (n : ℕ) → as_numbers (ns ++ n ∷ []) ≡ as_numbers ns ++ pos n ∷ []
 as_more [] n = refl
 as_more (m ∷ ns) n = ap (λ (l : List ℤ). pos m ∷ l) (as_more ns n)
-
-pub as_length : (ns : List ℕ) → length (as_numbers ns) ≡ length ns
-as_length [] = refl
-as_length (n ∷ ns) = ap suc (as_length ns)
 
 pub numbers_push : (xs : List ℤ) (z : ℤ) → AreNumbers 65535 xs → pos 0 ≤ℤ z → z ≤ℤ pos 65535 → AreNumbers 65535 (xs ++ z ∷ [])
 numbers_push [] z all low high = (low, high, tt)
@@ -56,13 +53,13 @@ is_choice bidders ns all many = (many, at_most ns all)
 
 module _ (bytes : List ℕ) (place bidders : ℕ) (ns : List ℕ) (next : ℕ) where
   pub choice_next : IsLineAt bytes place (codes "choice") (as_numbers ns) false next → AreNumbers 65535 (as_numbers ns) → length ns ≡ bidders → LeadsChosen bytes place bidders next ns
-  choice_next at all many = λ n is. line_next bytes place (codes "choice") n (as_numbers ns) false next at refl (is.from (as_numbers ns) (as_length ns ∙ many, all))
+  choice_next at all many = λ n is. line_next bytes place (codes "choice") n (as_numbers ns) false next at refl (is.from (as_numbers ns) (long_numbers ns ∙ many, all))
 
   pub choice_other : IsLineAt bytes place (codes "choice") (as_numbers ns) false next → (length ns ≡ bidders → ⊥) → (n : Numbers) → AreChosen bidders n → Halts bytes place (kind (codes "choice") n ∷ []) (Form place)
-  choice_other at other n is = line_unfit bytes place (codes "choice") n (as_numbers ns) false next at (λ ms many same out fit. other (sym (as_length ns) ∙ many ∙ (is.to ms fit).0))
+  choice_other at other n is = line_unfit bytes place (codes "choice") n (as_numbers ns) false next at (λ ms many same out fit. other (sym (long_numbers ns) ∙ many ∙ (is.to ms fit).0))
 
   pub members_next : IsLineAt bytes place (codes "row") (as_numbers ns) false next → 0 < length ns → AreMembers bidders 0 ns → Leads bytes place (kind (codes "row") (members bidders) ∷ []) next [] (line (codes "row") (as_numbers ns) ∷ [])
-  members_next at some are = line_next bytes place (codes "row") (members bidders) (as_numbers ns) false next at refl (omega (arith, some, as_length ns), rises 0 ns are)
+  members_next at some are = line_next bytes place (codes "row") (members bidders) (as_numbers ns) false next at refl (omega (arith, some, long_numbers ns), rises 0 ns are)
     where
       rises : (before : ℕ) (ns : List ℕ) → AreMembers bidders before ns → Rise bidders (pos before) (as_numbers ns)
       rises before [] are = tt
@@ -71,7 +68,7 @@ module _ (bytes : List ℕ) (place bidders : ℕ) (ns : List ℕ) (next : ℕ) w
   pub members_other : IsLineAt bytes place (codes "row") (as_numbers ns) false next → ((0 < length ns) × AreMembers bidders 0 ns → ⊥) → Halts bytes place (kind (codes "row") (members bidders) ∷ []) (Form place)
   members_other at other = line_unfit bytes place (codes "row") (members bidders) (as_numbers ns) false next at
       (λ ms many same out fit. let back : FitNumbers (members bidders) (as_numbers ns) = subst (FitNumbers (members bidders)) (sym (same refl)) fit in
-      other (omega (arith, back.0, as_length ns), are 0 ns back.1))
+      other (omega (arith, back.0, long_numbers ns), are 0 ns back.1))
     where
       are : (before : ℕ) (ns : List ℕ) → Rise bidders (pos before) (as_numbers ns) → AreMembers bidders before ns
       are before [] rise = tt

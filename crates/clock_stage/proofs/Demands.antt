@@ -1,12 +1,11 @@
 -- Sums of packages, and packages without a lot.
-use Rattle.std.proofs.Common.{◌≡◌, ℕ, zero, suc, ◌+◌, ◌-◌, ◌*◌, ◌/◌, ◌%◌, ◌<◌, ◌≤◌, true, List, [], ◌∷◌, ◌++◌, length, map, drop, take, get_or, refl, sym, ap, ◌∙◌, arith, add-one}
-use Rattle.std.specs.Prelude.{sum, replicate, nat_le, ◌==◌}
+use Rattle.std.proofs.Common.{◌≡◌, ℕ, zero, suc, ◌+◌, ◌-◌, ◌*◌, ◌/◌, ◌%◌, ◌<◌, ◌≤◌, List, [], ◌∷◌, ◌++◌, length, map, drop, take, get_or, refl, sym, ap, ◌∙◌, arith, add-one}
+use Rattle.std.specs.Prelude.{sum, replicate, ◌==◌}
 use Rattle.std.specs.List.{All, AllByRecursion}
-use Rattle.std.proofs.lemmas.Bool.{leb-true, eqb-true, and_parts}
 use Rattle.std.proofs.lemmas.List.{replicate_more, take-append-le, take_all, get_or_default}
 use Rattle.std.proofs.lemmas.List.Sums.{sum_by-cons}
 use Rattle.std.proofs.lemmas.List.Elements.{All-from_recursion, recursion_from_All}
-use Rattle.auction_model.specs.Package.{together, is_within}
+use Rattle.auction_model.specs.Package.{together}
 use Rattle.auction_model.specs.Place.{states_of, left_at}
 use Rattle.auction_model.proofs.PlaceLaws.{states-positive}
 use Rattle.auction_rules.specs.Rounds.{sum_of}
@@ -37,21 +36,6 @@ added-most demand p k e few low =
     let more : 40 * k + 40 ≡ 40 * (k + 1) = omega arith in
     All-from_recursion (λ n. n ≤ 40 * (k + 1)) (together demand p)
     (rw more at (sums-low demand p (40 * k) 40 e (recursion_from_All (λ n. n ≤ 40 * k) demand low) (counts-low p 40 few)))
-
--- a package within a supply has at most its lots
-pub within-sum : (p s : List ℕ) → is_within p s ≡ true → sum p ≤ sum s
-within-sum [] s h = omega arith
-within-sum (a ∷ p) [] h =
-    let own : a ≡ 0 = eqb-true a 0 (and_parts (a == 0) (is_within p []) h).0 in
-    let rest = within-sum p [] (and_parts (a == 0) (is_within p []) h).1 in
-    let left : sum (a ∷ p) ≡ a + sum p = sum_by-cons (λ (n : ℕ). n) a p in
-    omega arith
-within-sum (a ∷ p) (b ∷ s) h =
-    let own : a ≤ b = leb-true a b (and_parts (nat_le a b) (is_within p s) h).0 in
-    let rest = within-sum p s (and_parts (nat_le a b) (is_within p s) h).1 in
-    let left : sum (a ∷ p) ≡ a + sum p = sum_by-cons (λ (n : ℕ). n) a p in
-    let right : sum (b ∷ s) ≡ b + sum s = sum_by-cons (λ (n : ℕ). n) b s in
-    omega arith
 
 -- the package of place 0 has no lot
 pub left_at-zero : (supply : List ℕ) → left_at supply 0 ≡ map {A = ℕ} {B = ℕ} (λ n. 0) supply

@@ -15,10 +15,11 @@ use Rattle.auction_rules.specs.Replies.{first_reply, when, bid_reply, supply_rep
 use Rattle.auction_rules.specs.PackageTests.{first_over}
 use Rattle.auction_rules.specs.State.{asked}
 use Rattle.auction_rules.proofs.PackageLaws.{first_over-within}
+use Rattle.auction_rules.proofs.LawfulBids.{sum-within}
 use Rattle.award_file.specs.Award.{IsAward}
 use Rattle.clock_stage.specs.ClockState.{ClockState, clock_with, round_with, reply_to_close, has_excess, next_prices, next_round}
 use Rattle.clock_stage.specs.Kept.{IsHeld, IsRound, IsClock, IsFor}
-use Rattle.clock_stage.proofs.Demands.{within-sum, zeros-sum, map-same}
+use Rattle.clock_stage.proofs.Demands.{zeros-sum, map-same}
 
 -- a reply that is Ok passed each condition
 pub passed : (holds : Bool) (r : Reply) (rest : List (Option Reply)) → (r ≡ reply.Ok → ⊥) → first_reply (when holds r ∷ rest) ≡ reply.Ok → (holds ≡ false) × (first_reply rest ≡ reply.Ok)
@@ -42,7 +43,7 @@ bid-within terms eligibility j lots ok =
 
 -- and has at most 40 lots
 pub bid-lots : (terms : Terms) (eligibility j : ℕ) (lots : List ℕ) → IsAward terms → bid_reply terms Clock eligibility j lots ≡ reply.Ok → sum lots ≤ 40
-bid-lots terms eligibility j lots award ok = omega (arith, within-sum lots terms.supply (bid-within terms eligibility j lots ok), award.supply.lots)
+bid-lots terms eligibility j lots award ok = omega (arith, sum-within lots terms.supply (bid-within terms eligibility j lots ok), award.supply.lots)
 
 -- a package without a lot
 no_lots-held : (terms : Terms) (categories : ℕ) → length terms.supply ≡ categories → IsHeld categories (no_lots terms)

@@ -12,6 +12,7 @@ use Rattle.far_num.specs.Members.{holds}
 use Rattle.far_num.specs.declared.Row.{Row}
 use Rattle.nearest_point.specs.Problem.{bounds, coefficients, row_at}
 use Rattle.point_laws.specs.Multipliers.{AreFirst, AreSecond, sum_at}
+use Rattle.point_laws.proofs.PointLaws.{zero_times}
 use Rattle.wide_num.specs.Range.{Divides}
 use Rattle.wide_num.specs.Sums.{dot, nth, total}
 use Rattle.wide_num.proofs.Sums.{total-first, total-same}
@@ -146,22 +147,19 @@ first-in kept i lt = get_or-map (λ r. r.first) kept i no_row (pos 0) lt
 second-in : (kept : List PricedRow) (i : ℕ) → i < length kept → nth (seconds kept) i ≡ (get_or kept i no_row).second
 second-in kept i lt = get_or-map (λ r. r.second) kept i no_row (pos 0) lt
 
-times_none : (x y : ℤ) → x ≡ pos 0 → x *ℤ y ≡ pos 0
-times_none x y e = ap (λ (t : ℤ). t *ℤ y) e ∙ *ℤ_comm (pos 0) y ∙ *ℤ-zero y
-
 -- the multipliers of all rows, at their point
 module _ (m : ℕ) (rows : List Row) (choices : List (List ℕ)) (first second : List ℤ) (long : AreLong rows choices first second) (den : ℤ) (at : ℕ → ℤ) where
   pub first_sum : (j : ℕ) → sum_at (length (kept_of rows choices first second)) (coefficients (rows_in (kept_of rows choices first second))) (nth (firsts (kept_of rows choices first second))) j ≡ sum_at (length rows) (coefficients rows) (nth first) j
   first_sum j =
       total-same (length (kept_of rows choices first second)) (λ i. nth (firsts (kept_of rows choices first second)) i *ℤ coefficients (rows_in (kept_of rows choices first second)) i j) (λ i. (get_or (kept_of rows choices first second) i no_row).first *ℤ holds (get_or (kept_of rows choices first second) i no_row).row.members j)
       (λ i lt. ap (λ (t : ℤ). t *ℤ coefficients (rows_in (kept_of rows choices first second)) i j) (first-in (kept_of rows choices first second) i lt) ∙ ap (λ (r : Row). (get_or (kept_of rows choices first second) i no_row).first *ℤ holds r.members j) (row-in (kept_of rows choices first second) i lt))
-      ∙ kept-total (λ x. x.first *ℤ holds x.row.members j) (λ x u. times_none x.first (holds x.row.members j) (unused-none x.first x.second u).0) rows choices first second long
+      ∙ kept-total (λ x. x.first *ℤ holds x.row.members j) (λ x u. zero_times x.first (holds x.row.members j) (unused-none x.first x.second u).0) rows choices first second long
 
   pub second_sum : (j : ℕ) → sum_at (length (kept_of rows choices first second)) (coefficients (rows_in (kept_of rows choices first second))) (nth (seconds (kept_of rows choices first second))) j ≡ sum_at (length rows) (coefficients rows) (nth second) j
   second_sum j =
       total-same (length (kept_of rows choices first second)) (λ i. nth (seconds (kept_of rows choices first second)) i *ℤ coefficients (rows_in (kept_of rows choices first second)) i j) (λ i. (get_or (kept_of rows choices first second) i no_row).second *ℤ holds (get_or (kept_of rows choices first second) i no_row).row.members j)
       (λ i lt. ap (λ (t : ℤ). t *ℤ coefficients (rows_in (kept_of rows choices first second)) i j) (second-in (kept_of rows choices first second) i lt) ∙ ap (λ (r : Row). (get_or (kept_of rows choices first second) i no_row).second *ℤ holds r.members j) (row-in (kept_of rows choices first second) i lt))
-      ∙ kept-total (λ x. x.second *ℤ holds x.row.members j) (λ x u. times_none x.second (holds x.row.members j) (unused-none x.first x.second u).1) rows choices first second long
+      ∙ kept-total (λ x. x.second *ℤ holds x.row.members j) (λ x u. zero_times x.second (holds x.row.members j) (unused-none x.first x.second u).1) rows choices first second long
 
   module _ (a : AreFirst m (length rows) (coefficients rows) (bounds rows) den at (nth first)) where
     pub kept-first : AreFirst m (length (kept_of rows choices first second)) (coefficients (rows_in (kept_of rows choices first second))) (bounds (rows_in (kept_of rows choices first second))) den at (nth (firsts (kept_of rows choices first second)))

@@ -14,19 +14,15 @@ use Rattle.auction_rules.specs.declared.Reply.{Reply}
 use Rattle.auction_rules.specs.declared.Reply.TheVariants as reply
 use Rattle.auction_rules.specs.declared.Stage.TheVariants as stage
 use Rattle.bid_desk.specs.Reached.{StandsNext}
+use Rattle.clock_stage.proofs.ClockLaws.{terms-state_of}
 use Rattle.log_replay.specs.Course.{Answers, IsAnswered, IsCourse, TakesLine}
 use Rattle.log_replay.specs.ReplyLines.{book_or_open}
 use Rattle.log_replay.specs.declared.lines.Course.{Course}
 use Rattle.log_replay.specs.declared.results.ReplayStop.TheVariants.{Open}
 
--- a state keeps its terms
-terms-of : (terms : Terms) (log : List Event) → (state_of terms log).terms ≡ terms
-unfolding state_of
-terms-of terms log = refl
-
 -- and so does a desk that stands for a log
 pub terms-in : (terms : Terms) (log : List Event) (desk : DeskState) → desk ≡ state_of terms log → desk.terms ≡ terms
-terms-in terms log desk is = ap (λ (d : DeskState). d.terms) is ∙ terms-of terms log
+terms-in terms log desk is = ap (λ (d : DeskState). d.terms) is ∙ terms-state_of terms log
 
 -- a desk that stands for a log, by its own terms
 stands-for : (terms : Terms) (log : List Event) (desk : DeskState) → desk ≡ state_of terms log → desk ≡ state_of desk.terms log

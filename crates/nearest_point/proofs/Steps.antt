@@ -11,6 +11,7 @@ use Rattle.point_laws.proofs.Ring.{var, add, sub, mul, ring}
 use Rattle.point_laws.proofs.Order.{mul_nonneg, mul_positive}
 use Rattle.point_laws.proofs.PointLaws.{gap_of, dot-gap}
 use Rattle.wide_num.proofs.Sums.{total-same}
+use Rattle.wide_num.proofs.Ints.{swap_mul}
 use Rattle.nearest_point.proofs.Places.{lt_or}
 use Rattle.nearest_point.proofs.Forced.{newly_forced, cases_at}
 use Rattle.nearest_point.proofs.Vectors.{independent_more, between, between_equal, between_above, between_crosses}
@@ -114,9 +115,6 @@ near_force m r a b target weight wp forced k kr rows_y dy y ly hy violated rows_
 pub owed_less : (m r : ℕ) (a : ℕ → ℕ → ℤ) (b : ℕ → ℤ) (forced : List ℕ) (from k : ℕ) (e : ℤ) (x : ℕ → ℤ) → from ≤ k → Owed m r a b forced from e x → Owed m r a b forced k e x
 owed_less m r a b forced from k e x le h = record { positive = h.positive; tight = h.tight; meets = λ q ge lt. h.meets q (omega arith) lt; independent = h.independent }
 
-swap : (d e b : ℤ) → d *ℤ (e *ℤ b) ≡ e *ℤ (d *ℤ b)
-swap d e b = ring (d ∷ e ∷ b ∷ []) (mul (var 0) (mul (var 1) (var 2))) (mul (var 1) (mul (var 0) (var 2))) refl
-
 cross : (d e b q x : ℤ) → e *ℤ (d *ℤ b -ℤ q) +ℤ d *ℤ (x -ℤ e *ℤ b) ≡ d *ℤ x -ℤ e *ℤ q
 cross d e b q x = ring (d ∷ e ∷ b ∷ q ∷ x ∷ [])
     (add (mul (var 1) (sub (mul (var 0) (var 2)) (var 3))) (mul (var 0) (sub (var 4) (mul (var 1) (var 2)))))
@@ -149,7 +147,7 @@ owed_force m r a b target weight forced k kr e x h rows d q mult hq violated =
     subst (λ (t : ℕ). dot m (a t) z ≡ pos 0) (sym (first i lt))
     (dot-gap m (a (place forced i)) d q e x
     ∙ (let p = ap (λ (t : ℤ). d *ℤ t) (h.tight i lt) in let o = ap (λ (t : ℤ). e *ℤ t) (q_tight i lt) in
-    let c : d *ℤ (e *ℤ b (place forced i)) ≡ e *ℤ (d *ℤ b (place forced i)) = swap d e (b (place forced i)) in omega (arith, ints))) in
+    let c : d *ℤ (e *ℤ b (place forced i)) ≡ e *ℤ (d *ℤ b (place forced i)) = swap_mul d e (b (place forced i)) in omega (arith, ints))) in
     let apart_k : ¬ (dot m (a k) z ≡ pos 0) = λ zero_k.
     (let g = dot-gap m (a k) d q e x in
     let p = mul_positive e s ep sp in

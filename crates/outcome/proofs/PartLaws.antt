@@ -12,6 +12,7 @@ use Rattle.cert_text.specs.declared.certificate.WithoutPart.{WithoutPart}
 use Rattle.cert_text.specs.Parts.{without_value}
 use Rattle.choices.specs.Lines.{width_of}
 use Rattle.choices.specs.Singles.{winners_after}
+use Rattle.cert_laws.proofs.TextSizes.{part-later}
 use Rattle.outcome.specs.declared.prices.WinnerPrice.{WinnerPrice}
 use Rattle.outcome.specs.Certified.{IsPartOf}
 use Rattle.outcome.specs.Prices.{IsWinnerPrice, AreWinnerPrices}
@@ -35,9 +36,6 @@ no_earlier b s j (suc n ∷ z) [] i d are lt = absurd are
 no_earlier b s j (suc n ∷ z) (w ∷ ws) zero d are lt = omega (arith, are.0.winner)
 no_earlier b s j (suc n ∷ z) (w ∷ ws) (suc i) d are lt = omega (arith, no_earlier b s (suc j) z ws i d are.1 (omega arith))
 
-passed_over : (w : WithoutValue) (ws : List WithoutValue) (j : ℕ) → w.winner ≢ j → part_of (w ∷ ws) j ≡ part_of ws j
-passed_over w ws j other = ap (λ b. cond b w (part_of ws j)) (ne_eqb w.winner j other)
-
 found : (b s j : ℕ) (z : List ℕ) (ws : List WithoutValue) (i : ℕ) (d : WithoutValue) → AreWithouts b s j z ws → i < length ws → part_of ws (get_or ws i d).winner ≡ get_or ws i d
 found b s j [] [] i d are lt = absurd (omega arith)
 found b s j [] (w ∷ ws) i d are lt = absurd are
@@ -47,7 +45,7 @@ found b s j (suc n ∷ z) (w ∷ ws) zero d are lt = ap (λ b. cond b w (part_of
 found b s j (suc n ∷ z) (w ∷ ws) (suc i) d are lt =
     let later : suc j ≤ (get_or ws i d).winner = no_earlier b s (suc j) z ws i d are.1 (omega arith) in
     let own : w.winner ≡ j = are.0.winner in
-    passed_over w ws (get_or ws i d).winner (λ e. absurd (omega (arith, later, own, e))) ∙ found b s (suc j) z ws i d are.1 (omega arith)
+    part-later w ws (get_or ws i d).winner (λ e. absurd (omega (arith, later, own, e))) ∙ found b s (suc j) z ws i d are.1 (omega arith)
 
 mapped-length : {A B : Type 0} (f : A → B) (xs : List A) → length (map f xs) ≡ length xs
 mapped-length f [] = refl

@@ -14,12 +14,13 @@ use Rattle.row_laws.proofs.Sums.{over-is, choice-is}
 use Rattle.wide_num.specs.Sums.{nth, total}
 use Rattle.wide_num.proofs.Ints.{lin, mul-add}
 use Rattle.wide_num.proofs.Sums.{total-same}
+use Rattle.core_price.proofs.Spots.{winners-count}
 use Rattle.outcome.specs.declared.fraction.Fraction.{Fraction}
 use Rattle.outcome.specs.declared.prices.WinnerPrice.{WinnerPrice}
 use Rattle.outcome.specs.Fractions.{IsFractionOf, fraction_text}
 use Rattle.outcome.specs.Prices.{AreWinnerPrices, lines_of, reserves_of}
 use Rattle.outcome.proofs.PriceLists.{lines-are, reserves-are, prices-length}
-use Rattle.outcome.proofs.Winners.{winners-length, winners-few}
+use Rattle.outcome.proofs.Winners.{winners-few}
 
 split-sum : (f g : ℕ → ℤ) (d : ℤ) (n : ℕ) → sum_over everyone (λ j. f j +ℤ (d *ℤ g j)) n ≡ sum_over everyone f n +ℤ (d *ℤ sum_over everyone g n)
 split-sum f g d zero = omega (arith, lin, *ℤ-zero d)
@@ -30,7 +31,7 @@ module _ (book : Book) (z : List ℕ) (v : ℕ → ℤ) (p : Point) (ws : List W
   long = omega (arith, known-length (menu_of book) 0 z known)
 
   pub few : length ws ≤ length book.bidders
-  few = omega (arith, prices-length book z v p (winners_after 0 z) ws are, winners-length 0 z, winners-few z, long)
+  few = omega (arith, prices-length book z v p (winners_after 0 z) ws are, winners-count 0 z, winners-few z, long)
 
   payments-are : sum_over everyone (of_bidder p.at) (length book.bidders) ≡ total (length p.at) (nth p.at)
   payments-are =

@@ -1,12 +1,7 @@
 -- The winners of a choice in order.
-use Rattle.std.proofs.Common.{◌≡◌, ◌≢◌, ℕ, zero, suc, ◌+◌, ◌<◌, ◌≤◌, List, [], ◌∷◌, length, get_or, refl, ap, ◌∙◌, arith}
+use Rattle.std.proofs.Common.{◌≡◌, ◌≢◌, ℕ, zero, suc, ◌+◌, ◌<◌, ◌≤◌, List, [], ◌∷◌, length, get_or, refl, ◌∙◌, arith}
 use Rattle.choices.specs.Singles.{winners_after}
 use Rattle.row_laws.specs.Winners.{winners_in}
-
-pub winners-length : (k : ℕ) (z : List ℕ) → length (winners_after k z) ≡ winners_in z
-winners-length k [] = refl
-winners-length k (zero ∷ z) = winners-length (suc k) z
-winners-length k (suc i ∷ z) = ap suc (winners-length (suc k) z)
 
 pub winners-few : (z : List ℕ) → winners_in z ≤ length z
 winners-few [] = omega arith

@@ -37,10 +37,10 @@ dot-tight m a b d n e x dp t h =
     let t' : e *ℤ dot m a n ≡ e *ℤ (d *ℤ b) = ap (λ (z : ℤ). e *ℤ z) t in
     omega (arith, ints)
 
-zero_times : (s t : ℤ) → s ≡ pos 0 → s *ℤ t ≡ pos 0
+pub zero_times : (s t : ℤ) → s ≡ pos 0 → s *ℤ t ≡ pos 0
 zero_times s t z = let q : s *ℤ t ≡ pos 0 *ℤ t = ap (λ (y : ℤ). y *ℤ t) z in omega (arith, ints)
 
-times_zero : (s t : ℤ) → t ≡ pos 0 → s *ℤ t ≡ pos 0
+pub times_zero : (s t : ℤ) → t ≡ pos 0 → s *ℤ t ≡ pos 0
 times_zero s t z = let q : s *ℤ t ≡ s *ℤ pos 0 = ap (λ (y : ℤ). s *ℤ y) z in omega (arith, ints)
 
 none_negative : (s t : ℤ) → s *ℤ t ≡ pos 0 → pos 0 ≤ℤ (s *ℤ t)

@@ -140,7 +140,7 @@ addp-is : (env : List ℤ) (p q : List Term) → sum_of env (addp p q) ≡ sum_o
 addp-is env [] q = omega (arith, ints)
 addp-is env (t ∷ ts) q = let h = addp-is env ts q in let k = put-is env t.coef t.vars (addp ts q) in omega (arith, ints)
 
-swap_middle : (c d x y : ℤ) → (c *ℤ d) *ℤ (x *ℤ y) ≡ (c *ℤ x) *ℤ (d *ℤ y)
+pub swap_middle : (c d x y : ℤ) → (c *ℤ d) *ℤ (x *ℤ y) ≡ (c *ℤ x) *ℤ (d *ℤ y)
 swap_middle c d x y = mul_assoc c d (x *ℤ y) ∙ ap (λ (z : ℤ). c *ℤ z) (swap_mul d x y) ∙ sym (mul_assoc c x (d *ℤ y))
 
 times_term-is : (env : List ℤ) (c : ℤ) (m : List ℕ) (p : List Term) → sum_of env (times_term c m p) ≡ (c *ℤ mono env m) *ℤ sum_of env p

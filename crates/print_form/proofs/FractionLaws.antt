@@ -6,11 +6,9 @@ use Rattle.std.proofs.lemmas.Nat.Gcd.{mod-eq-zero_of_dvd, dvd_antisymm}
 use Rattle.std.proofs.Math.Nat.{div-add-mod, dvd-mul_right}
 use Rattle.std.proofs.Math.IntN.{*ℤ_comm}
 use Rattle.std.specs.Int.{◌∣◌}
-use Rattle.wide_num.proofs.Ints.{lin, mul-add, mul_assoc, swap_mul, mul_cancel, mul-zero_cases, Combined, combined, *ℤ-one}
+use Rattle.wide_num.proofs.Ints.{lin, mul-add, swap_mul, mul_cancel, mul-zero_cases, Combined, combined, *ℤ-one}
+use Rattle.point_laws.proofs.Ring.{swap_middle}
 use Rattle.print_form.specs.Fractions.{IsFraction, IsFractionText, parts_text}
-
-exchange : (a b c d : ℤ) → (a *ℤ b) *ℤ (c *ℤ d) ≡ (a *ℤ c) *ℤ (b *ℤ d)
-exchange a b c d = mul_assoc a b (c *ℤ d) ∙ ap (λ (x : ℤ). a *ℤ x) (swap_mul b c d) ∙ sym (mul_assoc a c (b *ℤ d))
 
 not-zero : (d : ℤ) → pos 1 ≤ℤ d → d ≢ pos 0
 not-zero d h e = absurd (omega (arith, ints))
@@ -22,9 +20,9 @@ pos-one a b e = omega (arith, ints)
 cross : (n d m e : ℤ) (a p b q : ℕ) → pos 1 ≤ℤ d → pos 1 ≤ℤ e → n *ℤ e ≡ m *ℤ d → n *ℤ pos p ≡ d *ℤ pos a → m *ℤ pos q ≡ e *ℤ pos b → a * q ≡ b * p
 cross n d m e a p b q dp ep same first second =
     let left : (d *ℤ e) *ℤ pos (a * q) ≡ (m *ℤ d) *ℤ pos (p * q) =
-    exchange d e (pos a) (pos q) ∙ ap (λ (x : ℤ). x *ℤ (e *ℤ pos q)) (sym first) ∙ exchange n (pos p) e (pos q) ∙ ap (λ (x : ℤ). x *ℤ pos (p * q)) same in
+    swap_middle d e (pos a) (pos q) ∙ ap (λ (x : ℤ). x *ℤ (e *ℤ pos q)) (sym first) ∙ swap_middle n (pos p) e (pos q) ∙ ap (λ (x : ℤ). x *ℤ pos (p * q)) same in
     let right : (d *ℤ e) *ℤ pos (b * p) ≡ (m *ℤ d) *ℤ pos (q * p) =
-    ap (λ (x : ℤ). x *ℤ pos (b * p)) (*ℤ_comm d e) ∙ exchange e d (pos b) (pos p) ∙ ap (λ (x : ℤ). x *ℤ (d *ℤ pos p)) (sym second) ∙ exchange m (pos q) d (pos p) in
+    ap (λ (x : ℤ). x *ℤ pos (b * p)) (*ℤ_comm d e) ∙ swap_middle e d (pos b) (pos p) ∙ ap (λ (x : ℤ). x *ℤ (d *ℤ pos p)) (sym second) ∙ swap_middle m (pos q) d (pos p) in
     let turned : p * q ≡ q * p = omega arith in
     let not : d *ℤ e ≢ pos 0 = λ z. not-zero e ep (mul-zero_cases d e z (not-zero d dp)) in
     pos-one (a * q) (b * p) (mul_cancel (d *ℤ e) (pos (a * q)) (pos (b * p)) not (left ∙ ap (λ (x : ℕ). (m *ℤ d) *ℤ pos x) turned ∙ sym right))

@@ -1,8 +1,8 @@
 -- Amounts: their bounds, and the greatest for a package.
-use Rattle.std.proofs.Common.{◌≡◌, ℕ, zero, suc, ◌+◌, ◌-◌, ◌*◌, ◌^◌, ◌<◌, ◌≤◌, max, true, false, List, [], ◌∷◌, ◌++◌, length, map, get_or, refl, sym, ◌∙◌, ap, subst, inl, inr, arith}
+use Rattle.std.proofs.Common.{◌≡◌, ℕ, zero, suc, ◌+◌, ◌-◌, ◌*◌, ◌^◌, ◌<◌, ◌≤◌, max, false, List, [], ◌∷◌, ◌++◌, length, map, get_or, sym, ◌∙◌, ap, subst, inl, inr, arith}
 use Rattle.std.specs.Prelude.{sum, ◌==◌, if◌then◌else◌}
 use Rattle.std.specs.List.{All}
-use Rattle.std.proofs.lemmas.Bool.{cases_Bool, cond-true, cond-false, eqb-true, and_parts}
+use Rattle.std.proofs.lemmas.Bool.{cases_Bool, cond-true, cond-false}
 use Rattle.std.proofs.lemmas.List.{length-map}
 use Rattle.std.proofs.lemmas.List.Sums.{sum_by-cons}
 use Rattle.std.proofs.Math.Nat.{mul-le-mul, mul-le-mul_left}
@@ -13,7 +13,7 @@ use Rattle.auction_rules.specs.Rounds.{OwnRound}
 use Rattle.auction_rules.specs.State.{Round, own_of}
 use Rattle.auction_rules.specs.Caps.{no_round, clock_bid, greatest, highest}
 use Rattle.auction_rules.proofs.PackageLaws.{is_same-refl}
-use Rattle.auction_rules.proofs.BookCaps.{greatest-append}
+use Rattle.auction_rules.proofs.BookCaps.{greatest-append, cost_of-empty}
 use Rattle.relative_cap.specs.OwnRounds.{rounds_of, own_in}
 use Rattle.relative_cap.proofs.RoundLaws.{own-at}
 
@@ -47,13 +47,6 @@ clock-least (r ∷ rounds) zero d inside =
     let own : (if is_same r.held r.held then cost_of r.prices r.held else 0) ≡ cost_of r.prices r.held = cond-true (is_same r.held r.held) (cost_of r.prices r.held) 0 (is_same-refl r.held) in
     omega (arith, own)
 clock-least (r ∷ rounds) (suc k) d inside = omega (arith, clock-least rounds k d (omega arith))
-
-cost_of-empty : (prices lots : List ℕ) → is_empty lots ≡ true → cost_of prices lots ≡ 0
-cost_of-empty [] lots empty = refl
-cost_of-empty (p ∷ prices) [] empty = refl
-cost_of-empty (p ∷ prices) (a ∷ lots) empty =
-    let both : ((a == 0) ≡ true) × (is_empty lots ≡ true) = and_parts (a == 0) (is_empty lots) empty in
-    rw (eqb-true a 0 both.0, cost_of-empty prices lots both.1) (omega arith)
 
 highest-floor : (rounds : List OwnRound) (list : List BookBid) (o : OwnRound) → cost_of o.prices o.held ≤ greatest o.held (map clock_bid rounds)
     → cost_of o.prices o.held ≤ highest rounds list o.held

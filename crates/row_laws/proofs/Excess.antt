@@ -28,7 +28,7 @@ terms m z p f s k = term p.den (worth_in m f (suc k)) (worth_in m z (suc k)) (of
 abbrev pub low_terms : Market → Point → List ℤ → List ℕ → ℕ → ℤ
 low_terms m p surplus f k = lowered p.den m.worth surplus (suc k) (number_of f (suc k)) -ℤ of_bidder p.at (suc k)
 
-everyone-is : (f : ℕ → ℤ) (n : ℕ) → sum_over everyone f n ≡ total n (λ k. f (suc k))
+pub everyone-is : (f : ℕ → ℤ) (n : ℕ) → sum_over everyone f n ≡ total n (λ k. f (suc k))
 everyone-is f n = over-is everyone f n
 
 cond_split : (b : Bool) (x y : ℤ) → cond b x y ≡ cond b x (pos 0) +ℤ cond (not b) y (pos 0)

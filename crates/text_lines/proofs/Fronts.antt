@@ -1,9 +1,8 @@
 -- What digits at the front of a text say of the numeral there.
 use Rattle.std.proofs.Common.{◌≡◌, ◌≢◌, ℕ, suc, zero, ◌+◌, ◌-◌, ◌*◌, ◌≤◌, ◌<◌, List, [], ◌∷◌, ◌++◌, length, get_or, take, drop, refl, sym, ap, subst, ◌∙◌, arith, length-append, length-take, inl, inr}
 use Rattle.std.proofs.lemmas.Bool.{cases_lt}
-use Rattle.std.proofs.lemmas.List.{take_more}
 use Rattle.text_lines.specs.Numeral.{numeral}
-use Rattle.wide_num.proofs.Decimal.{AreDigits, IsDigit, IsNumeral, read_on, read_on-append, digits_push}
+use Rattle.wide_num.proofs.Decimal.{AreDigits, IsDigit, IsNumeral, read_on}
 use Rattle.text_lines.proofs.Numerals.{numeral_is, one_numeral}
 use Rattle.text_lines.specs.Fields.{FieldEnds, IsField, HasNoLeadingZero}
 
@@ -84,12 +83,6 @@ field_made text stop d le ends lead = record {
     high : (ds : List ℕ) → AreDigits ds → 0 < length ds → (get_or ds 0 0 ≡ 48 → ⊥) → 48 < get_or ds 0 0
     high [] d some other = absurd (omega (arith, some))
     high (c ∷ ds) d some other = omega (arith, d.0.0, other)
-
-pub digits_more : (text : List ℕ) (i : ℕ) → i < length text → AreDigits (take i text) → IsDigit (get_or text i 0) → AreDigits (take (i + 1) text)
-digits_more text i lt all is = subst AreDigits (sym (take_more text i 0 lt)) (digits_push (take i text) (get_or text i 0) all is)
-
-pub read_on_more : (text : List ℕ) (i : ℕ) → i < length text → read_on 0 (take (i + 1) text) ≡ 10 * read_on 0 (take i text) + (get_or text i 0 - 48)
-read_on_more text i lt = ap (read_on 0) (take_more text i 0 lt) ∙ read_on-append 0 (take i text) (get_or text i 0 ∷ [])
 
 pub ends_at : (text : List ℕ) (i : ℕ) → i < length text → get_or text i 0 ≡ 32 → FieldEnds (drop i text)
 ends_at [] i lt e = absurd (omega arith)

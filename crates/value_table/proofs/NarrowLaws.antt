@@ -4,17 +4,13 @@ use Rattle.std.proofs.Common.{arith}
 use Rattle.std.proofs.lemmas.Int.{ints}
 use Rattle.std.proofs.lemmas.Nat.{mul-le}
 use Rattle.auction_model.specs.Book.{net_of}
-use Rattle.auction_model.specs.Lowered.{of_bidder, sum_to, greatest_size}
+use Rattle.auction_model.specs.Lowered.{of_bidder, greatest_size}
 use Rattle.auction_model.proofs.BoundLaws.{caps_of, lowered-capped, cap-in_sum, line-sizes, AreCapped}
-use Rattle.auction_model.proofs.PlainLaws.{greatest-at_most}
+use Rattle.auction_model.proofs.PlainLaws.{greatest-at_most, sum_to-at_most}
 use Rattle.bid_book.specs.Kept.{IsBidBook}
 use Rattle.value_table.proofs.Plain.{net-small, bids-fewer}
 use Rattle.value_table.specs.declared.lowering.Lowering.{Lowering}
 use Rattle.value_table.specs.Counted.{counted_bids, counted, IsCountedLine, IsNarrow}
-
-sum_to-at_most : (f : ℕ → ℕ) (n most : ℕ) → ((j : ℕ) → f j ≤ most) → sum_to f n ≤ n * most
-sum_to-at_most f zero most h = omega arith
-sum_to-at_most f (suc n) most h = omega (arith, sum_to-at_most f n most h, h (suc n))
 
 pub sum-narrow : (a b : ℤ) → unsigned_abs a ≤ 2 ^ 61 → unsigned_abs b ≤ 2 ^ 61 → unsigned_abs (a +ℤ b) ≤ 2 ^ 62
 sum-narrow a b h k = omega (arith, ints, h, k)

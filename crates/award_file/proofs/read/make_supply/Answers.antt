@@ -4,9 +4,10 @@ use Rattle.book_form.specs.BookLines.{supply_excess}
 use Rattle.lots.specs.declared.LotStop.{LotStop}
 use Rattle.lots.specs.declared.LotStop.TheVariants as lots
 use Rattle.lots.specs.Limits.{IsSupply, supply_stop}
+use Rattle.bid_book.proofs.SupplyLaws.{supply_within}
 use Rattle.award_file.specs.Parts.{counts}
 use Rattle.award_file.specs.Reading.{IsLimit, limit_stop}
-use Rattle.award_file.proofs.LimitLaws.{made-within, stops-over, within-limits}
+use Rattle.award_file.proofs.LimitLaws.{made-within, stops-over}
 use Rattle.award_file.proofs.read.make_supply.Goals as goal
 
 pub returns-in_err-supply-clause-err : goal.returns-in_err-supply-clause-err
@@ -26,4 +27,4 @@ returns-clause-ok c =
     let made = c.in_ok-supply.ensures.made in
     let is : c.in_ok-supply.supply ≡ counts c.args.categories.now = made.0 ∙ lots_are in
     let kept : IsSupply (counts c.args.categories.now) = made-within (counts c.args.categories.now) c.requires (ap supply_stop (sym lots_are) ∙ made.1) in
-    (is, subst IsSupply (sym is) kept, within-limits (counts c.args.categories.now) kept)
+    (is, subst IsSupply (sym is) kept, supply_within (counts c.args.categories.now) kept)

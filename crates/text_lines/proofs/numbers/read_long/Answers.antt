@@ -1,8 +1,8 @@
 use Rattle.std.proofs.Common.{◌≡◌, ◌≢◌, ℕ, ◌+◌, ◌-◌, ◌*◌, ◌≤◌, ◌<◌, length, get_or, take, drop, arith, subst, sym, ap, ◌∙◌}
 use Rattle.std.proofs.lemmas.Bool.Decides.{nat_tests}
-use Rattle.wide_num.proofs.Decimal.{IsDigit, read_on}
+use Rattle.wide_num.proofs.Decimal.{IsDigit, read_on, digits_more, read_on_more}
 use Rattle.text_lines.specs.Fields.{FieldEnds, IsTally, HasNoLeadingZero}
-use Rattle.text_lines.proofs.Fronts.{no_number_at, no_leading_zero, field_made, digits_more, read_on_more, ends_at, ends_last}
+use Rattle.text_lines.proofs.Fronts.{no_number_at, no_leading_zero, field_made, ends_at, ends_last}
 use Rattle.text_lines.proofs.numbers.read_long.Goals as goal
 use Rattle.text_lines.proofs.numbers.read_long.Goals.{else-loop-c-test, then-loop-c-test+then-c-eq32}
 

@@ -1,8 +1,8 @@
 use Rattle.std.proofs.Common.{◌∙◌, ℕ, ◌+◌, ◌-◌, ◌*◌, ◌<◌, ap, sym, arith, get_or, length, subst, refl}
 use Rattle.std.proofs.lemmas.Bool.Decides.{nat_tests}
-use Rattle.wide_num.proofs.Decimal.{IsDigit}
+use Rattle.wide_num.proofs.Decimal.{IsDigit, digits_more, read_on_more}
 use Rattle.text_lines.specs.Fields.{IsField, HasNoLeadingZero}
-use Rattle.text_lines.proofs.Fronts.{field_made, digits_more, read_on_more}
+use Rattle.text_lines.proofs.Fronts.{field_made}
 use Rattle.text_lines.proofs.numbers.read_short.Goals as goal
 
 pub loop-stop-preserved : goal.loop-stop-preserved
