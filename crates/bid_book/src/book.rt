@@ -4,8 +4,12 @@ ghost use Rattle.auction_model.specs.Book.{bidder_of, bids_of, bid_of, lots_of, 
 ghost use Rattle.bid_book.specs.Kept.{IsBidBook};
 ghost use Rattle.limits.specs.declared.TheConstants.{MOST_BIDDERS, MOST_BIDS};
 
-use crate::better::better_among;
-use crate::gather::book_bidders;
+pub(crate) mod better;
+pub(crate) mod gather;
+pub(crate) mod rivals;
+
+use crate::book::better::better_among;
+use crate::book::gather::book_bidders;
 use crate::{Bidders, Name, Reserves};
 use lots::{Bid, Supply};
 use std::alloc::{AllocError, Global};

@@ -1,29 +1,23 @@
 //! Books of bids and their text.
 #![tactic(auto)]
 
-mod better;
 mod bidders;
 mod book;
-mod entries;
-mod fields;
-mod gather;
-mod head;
 mod laws;
 mod lists;
 mod name;
 mod read;
-mod rivals;
 mod stop;
 mod write;
 
 pub use bidders::{BidderBids, Bidders};
 pub use book::BidBook;
-pub use entries::name_text;
-pub use fields::is_name;
 pub use laws::{one_book, one_text};
 pub use limits::LimitKind;
 pub use lists::{BidList, Reserves};
 pub use name::Name;
+pub use read::entries::name_text;
+pub use read::fields::is_name;
 pub use read::read_book;
 pub use write::write_book;
 

@@ -5,9 +5,13 @@ ghost use Rattle.book_form.specs.BookLines.{lines};
 ghost use Rattle.bid_book.specs.Stages.{Step, excess};
 ghost use Rattle.line_text.specs.LineText.{Says, beyond, faulty, stated};
 
-use crate::entries::take_entry;
-use crate::head::{take_first, take_reserve, take_supply};
-use crate::rivals::Rivals;
+pub(crate) mod entries;
+pub(crate) mod fields;
+pub(crate) mod head;
+
+use crate::book::rivals::Rivals;
+use crate::read::entries::take_entry;
+use crate::read::head::{take_first, take_reserve, take_supply};
 use crate::stop::LineStop;
 use crate::{BidBook, BookStop, LimitKind};
 use line_text::line_len;

@@ -3,7 +3,7 @@ use Rattle.std.specs.Prelude.{true, Some, List, string_bytes}
 use Rattle.cca_base.specs.Buffers.{held, left}
 use Rattle.cca_base.specs.Entries.{Seen, folder_of}
 use Rattle.cca_base.specs.Files.{Folder}
-use Rattle.cca_base.specs.declared.clean_file.CleanFile.{CleanFile}
+use Rattle.cca_base.specs.declared.memory.clean_file.CleanFile.{CleanFile}
 
 abbrev pub clean_seen : CleanFile → Seen
 clean_seen f = record {

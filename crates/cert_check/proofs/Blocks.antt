@@ -10,7 +10,7 @@ use Rattle.auction_model.specs.Package.{is_within}
 use Rattle.auction_model.specs.Place.{states_of, left_at, place_of}
 use Rattle.auction_model.proofs.PlaceLaws.{states-positive}
 use Rattle.cert_check.specs.Faults.{FirstFault, CoversRun, CoversSome, CoversBlock}
-use Rattle.cert_check.specs.declared.rule.LineRule.{LineRule}
+use Rattle.cert_check.specs.declared.tables.rule.LineRule.{LineRule}
 
 pub fault-same : (P Q : ℕ → Type 0) (stop r : ℕ) → ((s : ℕ) → P s → Q s) → ((s : ℕ) → Q s → P s) → FirstFault P stop r → FirstFault Q stop r
 fault-same P Q stop r to from f = record { within = f.within; before = λ s lt. to s (f.before s lt); fails = λ lt q. f.fails lt (from r q) }

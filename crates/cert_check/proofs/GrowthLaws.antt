@@ -19,7 +19,7 @@ use Rattle.cert_text.specs.CertValues.{cert_value}
 use Rattle.cert_check.specs.Faults.{at, FirstFault}
 use Rattle.cert_check.specs.Growth.{Grows, RisesBy}
 use Rattle.cert_check.specs.LineTests.{worth_of, worth_by, KeepsBid, KeepsSome, IsNeedless}
-use Rattle.cert_check.specs.declared.offers.Offers.{Offers}
+use Rattle.cert_check.specs.declared.tables.offers.Offers.{Offers}
 use Rattle.cert_check.proofs.Blocks.{fault-same}
 
 rises-many : (W : ℕ) (line : List ℤ) → RisesBy W line → (d s : ℕ) → s + d * W < length line → at line s ≤ℤ at line (s + d * W)

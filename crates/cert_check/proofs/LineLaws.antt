@@ -11,7 +11,7 @@ use Rattle.auction_model.proofs.TrimLaws.{trim-within}
 use Rattle.cert_laws.specs.Tests.{states}
 use Rattle.cert_check.specs.Faults.{FirstFault, at}
 use Rattle.cert_check.specs.LineTests.{worth_of, KeepsBid, KeepsSome}
-use Rattle.cert_check.specs.declared.offers.Offers.{Offers}
+use Rattle.cert_check.specs.declared.tables.offers.Offers.{Offers}
 use Rattle.cert_check.proofs.Blocks.{fault-same, fault-both}
 
 -- what a bid asks of a block, by the parts of its rule

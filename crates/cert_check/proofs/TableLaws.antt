@@ -11,7 +11,7 @@ use Rattle.cert_laws.proofs.Places.{first_rule}
 use Rattle.cert_check.specs.Faults.{FirstFault, at}
 use Rattle.cert_check.specs.Places.{IsFirstFailing}
 use Rattle.cert_check.specs.LineTests.{offered, worth_of, KeepsZero, KeepsSome, ObeysIn, RulesAt, TestsTable}
-use Rattle.cert_check.specs.declared.offers.Offers.{Offers}
+use Rattle.cert_check.specs.declared.tables.offers.Offers.{Offers}
 use Rattle.cert_check.proofs.Blocks.{fault-same}
 
 lines-width : (s : ℕ) (table : List (List ℤ)) → AreTableLines s table → (k : ℕ) → k < length table → length (slice_index_or table k []) ≡ s

@@ -12,7 +12,7 @@ use Rattle.cert_text.specs.CertValues.{cert_value}
 use Rattle.cert_check.specs.Faults.{at, FirstFault}
 use Rattle.cert_check.specs.LineTests.{worth_of, worth_by, ObeysIn}
 use Rattle.cert_check.specs.Tested.{IsTested}
-use Rattle.cert_check.specs.declared.offers.Offers.{Offers}
+use Rattle.cert_check.specs.declared.tables.offers.Offers.{Offers}
 
 pub tested-obeys : (o : Offers) (table : List (List ℤ)) (k : ℕ) → IsTested o.book.now o.cert.now → o.lowered ≡ false → o.skip ≤ k → k ≤ bidders_of o.book.now
     → slice_index_or table k [] ≡ slice_index_or o.cert.now.table k [] → (k < bidders_of o.book.now → slice_index_or table (k + 1) [] ≡ slice_index_or o.cert.now.table (k + 1) [])

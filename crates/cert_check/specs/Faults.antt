@@ -2,7 +2,7 @@
 use Rattle.std.specs.Prelude.{◌≡◌, ℕ, ◌+◌, ◌-◌, ◌≤◌, ◌<◌, IsTrue, List, slice_index_or, ℤ, pos, ◌+ℤ◌, ◌≤ℤ◌}
 use Rattle.auction_model.specs.Package.{is_within}
 use Rattle.auction_model.specs.Place.{states_of, left_at}
-use Rattle.cert_check.specs.declared.rule.LineRule.{LineRule}
+use Rattle.cert_check.specs.declared.tables.rule.LineRule.{LineRule}
 
 -- r is the first number below `stop` at which P fails, or `stop` where there is none
 pub record FirstFault (P : ℕ → Type 0) (stop r : ℕ) : Type 0 where

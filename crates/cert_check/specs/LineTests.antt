@@ -9,7 +9,7 @@ use Rattle.cert_form.specs.Certificate.{CertValue}
 use Rattle.cert_text.specs.CertValues.{cert_value}
 use Rattle.cert_laws.specs.Tests.{ObeysAt, bidders_of, states, lowered_net}
 use Rattle.cert_check.specs.Faults.{at}
-use Rattle.cert_check.specs.declared.offers.Offers.{Offers}
+use Rattle.cert_check.specs.declared.tables.offers.Offers.{Offers}
 
 -- the bids that count
 abbrev pub offered : Offers → Menu

@@ -11,7 +11,7 @@ ghost use Rattle.cert_laws.specs.Tests.{C4, C7, C8, IsPart, bidders_of, states, 
 ghost use Rattle.cert_text.specs.CertValues.{IsFor, cert_value};
 ghost use Rattle.cert_text.specs.Parts.{without_value};
 
-use crate::amounts::{times, won};
+use crate::sums::amounts::{times, won};
 use crate::sums::{Multiplier, sum_of};
 use bid_book::BidBook;
 use cert_text::{CertRow, Certificate, WithoutPart};

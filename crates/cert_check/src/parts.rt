@@ -10,8 +10,8 @@ ghost use Rattle.cert_check.specs.Places.{IsFirstFailing};
 ghost use Rattle.cert_check.specs.Tested.{IsTested};
 
 use crate::choice::is_allowed;
-use crate::grids::table_test;
-use crate::offers::Offers;
+use crate::tables::grids::table_test;
+use crate::tables::offers::Offers;
 use bid_book::BidBook;
 use cert_text::{Certificate, WithoutPart};
 use choices::value;

@@ -5,7 +5,7 @@ ghost use Rattle.cert_check.specs.Places.{IsFirstFailing};
 ghost use Rattle.cert_laws.specs.Tests.{C5, bidders_of, states};
 ghost use Rattle.cert_text.specs.CertValues.{IsFor, cert_value};
 
-use crate::amounts::{is_between, times, won};
+use crate::sums::amounts::{is_between, times, won};
 use bid_book::BidBook;
 use cert_text::Certificate;
 

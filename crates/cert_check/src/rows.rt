@@ -12,9 +12,9 @@ ghost use Rattle.cert_laws.specs.Tests.{C6, IsTightRow, bidders_of, states, won}
 ghost use Rattle.cert_text.specs.CertValues.{IsFor, cert_value};
 ghost use Rattle.cert_text.specs.Parts.{row_value};
 
-use crate::amounts::times;
 use crate::choice::is_allowed;
-use crate::members::{uses_all, uses_none};
+use crate::sums::amounts::times;
+use crate::sums::members::{uses_all, uses_none};
 use crate::sums::{paid_by, won_beside};
 use bid_book::BidBook;
 use cert_text::{CertRow, Certificate};

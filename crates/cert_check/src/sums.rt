@@ -13,8 +13,11 @@ ghost use Rattle.cert_laws.specs.Tests.{bidders_of, sum_holding};
 ghost use Rattle.cert_text.specs.Parts.{row_value};
 ghost use Rattle.limits.specs.declared.TheConstants.{MOST_BIDDERS};
 
-use crate::amounts::{counted, won};
-use crate::members::is_among;
+pub(crate) mod amounts;
+pub(crate) mod members;
+
+use crate::sums::amounts::{counted, won};
+use crate::sums::members::is_among;
 use bid_book::BidBook;
 use cert_text::CertRow;
 use choices::Choice;

@@ -8,9 +8,17 @@ ghost use Rattle.cert_text.specs.CertValues.{cert_value, IsFor};
 ghost use Rattle.cert_check.specs.Places.{IsFirstFailing};
 ghost use Rattle.limits.specs.declared.TheConstants.{MOST_BIDDERS};
 
-use crate::earlier::earlier_fault;
-use crate::grids::table_test;
-use crate::offers::Offers;
+pub(crate) mod earlier;
+pub(crate) mod grids;
+pub(crate) mod growth;
+pub(crate) mod lines;
+pub(crate) mod offers;
+pub(crate) mod rule;
+pub(crate) mod walk;
+
+use crate::tables::earlier::earlier_fault;
+use crate::tables::grids::table_test;
+use crate::tables::offers::Offers;
 use bid_book::BidBook;
 use cert_text::Certificate;
 

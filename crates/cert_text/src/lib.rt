@@ -6,15 +6,9 @@
 #![tactic(auto)]
 
 mod certificate;
-mod fields;
-mod lines;
 mod lists;
-mod parts;
 mod read;
-mod rows;
-mod stages;
 mod stop;
-mod tables;
 #[cfg(test)]
 mod tests;
 mod version;

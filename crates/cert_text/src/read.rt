@@ -9,7 +9,14 @@ ghost use Rattle.cert_text.specs.Parts.{cert_from};
 ghost use Rattle.cert_text.specs.Stops.{StopsAt};
 ghost use Rattle.cert_text.specs.Readers.{HaltsAtEnd};
 
-use crate::stages::{
+pub(crate) mod fields;
+pub(crate) mod lines;
+pub(crate) mod parts;
+pub(crate) mod rows;
+pub(crate) mod stages;
+pub(crate) mod tables;
+
+use crate::read::stages::{
     Opening, Payments, Winning, take_closing, take_opening, take_payments, take_winning,
 };
 use crate::version::take_version;

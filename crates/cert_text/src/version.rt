@@ -3,7 +3,7 @@ ghost use Rattle.std.specs.Prelude.{◌≡◌, ◌≤◌, length, map, false, If
 ghost use Rattle.cert_form.specs.Lines.{is_first_version, just_line, version_lines, version_of, version_plan};
 ghost use Rattle.cert_text.specs.Readers.{Leads, Halts};
 
-use crate::fields::take_these;
+use crate::read::fields::take_these;
 use crate::{CertStop, Shape};
 use limits::{FIRST_VERSION_BIDDERS, FIRST_VERSION_STATES, MOST_BIDDERS, MOST_STATES};
 use std::alloc::Global;

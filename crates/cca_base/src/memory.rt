@@ -1,0 +1,8 @@
+// Files and an output in memory, as tests and proofs of the callers see them.
+
+pub(crate) mod clean_file;
+pub(crate) mod clean_files;
+pub(crate) mod clean_sink;
+pub(crate) mod mem_file;
+pub(crate) mod mem_files;
+pub(crate) mod mem_sink;

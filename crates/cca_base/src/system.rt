@@ -1,0 +1,5 @@
+// Files and the output of the system.
+
+pub(crate) mod known_file;
+pub(crate) mod real_files;
+pub(crate) mod real_sink;

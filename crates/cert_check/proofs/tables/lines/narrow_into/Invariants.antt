@@ -1,0 +1,5 @@
+use Rattle.cert_check.proofs.NarrowLines.{IsCopied}
+use Rattle.cert_check.proofs.tables.lines.narrow_into.Given as goal
+
+abbrev pub invariant-loop-i : goal.invariant-loop-i
+invariant-loop-i l = IsCopied l.numbers l.line l.i

@@ -1,0 +1,83 @@
+// The rules of a whole table.
+ghost use Rattle.std.specs.Prelude.{◌≡◌, ℕ, ◌≤◌, ◌<◌, [], length, slice_index_or, IsTrue};
+ghost use Rattle.cert_form.specs.CertText.{IsTable};
+ghost use Rattle.cert_laws.specs.Tests.{bidders_of, states};
+ghost use Rattle.cert_check.specs.Faults.{FirstFault};
+ghost use Rattle.cert_check.specs.Places.{IsFirstFailing};
+ghost use Rattle.cert_check.specs.LineTests.{ObeysIn, RulesAt, TestsTable};
+
+use crate::tables::lines::{last_fault, line_fault};
+use crate::tables::offers::Offers;
+use choices::Grid;
+
+/// Whether two tables have the same line.
+fn share_line(table: &Grid, other: &Grid, k: usize) -> bool
+    requires line { k < length table.now }
+    requires other { k < length other.now }
+    ensures { IsTrue result → slice_index_or table.now k [] ≡ slice_index_or other.now k [] }
+{
+    table.line(k) == other.line(k)
+}
+
+/// Whether line `k` of a table without a bidder and the line below it are those of the certificate's own table, and their bids are
+/// the same: then it was tested there.
+fn is_tested(offers: &Offers, table: &Grid, k: usize) -> bool
+    requires table { IsTable (bidders_of offers.now.book.now) (states offers.now.book.now) table.now }
+    requires line { k ≤ bidders_of offers.now.book.now }
+    ensures { IsTrue result → (s : ℕ) → ObeysIn offers.now table.now k s }
+{
+    if offers.lowered || offers.skip == 0 || k < offers.skip as usize {
+        return false;
+    }
+    let own = &offers.cert.table;
+    if !share_line(table, own, k) {
+        return false;
+    }
+    k == offers.book.bidders() || share_line(table, own, k + 1)
+}
+
+/// The first place at which line `k` breaks a rule, and the number of states where there is none.
+fn rule_fault(offers: &Offers, table: &Grid, k: usize) -> usize
+    requires table { IsTable (bidders_of offers.now.book.now) (states offers.now.book.now) table.now }
+    requires line { k ≤ bidders_of offers.now.book.now }
+    ensures { FirstFault (ObeysIn offers.now table.now k) (states offers.now.book.now) result }
+{
+    if is_tested(offers, table, k) {
+        return offers.book.supply().states();
+    }
+    if k == offers.book.bidders() {
+        return last_fault(table.line(k));
+    }
+    line_fault(offers, k as u16 + 1, table.line(k), table.line(k + 1))
+}
+
+/// The first number of a line and a place in it at which a table breaks a rule.
+pub fn table_fault(offers: &Offers, table: &Grid) -> Option<u64>
+    requires { IsTable (bidders_of offers.now.book.now) (states offers.now.book.now) table.now }
+    ensures { IsFirstFailing (RulesAt offers.now table.now) result }
+{
+    let states = offers.book.supply().states();
+    for k in 0..offers.book.bidders() + 1 {
+        let found = rule_fault(offers, table, k);
+        if found < states {
+            return Some((k * states + found) as u64);
+        }
+    }
+    None
+}
+
+/// The first number at which a table breaks a rule, or the number behind all of these where line 0 has more than `most` for the
+/// whole supply.
+pub fn table_test(offers: &Offers, table: &Grid, most: i128) -> Option<u64>
+    requires { IsTable (bidders_of offers.now.book.now) (states offers.now.book.now) table.now }
+    ensures { IsFirstFailing (TestsTable offers.now table.now most) result }
+{
+    if let Some(place) = table_fault(offers, table) {
+        return Some(place);
+    }
+    let states = offers.book.supply().states();
+    if table.entry(0, states - 1) > most {
+        return Some(((offers.book.bidders() + 1) * states) as u64);
+    }
+    None
+}

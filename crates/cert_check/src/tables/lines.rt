@@ -1,0 +1,158 @@
+// The rules of one line of a table.
+ghost use Rattle.std.specs.Prelude.{◌≡◌, ℕ, ◌^◌, ◌≤◌, ◌<◌, IsTrue, length, slice_index_or, pos, unsigned_abs};
+ghost use Rattle.auction_model.specs.Book.{bids_of};
+ghost use Rattle.cert_laws.specs.Tests.{bidders_of, states};
+ghost use Rattle.cert_check.specs.Faults.{FirstFault};
+ghost use Rattle.cert_check.specs.LineTests.{offered, KeepsNone, KeepsZero, KeepsBid, KeepsSome};
+ghost use Rattle.cert_check.specs.Narrow.{IsSmall};
+
+use crate::tables::growth::is_growing;
+use crate::tables::offers::Offers;
+use crate::tables::rule::{LinePair, LineRule};
+use crate::tables::walk::{block_fault, run_fault, used_categories};
+use limits::MOST_STATES;
+
+/// The greatest number with which the rules are tested in 64 bits.
+const MOST_NARROW: u128 = 1 << 61;
+
+/// Room for the longest line.
+const MOST_ROOM: usize = MOST_STATES as usize;
+
+/// The first place at which the last line is below 0, and its length where there is none.
+pub fn last_fault(line: &[i128]) -> usize
+    ensures { FirstFault (KeepsZero line.now) (length line.now) result }
+{
+    for s in 0..line.len() {
+        if line[s] < 0 {
+            return s;
+        }
+    }
+    line.len()
+}
+
+/// The first place at which a line is below the line below it, and its length where there is none.
+fn none_fault(lines: &LinePair) -> usize
+    ensures { FirstFault (KeepsNone lines.now.line.now lines.now.below.now) (length lines.now.line.now) result }
+{
+    let rule = LineRule {
+        line: lines.line,
+        below: lines.below,
+        shift: 0,
+        worth: 0,
+        is_narrow: lines.is_narrow,
+        narrow_line: lines.narrow_line,
+        narrow_below: lines.narrow_below,
+        narrow_worth: 0,
+    };
+    run_fault(&rule, 0, lines.line.len(), lines.line.len())
+}
+
+/// The first place, below `until`, at which the line of bidder `j` breaks the rule of its bid `i`, and `until` where there is none.
+fn bid_fault(offers: &Offers, j: u16, i: u16, lines: &LinePair, until: usize) -> usize
+    requires bidder { (0 < j) × (j ≤ bidders_of offers.now.book.now) }
+    requires bid { (0 < i) × (i ≤ length (bids_of offers.now.book.now j)) }
+    requires line { length lines.now.line.now ≡ states offers.now.book.now }
+    ensures { FirstFault (KeepsBid offers.now j lines.now.line.now lines.now.below.now i) until result }
+{
+    let supply = offers.book.supply();
+    let _states = supply.states();
+    let bid = offers.book.bid(j, i);
+    let worth = offers.worth(j, i);
+    let is_narrow = lines.is_narrow && worth.unsigned_abs() <= MOST_NARROW;
+    let rule = LineRule {
+        line: lines.line,
+        below: lines.below,
+        shift: supply.place(&bid.package),
+        worth,
+        is_narrow,
+        narrow_line: lines.narrow_line,
+        narrow_below: lines.narrow_below,
+        narrow_worth: if is_narrow { worth as i64 } else { 0 },
+    };
+    let counts = bid.package.counts();
+    let used = used_categories(counts);
+    block_fault(
+        &rule,
+        supply.counts(),
+        supply.widths(),
+        &counts[..used],
+        0,
+        until,
+    )
+}
+
+/// The first place at which the line of bidder `j` breaks a rule, and its length where there is none.
+fn pair_fault(offers: &Offers, j: u16, lines: &LinePair) -> usize
+    requires bidder { (0 < j) × (j ≤ bidders_of offers.now.book.now) }
+    requires line { length lines.now.line.now ≡ states offers.now.book.now }
+    ensures { FirstFault (KeepsSome offers.now j lines.now.line.now lines.now.below.now ((offered offers.now).bids j)) (length lines.now.line.now) result }
+{
+    let supply = offers.book.supply();
+    let grows = is_growing(supply.counts(), supply.widths(), lines.below);
+    let mut found = none_fault(lines);
+    for i in 0..offers.bids(j) {
+        if grows && offers.is_needless(j, i + 1) {
+            continue;
+        }
+        found = bid_fault(offers, j, i + 1, lines, found);
+    }
+    found
+}
+
+/// The numbers of a line in 64 bits each, and whether all are so small that no sum of two leaves these.
+fn narrow_into(numbers: &mut [i64], line: &[i128]) -> bool
+    requires places { length numbers.old ≡ length line.now }
+    ensures same { IsTrue result → numbers.new ≡ line.now }
+    ensures small { IsTrue result → IsSmall line.now }
+{
+    for i in 0..line.len() {
+        if line[i].unsigned_abs() > MOST_NARROW {
+            return false;
+        }
+        numbers[i] = line[i] as i64;
+    }
+    true
+}
+
+/// The same as `line_fault`, with room for `N` numbers of each line in 64 bits.
+fn roomy_fault<const N: usize>(offers: &Offers, j: u16, line: &[i128], below: &[i128]) -> usize
+    requires room { states offers.now.book.now ≤ N }
+    requires size { N ≤ 2 ^ 40 }
+    requires bidder { (0 < j) × (j ≤ bidders_of offers.now.book.now) }
+    requires line { length line.now ≡ states offers.now.book.now }
+    requires below { length below.now ≡ states offers.now.book.now }
+    requires sizes { (s : ℕ) → unsigned_abs (slice_index_or below.now s (pos 0)) < 2 ^ 122 }
+    ensures { FirstFault (KeepsSome offers.now j line.now below.now ((offered offers.now).bids j)) (length line.now) result }
+{
+    let mut numbers = [0i64; N];
+    let mut rests = [0i64; N];
+    let narrow_line = &mut numbers[..line.len()];
+    let narrow_below = &mut rests[..line.len()];
+    let lines = LinePair {
+        line,
+        below,
+        is_narrow: narrow_into(narrow_line, line) && narrow_into(narrow_below, below),
+        narrow_line,
+        narrow_below,
+    };
+    pair_fault(offers, j, &lines)
+}
+
+/// The first place at which the line of bidder `j` breaks a rule, and its length where there is none. A short line gets little
+/// room, since all of it is set to 0 for each line.
+pub fn line_fault(offers: &Offers, j: u16, line: &[i128], below: &[i128]) -> usize
+    requires bidder { (0 < j) × (j ≤ bidders_of offers.now.book.now) }
+    requires line { length line.now ≡ states offers.now.book.now }
+    requires below { length below.now ≡ states offers.now.book.now }
+    requires sizes { (s : ℕ) → unsigned_abs (slice_index_or below.now s (pos 0)) < 2 ^ 122 }
+    ensures { FirstFault (KeepsSome offers.now j line.now below.now ((offered offers.now).bids j)) (length line.now) result }
+{
+    let _states = offers.book.supply().states();
+    if line.len() <= 1024 {
+        roomy_fault::<1024>(offers, j, line, below)
+    } else if line.len() <= 4096 {
+        roomy_fault::<4096>(offers, j, line, below)
+    } else {
+        roomy_fault::<MOST_ROOM>(offers, j, line, below)
+    }
+}

@@ -1,0 +1,255 @@
+// The kinds of lines of a certificate.
+ghost use Rattle.std.specs.Prelude.{◌≡◌, ◌≤◌, ◌<◌, ◌↔◌, ◌∷◌, length, codes, IsTrue, IfOk, IfErr, MatchOption, [], false, pos};
+ghost use Rattle.cert_form.specs.Lines.{kind, these, signed, counted, members, rows_plan, AreNumbers};
+ghost use Rattle.text_lines.specs.Range.{any_out};
+ghost use Rattle.cert_form.specs.CertText.{line, as_numbers, IsChoice, AreMembers};
+ghost use Rattle.text_lines.specs.Range.{AllInRange};
+ghost use Rattle.cert_text.specs.Readers.{IsLineAt, Leads, Halts, LeadsChosen, HaltsChosen, HaltsSmall, IsCount, IsNoCount, AreSmall, AreNotSmall};
+
+use crate::CertStop;
+use crate::read::lines::{LineNumbers, take_line};
+use choices::{Choice, Numbers};
+use std::alloc::{AllocError, Global};
+use wide_num::NumList;
+
+/// Signed numbers that were read, and where the next line begins.
+#[derive(Drop)]
+pub(crate) struct SignedRead {
+    pub(crate) numbers: NumList,
+    pub(crate) next: usize,
+}
+
+/// A choice that was read, and where the next line begins.
+#[derive(Drop)]
+pub(crate) struct ChoiceRead {
+    pub(crate) choice: Choice,
+    pub(crate) next: usize,
+}
+
+/// The members of a row that were read, and where the next line begins.
+#[derive(Drop)]
+pub(crate) struct MembersRead {
+    pub(crate) members: Numbers,
+    pub(crate) next: usize,
+}
+
+/// How many rows there are, and where the next line begins.
+#[derive(Clone, Copy)]
+pub(crate) struct CountRead {
+    pub(crate) count: usize,
+    pub(crate) next: usize,
+}
+
+/// Reads a line of the word and just these numbers, all in range. Gives the place of the next line.
+pub(crate) fn take_these(
+    alloc: Global,
+    bytes: &[u8],
+    place: usize,
+    word: &[u8],
+    numbers: &[i128],
+) -> Result<usize, CertStop>
+    requires place { place ≤ length bytes.now }
+    requires range { any_out numbers.now ≡ false }
+    ensures leads { IfOk result (λ next. Leads bytes.now place (kind word.now (these numbers.now) ∷ []) next [] (line word.now numbers.now ∷ [])) }
+    ensures within { IfOk result (λ next. next ≤ length bytes.now) }
+    ensures halts { IfErr result (Halts bytes.now place (kind word.now (these numbers.now) ∷ [])) }
+{
+    let line = take_line(alloc, bytes, place, word, numbers.len())?;
+    let next = line.next;
+    if !is_just(&line, numbers) {
+        return Err(CertStop::Form(place as u64));
+    }
+    Ok(next)
+}
+
+/// Reads a line of the word and so many signed numbers.
+pub(crate) fn take_signed(
+    alloc: Global,
+    bytes: &[u8],
+    place: usize,
+    word: &[u8],
+    count: usize,
+) -> Result<SignedRead, CertStop>
+    requires { place ≤ length bytes.now }
+    ensures leads { IfOk result (λ r. Leads bytes.now place (kind word.now (signed count) ∷ []) r.next [] (line word.now r.numbers ∷ [])) }
+    ensures count { IfOk result (λ r. length r.numbers ≡ count) }
+    ensures range { IfOk result (λ r. AllInRange r.numbers) }
+    ensures within { IfOk result (λ r. r.next ≤ length bytes.now) }
+    ensures halts { IfErr result (Halts bytes.now place (kind word.now (signed count) ∷ [])) }
+{
+    let line = take_line(alloc, bytes, place, word, count)?;
+    if line.numbers.items().len() != count {
+        return Err(CertStop::Form(place as u64));
+    }
+    if line.beyond {
+        return Err(CertStop::Range(place as u64));
+    }
+    Ok(SignedRead {
+        numbers: line.numbers,
+        next: line.next,
+    })
+}
+
+/// Whether the line has just these numbers, all in range.
+fn is_just(line: &LineNumbers, numbers: &[i128]) -> bool
+    ensures { IsTrue result ↔ ((line.now.beyond ≡ false) × (line.now.numbers ≡ numbers.now)) }
+{
+    if line.beyond {
+        return false;
+    }
+    line.numbers.items() == numbers
+}
+
+/// Reads a line of a choice of so many bidders.
+pub(crate) fn take_choice(
+    alloc: Global,
+    bytes: &[u8],
+    place: usize,
+    bidders: u16,
+) -> Result<ChoiceRead, CertStop>
+    requires { place ≤ length bytes.now }
+    ensures leads { IfOk result (λ r. LeadsChosen bytes.now place bidders r.next r.choice) }
+    ensures choice { IfOk result (λ r. IsChoice bidders r.choice) }
+    ensures within { IfOk result (λ r. r.next ≤ length bytes.now) }
+    ensures halts { IfErr result (HaltsChosen bytes.now place bidders) }
+{
+    let read = take_small(alloc, bytes, place, b"choice", bidders as usize)?;
+    if read.numbers.items().len() != bidders as usize {
+        return Err(CertStop::Form(place as u64));
+    }
+    Ok(ChoiceRead {
+        choice: Choice::new(read.numbers),
+        next: read.next,
+    })
+}
+
+/// Reads the line of a row's members.
+pub(crate) fn take_members(
+    alloc: Global,
+    bytes: &[u8],
+    place: usize,
+    bidders: u16,
+) -> Result<MembersRead, CertStop>
+    requires { place ≤ length bytes.now }
+    ensures leads { IfOk result (λ r. Leads bytes.now place (kind (codes "row") (members bidders) ∷ []) r.next [] (line (codes "row") (as_numbers r.members) ∷ [])) }
+    ensures members { IfOk result (λ r. (0 < length r.members) × AreMembers bidders 0 r.members) }
+    ensures within { IfOk result (λ r. r.next ≤ length bytes.now) }
+    ensures halts { IfErr result (Halts bytes.now place (kind (codes "row") (members bidders) ∷ [])) }
+{
+    let read = take_small(alloc, bytes, place, b"row", 2)?;
+    if !are_members(bidders, read.numbers.items()) {
+        return Err(CertStop::Form(place as u64));
+    }
+    Ok(MembersRead {
+        members: read.numbers,
+        next: read.next,
+    })
+}
+
+/// Whether there is a member, and they rise up to the last bidder at most.
+fn are_members(bidders: u16, numbers: &[u16]) -> bool
+    ensures { IsTrue result ↔ ((0 < length numbers.now) × AreMembers bidders 0 numbers.now) }
+{
+    !numbers.is_empty() && rise(bidders, numbers)
+}
+
+fn rise(bidders: u16, numbers: &[u16]) -> bool
+    ensures { IsTrue result ↔ AreMembers bidders 0 numbers.now }
+{
+    let mut before = 0;
+    for j in numbers {
+        if *j <= before || *j > bidders {
+            return false;
+        }
+        before = *j;
+    }
+    true
+}
+
+/// Reads the line of the count of rows.
+pub(crate) fn take_count(
+    alloc: Global,
+    bytes: &[u8],
+    place: usize,
+    bidders: u16,
+) -> Result<CountRead, CertStop>
+    requires { place ≤ length bytes.now }
+    ensures leads { IfOk result (λ r. Leads bytes.now place (kind (codes "rows") (counted bidders) ∷ []) r.next (rows_plan bidders r.count) (line (codes "rows") (pos r.count ∷ []) ∷ [])) }
+    ensures few { IfOk result (λ r. r.count ≤ 10) }
+    ensures within { IfOk result (λ r. r.next ≤ length bytes.now) }
+    ensures halts { IfErr result (Halts bytes.now place (kind (codes "rows") (counted bidders) ∷ [])) }
+{
+    let read = take_small(alloc, bytes, place, b"rows", 1)?;
+    match row_count(bidders, read.numbers.items()) {
+        Some(count) => Ok(CountRead {
+            count,
+            next: read.next,
+        }),
+        None => Err(CertStop::Form(place as u64)),
+    }
+}
+
+/// The one number, where it is a count of rows.
+fn row_count(bidders: u16, numbers: &[u16]) -> Option<usize>
+    ensures { MatchOption result (IsNoCount bidders numbers.now) (IsCount bidders numbers.now) }
+{
+    if numbers.len() != 1 {
+        return None;
+    }
+    let count = numbers[0];
+    if count > 10 {
+        return None;
+    }
+    if count > 0 && bidders == 0 {
+        return None;
+    }
+    Some(count as usize)
+}
+
+/// Numbers that were read, each at most 65,535, and where the next line begins.
+#[derive(Drop)]
+struct SmallRead {
+    numbers: Numbers,
+    next: usize,
+}
+
+/// Reads a line of the word and numbers of 0 to 65,535, as a rule so many.
+fn take_small(
+    alloc: Global,
+    bytes: &[u8],
+    place: usize,
+    word: &[u8],
+    count: usize,
+) -> Result<SmallRead, CertStop>
+    requires { place ≤ length bytes.now }
+    ensures line { IfOk result (λ r. IsLineAt bytes.now place word.now (as_numbers r.numbers) false r.next) }
+    ensures small { IfOk result (λ r. AreNumbers 65535 (as_numbers r.numbers)) }
+    ensures within { IfOk result (λ r. r.next ≤ length bytes.now) }
+    ensures halts { IfErr result (HaltsSmall bytes.now place word.now) }
+{
+    let line = take_line(alloc, bytes, place, word, count)?;
+    if line.beyond {
+        return Err(CertStop::Form(place as u64));
+    }
+    match small_numbers(alloc, line.numbers.items())? {
+        Some(numbers) => Ok(SmallRead {
+            numbers,
+            next: line.next,
+        }),
+        None => Err(CertStop::Form(place as u64)),
+    }
+}
+
+/// The same numbers, where each is one of 0 to 65,535.
+fn small_numbers(alloc: Global, items: &[i128]) -> Result<Option<Numbers>, AllocError>
+    ensures { IfOk result (λ r. MatchOption r (AreNotSmall items.now) (AreSmall items.now)) }
+{
+    let mut numbers = Numbers::new(alloc);
+    for item in items {
+        if *item < 0 || *item > 65535 {
+            return Ok(None);
+        }
+        numbers.push(*item as u16)?;
+    }
+    Ok(Some(numbers))
+}
