@@ -13,7 +13,7 @@ use Rattle.wide_num.proofs.Sums.{total-zero}
 use Rattle.point_laws.specs.Points.{SamePoint, square_distance as distance_to}
 use Rattle.point_laws.specs.Multipliers.{AreFirst, AreSecond, AreShares, SumsToOrStands}
 use Rattle.point_laws.proofs.PointLaws.{least, nearest}
-use Rattle.point_laws.proofs.Shares.{share-positive, share-whole}
+use Rattle.auction_model.proofs.Shares.{share-positive, share-whole}
 use Rattle.row_laws.proofs.Sums.{over-is}
 use Rattle.cert_form.specs.Certificate.{CertValue, is_member, row_of}
 use Rattle.cert_laws.specs.Tests.{bidders_of, C1, C5, C6, C7, C8, vickrey_of}
