@@ -70,9 +70,11 @@ SamePoint m p q = (j : ℕ) → 0 < j → j ≤ m.bidders → q.den *ℤ of_bidd
 abbrev pub HasLeastSum : Market → (Point → Type 0) → Point → Type 0
 HasLeastSum m Among p = (q : Point) → Among q → (q.den *ℤ paid m p) ≤ℤ (p.den *ℤ paid m q)
 
--- each bidder has a weight of 1 to 20
-abbrev pub AreWeights : Market → (ℕ → ℕ) → Type 0
-AreWeights m w = (j : ℕ) → 0 < j → j ≤ m.bidders → (1 ≤ w j) × (w j ≤ 20)
+-- one weight of 1 to 20 for each of n bidders
+pub record AreWeights (n : ℕ) (weights : List ℕ) : Type 0 where
+  pub long : length weights ≡ n
+  pub some : (k : ℕ) → k < n → 1 ≤ slice_index_or weights k 0
+  pub most : (k : ℕ) → k < n → slice_index_or weights k 0 ≤ 20
 
 -- the weight of bidder j in a list with one weight for each bidder
 abbrev pub weight_of : List ℕ → ℕ → ℕ

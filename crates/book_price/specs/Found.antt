@@ -3,8 +3,9 @@ use Rattle.std.specs.Prelude.{List, ℕ}
 use Rattle.auction_model.specs.Book.{Book, market_of}
 use Rattle.auction_model.specs.Greatest.{IsWinning}
 use Rattle.auction_model.specs.Market.{value_of}
+use Rattle.auction_model.specs.Prices.{AreWeights}
 use Rattle.cert_form.specs.Certificate.{CertValue}
-use Rattle.cert_laws.specs.Weights.{IsWeighing}
+use Rattle.cert_laws.specs.Tests.{bidders_of}
 use Rattle.choices.specs.Singles.{AreSingles, winners_after}
 use Rattle.core_price.specs.Priced.{IsPriced}
 use Rattle.core_price.specs.Weights.{FewWin}
@@ -23,7 +24,7 @@ pub record AreFound (book : Book) (z : List ℕ) (whole : TableValue) (alone : V
   pub singles : AreSingles (market_of book) z alone.singles
   pub tables : AreTablesWithout book (winners_after 0 z) alone.tables
   pub few : FewWin z weights
-  pub weighing : IsWeighing book weights
+  pub weighing : AreWeights (bidders_of book) weights
   pub priced_is : IsPriced (market_of book) z weights alone.singles priced
   pub lowered : IsLoweredTable book priced.den (surpluses_of (market_of book) z priced.den (for_bidders z priced.at)) priced.last.table
 

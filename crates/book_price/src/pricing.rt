@@ -8,8 +8,7 @@ ghost use Rattle.cert_laws.specs.Priced.{IsPricedCert};
 ghost use Rattle.cert_laws.specs.Sound.{cert_point};
 ghost use Rattle.cert_laws.specs.Tests.{bidders_of, states};
 ghost use Rattle.cert_text.specs.CertValues.{cert_value, IsFor};
-ghost use Rattle.auction_model.specs.Prices.{weight_of};
-ghost use Rattle.cert_laws.specs.Weights.{IsWeighing};
+ghost use Rattle.auction_model.specs.Prices.{AreWeights, weight_of};
 ghost use Rattle.core_price.specs.Turns.{IsPointOfTurn, turns_of};
 ghost use Rattle.core_price.specs.Weights.{FewWin};
 ghost use Rattle.row_laws.specs.Turns.{IsLastPoint};
@@ -47,7 +46,7 @@ pub struct PricedBook {
 /// `Winners` exactly where more than six win, or more than four that don't all weigh 1, with their number; `Memory` for want of
 /// memory.
 pub fn price_book(alloc: Global, book: &BidBook, weights: &[u32]) -> Result<PricedBook, PriceStop>
-    requires { IsWeighing book.now weights.now }
+    requires { AreWeights (bidders_of book.now) weights.now }
     ensures shape { IfOk result (λ p. IsFor (bidders_of book.now) (states book.now) p.cert) }
     ensures cert { IfOk result (λ p. IsPricedCert book.now (weight_of weights.now) (cert_value p.cert)) }
     ensures reduced { IfOk result (λ p. IsReduced (cert_value p.cert)) }
@@ -74,7 +73,7 @@ fn priced_book(
     whole: &ValueTable,
     weights: &[u32],
 ) -> Result<PricedBook, PriceStop>
-    requires weights { IsWeighing book.now weights.now }
+    requires weights { AreWeights (bidders_of book.now) weights.now }
     requires few { FewWin winners weights.now }
     requires winners { IsWinning (market_of book.now) winners }
     requires whole { IsTableOf book.now whole.now }

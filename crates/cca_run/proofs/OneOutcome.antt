@@ -100,7 +100,7 @@ module _ (one_book : (bytes : List ℕ) (x y : Said Book Excess) → Says IsBook
     (one_cert : (bidders number : ℕ) (bytes : List ℕ) (x y : Said CertValue ℕ) → CertSays bidders number bytes x → CertSays bidders number bytes y → x ≡ y)
     (one_verdict : (book : Book) (w : ℕ → ℕ) (c : CertValue) (t p u q : ℕ) → FailsFirst book w c t p → FailsFirst book w c u q → (t ≡ u) × (p ≡ q))
     (not_both : (book : Book) (w : ℕ → ℕ) (c : CertValue) (t p : ℕ) → Holds book w c → FailsFirst book w c t p → ⊥)
-    (sound : (book : Book) (w : ℕ → ℕ) (c : CertValue) → AreWeights (market_of book) w → length c.choice ≡ bidders_of book → length c.pay ≡ bidders_of book → Holds book w c → IsSound book w c)
+    (sound : (book : Book) (weights : List ℕ) (c : CertValue) → AreWeights (bidders_of book) weights → length c.choice ≡ bidders_of book → length c.pay ≡ bidders_of book → Holds book (weight_of weights) c → IsSound book (weight_of weights) c)
     (one_winning : (m : Market) (c d : List ℕ) → IsMarket m → IsWinning m c → IsWinning m d → c ≡ d)
     (market : (book : Book) → length book.bidders < 2 ^ 16 → ((j i : ℕ) → i ≤ length (bids_of book j) → pos 0 ≤ℤ net_of book j i) → IsMarket (market_of book))
     (one_vickrey : (m : Market) (z : List ℕ) (v w : ℕ → ℤ) → AreVickreyPrices m z v → AreVickreyPrices m z w → (j : ℕ) → 0 < j → j ≤ m.bidders → v j ≡ w j)
@@ -140,8 +140,8 @@ module _ (one_book : (bytes : List ℕ) (x y : Said Book Excess) → Says IsBook
   one-rounds true book weights z runs others t u m a b x y = one_run (market_of book) (weight_of weights) z runs others t u m a b x y
   one-rounds false book weights z runs others t u m a b x y = x ∙ sym y
 
-  vickrey-of : (book : Book) (weights : List ℕ) → AreWeights (market_of book) (weight_of weights) → (form : PriceForm) (c : CertValue) (t : List ℕ) → IsPricing book weights form c t → AreVickreyPrices (market_of book) c.choice (cert_prices book c)
-  vickrey-of book weights are form c t a = (sound book (weight_of weights) c are a.certificate.choice.0 a.certificate.pay.0 a.priced.holds).vickrey
+  vickrey-of : (book : Book) (weights : List ℕ) → AreWeights (bidders_of book) weights → (form : PriceForm) (c : CertValue) (t : List ℕ) → IsPricing book weights form c t → AreVickreyPrices (market_of book) c.choice (cert_prices book c)
+  vickrey-of book weights are form c t a = (sound book weights c are a.certificate.choice.0 a.certificate.pay.0 a.priced.holds).vickrey
 
   -- the same prices of the same winners, behind two runs of pricing
   module _ (book : Book) (weights z : List ℕ) (v w : ℕ → ℤ) (p q : Point) (runs others : List Turn) (m : IsMarket (market_of book)) (long : length z ≡ (market_of book).bidders)
@@ -160,7 +160,7 @@ module _ (one_book : (bytes : List ℕ) (x y : Said Book Excess) → Says IsBook
     one-printed true false t u x y = one_json book z v w p q t u long dp dq same agree x y
     one-printed false rounds t u x y = one-lines rounds t u x y
 
-  one-pricing : (book : Book) (weights : List ℕ) → AreWeights (market_of book) (weight_of weights) → (form : PriceForm) (c d : CertValue) (t u : List ℕ) → IsMarket (market_of book) → IsPricing book weights form c t → IsPricing book weights form d u → t ≡ u
+  one-pricing : (book : Book) (weights : List ℕ) → AreWeights (bidders_of book) weights → (form : PriceForm) (c d : CertValue) (t u : List ℕ) → IsMarket (market_of book) → IsPricing book weights form c t → IsPricing book weights form d u → t ≡ u
   one-pricing book weights are form c d t u m a b =
       let is : d.choice ≡ c.choice = one_winning (market_of book) d.choice c.choice m b.priced.winning a.priced.winning in
       let run = subst (λ (z : List ℕ). IsPricingRun (market_of book) (weight_of weights) z b.turns) is b.run in
@@ -175,7 +175,7 @@ module _ (one_book : (bytes : List ℕ) (x y : Said Book Excess) → Says IsBook
   few-or-many book weights form c t z m a many =
       not_few_and_many z weights (subst (λ (x : List ℕ). FewWin x weights) (one_winning (market_of book) c.choice z m a.priced.winning many.winning) a.few) many.many
 
-  one-priced : (book : Book) (weights : List ℕ) → AreWeights (market_of book) (weight_of weights) → (form : PriceForm) (o p : Outcome) → IsMarket (market_of book) → PriceGives book weights form o → PriceGives book weights form p → Same o p
+  one-priced : (book : Book) (weights : List ℕ) → AreWeights (bidders_of book) weights → (form : PriceForm) (o p : Outcome) → IsMarket (market_of book) → PriceGives book weights form o → PriceGives book weights form p → Same o p
   one-priced book weights are form o p m (inl x) (inl y) = both o p (done x.1 (cert_file (cert_text x.0) ∷ [])) (done y.1 (cert_file (cert_text y.0) ∷ [])) x.3 y.3 (printed-same x.1 y.1 (cert_file (cert_text x.0) ∷ []) (cert_file (cert_text y.0) ∷ []) (one-pricing book weights are form x.0 y.0 x.1 y.1 m x.2 y.2))
   one-priced book weights are form o p m (inl x) (inr y) = absurd (few-or-many book weights form x.0 x.1 y.0 m x.2 y.1)
   one-priced book weights are form o p m (inr x) (inl y) = absurd (few-or-many book weights form y.0 y.1 x.0 m y.2 x.1)
@@ -205,7 +205,7 @@ module _ (one_book : (bytes : List ℕ) (x y : Said Book Excess) → Says IsBook
       let same = one_winning (market_of book) x.0 y.0 m x.1 y.1 in
       both o p (done (win_text book x.0) []) (done (win_text book y.0) []) x.2 y.2 (printed-same (win_text book x.0) (win_text book y.0) [] [] (ap (win_text book) same))) x y
   one-of (price name cert form) contents o p x y = one-input BookFile BOOK_BYTES BookAnswers (λ book. PriceGives book (ones book) form) one-book-answer (contents BookFile) o p
-      (λ book bytes says x y. one-priced book (ones book) (ones-weigh book).each form o p (lawful bytes book says) x y) x y
+      (λ book bytes says x y. one-priced book (ones book) (ones-weigh book) form o p (lawful bytes book says) x y) x y
   one-of (check name cert) contents o p x y = one-input BookFile BOOK_BYTES BookAnswers (λ book. CertGives book (contents Cert) (VerdictGives book (ones book))) one-book-answer (contents BookFile) o p
       (λ book bytes says x y. one-input Cert CERT_BYTES (CertAnswers book) (VerdictGives book (ones book)) (one-cert-answer book) (contents Cert) o p
       (λ c of says_it a b. one-judged book (ones book) c o p (lawful bytes book says) a b) x y) x y
@@ -216,7 +216,7 @@ module _ (one_book : (bytes : List ℕ) (x y : Said Book Excess) → Says IsBook
       one-input Award AWARD_BYTES AwardAnswers (λ t. LogGives t (contents Log) (λ events. BookOfLogGives t events (λ b. PriceGives b (ones b) form))) one-award-answer (contents Award) o p
       (λ t bytes says x y. one-input Log LOG_BYTES (LogAnswers t) (λ events. BookOfLogGives t events (λ b. PriceGives b (ones b) form)) (one_log_answer t) (contents Log) o p
       (λ events of says_it a b. one-ended (length events) (end_of t (reverse events)) (λ b. PriceGives b (ones b) form) o p
-      (λ book is. one-priced book (ones book) (ones-weigh book).each form o p (lawful_log t (log_records of) events book says.1 says_it is)) a b) x y) x y
+      (λ book is. one-priced book (ones book) (ones-weigh book) form o p (lawful_log t (log_records of) events book says.1 says_it is)) a b) x y) x y
   one-of (audit terms log cert) contents o p x y =
       one-input Award AWARD_BYTES AwardAnswers (λ t. LogGives t (contents Log) (λ events. BookOfLogGives t events (λ b. CertGives b (contents Cert) (VerdictGives b (ones b))))) one-award-answer (contents Award) o p
       (λ t bytes says x y. one-input Log LOG_BYTES (LogAnswers t) (λ events. BookOfLogGives t events (λ b. CertGives b (contents Cert) (VerdictGives b (ones b)))) (one_log_answer t) (contents Log) o p

@@ -4,15 +4,16 @@ use Rattle.std.proofs.Common.{inl, inr, arith}
 use Rattle.std.proofs.lemmas.List.{get_or-replicate, length-replicate}
 use Rattle.auction_model.specs.Book.{Book}
 use Rattle.cert_laws.specs.Tests.{bidders_of}
-use Rattle.cert_laws.specs.Weights.{IsWeighing}
+use Rattle.auction_model.specs.Prices.{AreWeights}
 use Rattle.core_price.specs.Weights.{FewWin, ManyWin, WeighAlike, weights_in}
 use Rattle.row_laws.specs.Winners.{winners_in}
 use Rattle.cca_run.specs.Gives.{ones}
 
-pub ones-weigh : (book : Book) → IsWeighing book (ones book)
+pub ones-weigh : (book : Book) → AreWeights (bidders_of book) (ones book)
 ones-weigh book = record {
   long = length-replicate {A = ℕ} (bidders_of book) 1;
-  each = λ j some inside. (let e = get_or-replicate {A = ℕ} (bidders_of book) (j - 1) 1 0 (omega (arith, some, inside)) in (omega (arith, e), omega (arith, e)));
+  some = λ k lt. (let e = get_or-replicate {A = ℕ} (bidders_of book) k 1 0 lt in omega (arith, e));
+  most = λ k lt. (let e = get_or-replicate {A = ℕ} (bidders_of book) k 1 0 lt in omega (arith, e));
 }
 
 pub not_few_and_many : (z weights : List ℕ) → FewWin z weights → ManyWin z weights → ⊥

@@ -1,7 +1,8 @@
 // Prices of a book, with their certificate.
 ghost use Rattle.std.specs.Prelude.{◌≡◌, ℕ, [], ◌∷◌, IfOk, Err};
 ghost use Rattle.limits.specs.declared.LimitKind.{LimitKind};
-ghost use Rattle.cert_laws.specs.Weights.{IsWeighing};
+ghost use Rattle.auction_model.specs.Prices.{AreWeights};
+ghost use Rattle.cert_laws.specs.Tests.{bidders_of};
 ghost use Rattle.core_price.specs.declared.priced.PriceStop.{PriceStop};
 ghost use Rattle.cca_inputs.specs.Outcome.{done, stopped};
 ghost use Rattle.cca_inputs.specs.declared.status.FileKind.{FileKind};
@@ -41,7 +42,7 @@ fn price_texts(
     weights: &[u32],
     form: PriceForm,
 ) -> Result<PriceTexts, PriceStop>
-    requires { IsWeighing book.now weights.now }
+    requires { AreWeights (bidders_of book.now) weights.now }
     ensures done { IfOk result (λ p. PriceGives book.now weights.now form (done p.printed (cert_file p.cert ∷ []))) }
     ensures stop { (n : ℕ) → result ≡ Err (PriceStop.Winners n) → PriceGives book.now weights.now form (stopped (Status.Limit LimitKind.Winners n)) }
 {
@@ -74,7 +75,7 @@ pub fn price_weighed(
     weights: &[u32],
     form: PriceForm,
 ) -> Result<Work, Stop>
-    requires { IsWeighing book.now weights.now }
+    requires { AreWeights (bidders_of book.now) weights.now }
     ensures { IsWork (PriceGives book.now weights.now form) (FileKind.Cert ∷ []) result }
 {
     match price_texts(alloc, book, weights, form) {

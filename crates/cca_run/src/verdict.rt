@@ -1,7 +1,7 @@
 // The test of a certificate of a book.
 ghost use Rattle.std.specs.Prelude.{◌≡◌, ℕ, [], IfOk};
 ghost use Rattle.cert_laws.specs.Tests.{Holds, bidders_of, states};
-ghost use Rattle.cert_laws.specs.Weights.{IsWeighing};
+ghost use Rattle.auction_model.specs.Prices.{AreWeights};
 ghost use Rattle.cert_text.specs.CertValues.{cert_value, IsFor};
 ghost use Rattle.cca_run.specs.Gives.{IsYesText, VerdictGives, ones};
 ghost use Rattle.cca_run.specs.Works.{IsWork};
@@ -36,7 +36,7 @@ pub fn verdict_weighed(
     weights: &[u32],
 ) -> Result<Work, Stop>
     requires shape { IsFor (bidders_of book.now) (states book.now) cert.now }
-    requires weights { IsWeighing book.now weights.now }
+    requires weights { AreWeights (bidders_of book.now) weights.now }
     ensures { IsWork (VerdictGives book.now weights.now (cert_value cert.now)) [] result }
 {
     match check(book, cert, weights) {

@@ -3,8 +3,7 @@ ghost use Rattle.std.specs.Prelude.{◌≡◌, ◌<◌, ◌≤◌, ℕ};
 ghost use Rattle.cert_check.specs.Head.{HoldsUpTo};
 ghost use Rattle.cert_check.specs.Places.{IsFirstFailing};
 ghost use Rattle.cert_check.specs.Verdicts.{IsVerdict};
-ghost use Rattle.cert_laws.specs.Weights.{IsWeighing};
-ghost use Rattle.auction_model.specs.Prices.{weight_of};
+ghost use Rattle.auction_model.specs.Prices.{AreWeights, weight_of};
 ghost use Rattle.cert_laws.specs.Sound.{IsSound};
 ghost use Rattle.cert_laws.specs.Tests.{Asks, bidders_of, states};
 ghost use Rattle.cert_text.specs.CertValues.{IsFor, cert_value};
@@ -28,7 +27,7 @@ use cert_text::Certificate;
 /// weight of 1 to 20 for each bidder, and the certificate is for as many bidders and states as the book has. It takes no memory.
 pub fn check(book: &BidBook, cert: &Certificate, weights: &[u32]) -> Verdict
     requires shape { IsFor (bidders_of book.now) (states book.now) cert.now }
-    requires weights { IsWeighing book.now weights.now }
+    requires weights { AreWeights (bidders_of book.now) weights.now }
     ensures verdict { IsVerdict book.now (weight_of weights.now) (cert_value cert.now) result }
     ensures sound { result ≡ Verdict.Yes → IsSound book.now (weight_of weights.now) (cert_value cert.now) }
 {
@@ -44,7 +43,7 @@ pub fn check(book: &BidBook, cert: &Certificate, weights: &[u32]) -> Verdict
 /// The first place at which a test of 1 to 9 fails, once those before it hold.
 fn first_failing(book: &BidBook, cert: &Certificate, weights: &[u32], test: u8) -> Option<u64>
     requires shape { IsFor (bidders_of book.now) (states book.now) cert.now }
-    requires weights { IsWeighing book.now weights.now }
+    requires weights { AreWeights (bidders_of book.now) weights.now }
     requires test { (0 < test) × (test ≤ 9) }
     requires before { HoldsUpTo book.now (weight_of weights.now) (cert_value cert.now) test }
     ensures { IsFirstFailing (Asks book.now (weight_of weights.now) (cert_value cert.now) test) result }

@@ -4,8 +4,7 @@ ghost use Rattle.auction_model.specs.Book.{market_of};
 ghost use Rattle.auction_model.specs.Market.{uses, value_of};
 ghost use Rattle.cert_check.specs.Head.{HeadHolds};
 ghost use Rattle.cert_check.specs.Places.{IsFirstFailing};
-ghost use Rattle.cert_laws.specs.Weights.{IsWeighing};
-ghost use Rattle.auction_model.specs.Prices.{weight_of};
+ghost use Rattle.auction_model.specs.Prices.{AreWeights, weight_of};
 ghost use Rattle.cert_form.specs.Certificate.{part_of};
 ghost use Rattle.cert_laws.specs.Tests.{C4, C7, C8, IsPart, bidders_of, states, vickrey_of};
 ghost use Rattle.cert_text.specs.CertValues.{IsFor, cert_value};
@@ -54,7 +53,7 @@ fn first_holds(book: &BidBook, cert: &Certificate, place: u16) -> bool
 /// The first place at which C8 fails.
 pub(crate) fn second_test(book: &BidBook, cert: &Certificate, weights: &[u32]) -> Option<u64>
     requires shape { IsFor (bidders_of book.now) (states book.now) cert.now }
-    requires weights { IsWeighing book.now weights.now }
+    requires weights { AreWeights (bidders_of book.now) weights.now }
     requires head { HeadHolds book.now (cert_value cert.now) }
     requires parts { (place : ℕ) → C4 book.now (cert_value cert.now) place }
     ensures { IsFirstFailing (C8 book.now (weight_of weights.now) (cert_value cert.now)) result }
@@ -71,7 +70,7 @@ pub(crate) fn second_test(book: &BidBook, cert: &Certificate, weights: &[u32]) -
 /// Whether C8 holds at a place: a row's sign, or a winner's sum.
 fn second_holds(book: &BidBook, cert: &Certificate, weights: &[u32], place: u16) -> bool
     requires shape { IsFor (bidders_of book.now) (states book.now) cert.now }
-    requires weights { IsWeighing book.now weights.now }
+    requires weights { AreWeights (bidders_of book.now) weights.now }
     requires head { HeadHolds book.now (cert_value cert.now) }
     requires parts { (q : ℕ) → C4 book.now (cert_value cert.now) q }
     requires place { (0 < place) × (place ≤ length cert.now.rows + bidders_of book.now) }

@@ -1,19 +1,19 @@
 -- C7 shows that no core point has a smaller sum than the payments, and C8 that each other one of their sum is farther from the Vickrey prices.
-use Rattle.std.specs.Prelude.{◌≡◌, ℕ, zero, suc, ◌+◌, ◌≤◌, ◌<◌, Bool, false, cond, IsTrue, IsFalse, length, ℤ, pos, ◌-ℤ◌, ◌*ℤ◌, refl, if◌then◌else◌}
+use Rattle.std.specs.Prelude.{◌≡◌, ℕ, zero, suc, ◌+◌, ◌-◌, ◌≤◌, ◌<◌, Bool, false, cond, IsTrue, IsFalse, length, slice_index_or, List, ℤ, pos, ◌-ℤ◌, ◌*ℤ◌, refl, if◌then◌else◌}
 use Rattle.std.proofs.Common.{inl, inr, sym, ◌∙◌, ap, arith}
 use Rattle.std.proofs.lemmas.Bool.{false≢true, cases_Bool, false_from_ne_true}
 use Rattle.std.proofs.lemmas.Int.{ints}
 use Rattle.auction_model.specs.Market.{uses}
 use Rattle.auction_model.specs.Lowered.{of_bidder}
 use Rattle.auction_model.specs.Book.{Book, market_of}
-use Rattle.auction_model.specs.Prices.{Point, AreWeights, IsCorePoint, AreVickreyPrices, IsLeastSum, IsNearest, share, square_distance}
+use Rattle.auction_model.specs.Prices.{Point, AreWeights, IsCorePoint, AreVickreyPrices, IsLeastSum, IsNearest, share, square_distance, weight_of}
 use Rattle.auction_model.proofs.PriceLaws.{vickrey-one}
 use Rattle.wide_num.specs.Sums.{total, dot}
 use Rattle.wide_num.proofs.Sums.{total-zero}
 use Rattle.point_laws.specs.Points.{SamePoint, square_distance as distance_to}
 use Rattle.point_laws.specs.Multipliers.{AreFirst, AreSecond, AreShares, SumsToOrStands}
 use Rattle.point_laws.proofs.PointLaws.{least, nearest, times_zero}
-use Rattle.point_laws.proofs.Shares.{share-positive, share-whole}
+use Rattle.auction_model.proofs.Shares.{share-positive, share-whole}
 use Rattle.row_laws.proofs.Excess.{everyone-is}
 use Rattle.cert_form.specs.Certificate.{CertValue, is_member, row_of}
 use Rattle.cert_laws.specs.Tests.{bidders_of, C1, C5, C6, C7, C8, vickrey_of}
@@ -40,11 +40,11 @@ share_from w j = share (w (suc j))
 pub distance-is : (book : Book) (w : ℕ → ℕ) (v : ℕ → ℤ) (p : Point) → square_distance (market_of book) w v p ≡ distance_to (bidders_of book) (share_from w) (λ j. v (suc j)) p.den (from_zero p)
 distance-is book w v p = everyone-is (λ j. share (w j) *ℤ ((of_bidder p.at j -ℤ (p.den *ℤ v j)) *ℤ (of_bidder p.at j -ℤ (p.den *ℤ v j)))) (bidders_of book)
 
-pub shares : (book : Book) (w : ℕ → ℕ) → AreWeights (market_of book) w → AreShares (bidders_of book) (pos 232792560) (share_from w) (weight_from w)
-shares book w are = record {
+pub shares : (book : Book) (weights : List ℕ) → AreWeights (bidders_of book) weights → AreShares (bidders_of book) (pos 232792560) (share_from (weight_of weights)) (weight_from (weight_of weights))
+shares book weights are = record {
   not_negative = omega (arith, ints);
-  positive = λ j lt. (let h = are (suc j) (omega arith) (omega (arith, lt)) in share-positive (w (suc j)) h.0 h.1);
-  whole = λ j lt. (let h = are (suc j) (omega arith) (omega (arith, lt)) in share-whole (w (suc j)) h.0 h.1);
+  positive = λ j lt. (let b : suc j - 1 ≡ j = omega arith in rw b (share-positive (slice_index_or weights j 0) (are.some j lt) (are.most j lt)));
+  whole = λ j lt. (let b : suc j - 1 ≡ j = omega arith in rw b (share-whole (slice_index_or weights j 0) (are.some j lt) (are.most j lt)));
 }
 
 -- points that are the same from 1 are the same from 0
@@ -52,7 +52,7 @@ pub same-from_zero : (book : Book) (p q : Point) → SamePoint (bidders_of book)
 same-from_zero book p q same zero some le = absurd (omega (arith, some))
 same-from_zero book p q same (suc j) some le = sym (same j (omega (arith, le)))
 
-module _ (book : Book) (w : ℕ → ℕ) (are : AreWeights (market_of book) w) (c : CertValue) (h1 : (place : ℕ) → C1 c place) (h5 : (place : ℕ) → C5 book c place) (h6 : (place : ℕ) → C6 book c place) (h7 : (place : ℕ) → C7 book c place) where
+module _ (book : Book) (w : ℕ → ℕ) (own : AreShares (bidders_of book) (pos 232792560) (share_from w) (weight_from w)) (c : CertValue) (h1 : (place : ℕ) → C1 c place) (h5 : (place : ℕ) → C5 book c place) (h6 : (place : ℕ) → C6 book c place) (h7 : (place : ℕ) → C7 book c place) where
   firsts : AreFirst (bidders_of book) (length c.rows) (coefficient c.rows) (bound book c) c.den (from_zero (cert_point c)) (first c)
   firsts = record {
     positive = (let p = (h1 1).den refl in omega (arith, ints, p));
@@ -118,7 +118,7 @@ module _ (book : Book) (w : ℕ → ℕ) (are : AreWeights (market_of book) w) (
         let p = cert_point c in
         let totals : c.den *ℤ total n (from_zero q) ≡ q.den *ℤ total n (from_zero p) =
         ap (λ (z : ℤ). c.den *ℤ z) (sym (everyone-is (of_bidder q.at) n)) ∙ sym same ∙ ap (λ (z : ℤ). q.den *ℤ z) (everyone-is (of_bidder c.pay) n) in
-        let far = nearest n (length c.rows) (coefficient c.rows) (bound book c) c.den (from_zero p) (first c) (second c) (λ j. v (suc j)) (weight_from w) (pos 232792560) (share_from w) firsts seconds (shares book w are) q.den (from_zero q)
+        let far = nearest n (length c.rows) (coefficient c.rows) (bound book c) c.den (from_zero p) (first c) (second c) (λ j. v (suc j)) (weight_from w) (pos 232792560) (share_from w) firsts seconds own q.den (from_zero q)
         (meets book c h6 q point, sums q point) totals (λ all. other (same-from_zero book p q all)) in
         let a = ap (λ (z : ℤ). (q.den *ℤ q.den) *ℤ z) (distance-is book w v p) in
         let b = ap (λ (z : ℤ). (c.den *ℤ c.den) *ℤ z) (distance-is book w v q) in

@@ -2,5 +2,4 @@ pub mod MarketTests
 pub mod Tests
 pub mod Sound
 pub mod Priced
-pub mod Weights
 pub mod BookSizes

@@ -11,7 +11,7 @@ ghost use Rattle.std.specs.Prelude.{◌≡◌, ◌≤◌, ◌<◌, ℕ, List, �
 ghost use Rattle.auction_model.specs.Book.{Book, net_of, menu_of, market_of};
 ghost use Rattle.auction_model.specs.Lowered.{lowered};
 ghost use Rattle.auction_model.specs.Menu.{without};
-ghost use Rattle.auction_model.specs.Prices.{AreWeights};
+ghost use Rattle.auction_model.specs.Prices.{AreWeights, weight_of};
 ghost use Rattle.auction_model.specs.Table.{IsExactTable};
 ghost use Rattle.row_laws.specs.Surplus.{surpluses_of};
 ghost use Rattle.cert_form.specs.Certificate.{CertValue};
@@ -31,8 +31,8 @@ ghost use Rattle.cert_laws.specs.Tests.{Obeys, bidders_of, states, C5, lowered_n
 /// programming, Bulletin of the American Mathematical Society 60, 1954), and multipliers show a least sum and a least
 /// square distance (Kuhn and Tucker, Nonlinear programming, 1951).
 pub fn sound_yes()
-    ensures { (book : Book) (w : ℕ → ℕ) (c : CertValue) → AreWeights (market_of book) w → length c.choice ≡ bidders_of book → length c.pay ≡ bidders_of book
-        → Holds book w c → IsSound book w c }
+    ensures { (book : Book) (weights : List ℕ) (c : CertValue) → AreWeights (bidders_of book) weights → length c.choice ≡ bidders_of book → length c.pay ≡ bidders_of book
+        → Holds book (weight_of weights) c → IsSound book (weight_of weights) c }
 {}
 
 /// A certificate has at most one verdict: not both that all tests hold and that one fails first, and at most one place of one test at which

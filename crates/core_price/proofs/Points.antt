@@ -12,7 +12,7 @@ use Rattle.nearest_point.specs.Problem.{bounds, coefficients, row_at, share_at, 
 use Rattle.point_laws.specs.Multipliers.{AreFirst, AreSecond, AreShares, SumsTo}
 use Rattle.point_laws.specs.Points.{MeetsRows, SamePoint as SameNumbers, square_distance as distance}
 use Rattle.point_laws.proofs.PointLaws.{least, nearest, at_each}
-use Rattle.point_laws.proofs.Shares.{share-positive, share-whole}
+use Rattle.auction_model.proofs.Shares.{share-positive, share-whole}
 use Rattle.row_laws.specs.Rows.{Meets}
 use Rattle.row_laws.specs.Surplus.{AsksWinnersOnly}
 use Rattle.row_laws.specs.Winners.{for_bidders, for_winners, winners_in}

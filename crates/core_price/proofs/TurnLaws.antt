@@ -21,7 +21,8 @@ use Rattle.blocking.specs.declared.look.Block.{Block}
 use Rattle.blocking.specs.Look.{IsBlock}
 use Rattle.far_num.specs.Members.{holds}
 use Rattle.far_num.specs.declared.Row.{Row}
-use Rattle.nearest_point.specs.Problem.{AreOnes, AreWeights, IsNarrow, bounds, coefficients, row_at}
+use Rattle.auction_model.specs.Prices.{AreWeights}
+use Rattle.nearest_point.specs.Problem.{AreOnes, IsNarrow, bounds, coefficients, row_at}
 use Rattle.nearest_point.proofs.Bits.{dot_single, holds_nonneg}
 use Rattle.nearest_point.proofs.Places.{lt_or}
 use Rattle.point_laws.proofs.Order.{mul_nonneg, cancel_nonneg}

@@ -31,19 +31,18 @@ weights-at (suc n ∷ z) (w ∷ ws) (suc i) lt = weights-at z ws i (omega arith)
 pub weight-is : (ws : List ℕ) (k : ℕ) → weight_of ws (suc k) ≡ get_or ws k 0
 weight-is ws k = let b : suc k - 1 ≡ k = omega arith in rw b refl
 
-pub can-weigh : (m : Market) (z ws : List ℕ) → length z ≡ m.bidders → length ws ≡ m.bidders → AreWeights m (weight_of ws) → CanWeigh m z ws
-can-weigh m z ws len long are = record {
-  long = long;
+pub can-weigh : (m : Market) (z ws : List ℕ) → length z ≡ m.bidders → AreWeights m.bidders ws → CanWeigh m z ws
+can-weigh m z ws len are = record {
+  long = are.long;
   own = record { long = weights-count z ws; some = λ i lt. (at i lt).0; most = λ i lt. (at i lt).1 };
 }
   where
     at : (i : ℕ) → i < winners_in z → (1 ≤ get_or (weights_in z ws) i 0) × (get_or (weights_in z ws) i 0 ≤ 20)
     at i lt =
         let s = spot-inside z i lt in
-        let h = are (suc (spot z i)) (omega arith) (omega (arith, s, len)) in
-        let e = weight-is ws (spot z i) in
+        let inside : spot z i < m.bidders = omega (arith, s, len) in
         let d = weights-at z ws i lt in
-        (omega (arith, h.0, e, d), omega (arith, h.1, e, d))
+        rw d (are.some (spot z i) inside, are.most (spot z i) inside)
 
 -- a sum over all bidders, where losers count nothing, is one over the winners
 pub sum-spots : (z : List ℕ) (f t : ℕ → ℤ) → ((i : ℕ) → i < winners_in z → f (spot z i) ≡ t i) → ((k : ℕ) → k < length z → uses z (suc k) ≡ false → f k ≡ pos 0) → total (length z) f ≡ total (winners_in z) t

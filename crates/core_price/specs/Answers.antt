@@ -3,7 +3,8 @@ use Rattle.std.specs.Prelude.{◌≡◌, ◌⊎◌, ℕ, ◌^◌, ◌≤◌, Lis
 use Rattle.far_num.specs.declared.Row.{Row}
 use Rattle.limits.specs.declared.TheConstants.{MOST_WINNERS}
 use Rattle.nearest_point.specs.Numbers.{AreBelow, pairs_used}
-use Rattle.nearest_point.specs.Problem.{AreBounds, AreOnes, AreTargets, AreWeights, HasMembers, HasSingles, IsNarrow, bounds, coefficients, weight_at}
+use Rattle.auction_model.specs.Prices.{AreWeights}
+use Rattle.nearest_point.specs.Problem.{AreBounds, AreOnes, AreTargets, HasMembers, HasSingles, IsNarrow, bounds, coefficients, weight_at}
 use Rattle.point_laws.specs.Multipliers.{AreFirst, AreSecond, SumsTo}
 use Rattle.point_laws.specs.Points.{MeetsRows}
 use Rattle.wide_num.specs.Sums.{nth}

@@ -2,7 +2,8 @@
 use Rattle.std.specs.Prelude.{◌≡◌, ℕ, zero, suc, ◌<◌, ◌≤◌, ◌⊎◌, List, [], ◌∷◌, length}
 use Rattle.auction_model.specs.Market.{Market}
 use Rattle.limits.specs.declared.TheConstants.{MOST_WEIGHTED_WINNERS, MOST_WINNERS}
-use Rattle.nearest_point.specs.Problem.{AreOnes, AreWeights}
+use Rattle.auction_model.specs.Prices.{AreWeights}
+use Rattle.nearest_point.specs.Problem.{AreOnes}
 use Rattle.row_laws.specs.Winners.{winners_in}
 
 -- a weight for each bidder as a weight for each winner, in order

@@ -2,7 +2,7 @@
 #![tactic(auto)]
 
 ghost use Rattle.auction_model.specs.Market.{value_of};
-ghost use Rattle.auction_model.specs.Prices.{AreWeights, weight_of};
+ghost use Rattle.auction_model.specs.Prices.{AreWeights};
 ghost use Rattle.choices.specs.Singles.{AreSingles};
 ghost use Rattle.core_price.specs.Priced.{IsPriced};
 ghost use Rattle.core_price.specs.Stops.{IsStop};
@@ -59,7 +59,7 @@ pub fn price<C: Chooser>(
     weights: &[u32],
 ) -> Result<Priced<C::Table>, PriceStop>
     requires singles { AreSingles (C.market chooser.now) (C.chosen chooser.now) singles.now }
-    requires weights { (length weights.now ≡ (C.market chooser.now).bidders) × AreWeights (C.market chooser.now) (weight_of weights.now) }
+    requires weights { AreWeights (C.market chooser.now).bidders weights.now }
     requires members { (C.market chooser.now).bidders ≤ 64 }
     requires worth { value_of (C.market chooser.now) (C.chosen chooser.now) ≤ℤ pos (winners_in (C.chosen chooser.now) * MOST_AMOUNT) }
     ensures priced { IfOk result (IsPriced (C.market chooser.now) (C.chosen chooser.now) weights.now singles.now) }
@@ -82,7 +82,7 @@ fn few_priced<C: Chooser>(
     weights: &[u32],
 ) -> Result<Priced<C::Table>, AllocError>
     requires singles { AreSingles (C.market chooser.now) (C.chosen chooser.now) singles.now }
-    requires weights { (length weights.now ≡ (C.market chooser.now).bidders) × AreWeights (C.market chooser.now) (weight_of weights.now) }
+    requires weights { AreWeights (C.market chooser.now).bidders weights.now }
     requires members { (C.market chooser.now).bidders ≤ 64 }
     requires worth { value_of (C.market chooser.now) (C.chosen chooser.now) ≤ℤ pos (winners_in (C.chosen chooser.now) * MOST_AMOUNT) }
     requires few { FewWin (C.chosen chooser.now) weights.now }

@@ -40,6 +40,9 @@ pub const BOOK_BYTES: u64 = 1_048_576;
 /// The most bytes of a certificate file.
 pub const CERT_BYTES: u64 = 67_108_864;
 
+/// The most bytes of a file of weights.
+pub const WEIGHTS_BYTES: u64 = 65_536;
+
 /// The most categories of a supply.
 pub const MOST_CATEGORIES: usize = 6;
 
@@ -78,6 +81,9 @@ pub const MOST_PRICE: u64 = 68_719_476_736;
 
 /// The greatest amount of a bid, reserve included: 2^42.
 pub const MOST_AMOUNT: u64 = 4_398_046_511_104;
+
+/// The greatest weight of a bidder.
+pub const MOST_WEIGHT: u64 = 20;
 
 /// The most winners that are priced.
 pub const MOST_WINNERS: usize = 6;

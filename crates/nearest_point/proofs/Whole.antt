@@ -11,10 +11,11 @@ use Rattle.point_laws.proofs.Sums.{term-le}
 use Rattle.point_laws.specs.Points.{IsNearestTo, HasLeastSum, MeetsRows}
 use Rattle.point_laws.specs.Multipliers.{AreShares}
 use Rattle.point_laws.proofs.PointLaws.{at_each, least, nearest}
-use Rattle.point_laws.proofs.Shares.{share-positive, share-whole}
+use Rattle.auction_model.proofs.Shares.{share-positive, share-whole}
 use Rattle.nearest_point.specs.declared.settle.Held.{Held}
 use Rattle.nearest_point.specs.Numbers.{AreBelow, large, place, spread}
-use Rattle.nearest_point.specs.Problem.{AreBounds, AreWeights, HasMembers, HasSingles, bounds, coefficients, row_at, share_at, weight_at}
+use Rattle.auction_model.specs.Prices.{AreWeights}
+use Rattle.nearest_point.specs.Problem.{AreBounds, HasMembers, HasSingles, bounds, coefficients, row_at, share_at, weight_at}
 use Rattle.nearest_point.specs.Found.{HasParts, IsNear, IsOwed}
 use Rattle.nearest_point.proofs.Answer.{Answer, answer}
 use Rattle.nearest_point.proofs.Bits.{holds_nonneg, dot_single, met_by_all}

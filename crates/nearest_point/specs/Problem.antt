@@ -1,7 +1,7 @@
 -- What the search for the nearest point is given: targets, weights, and rows as sets of bits with bounds.
+use Rattle.auction_model.specs.Prices.{AreWeights, share}
 use Rattle.far_num.specs.Members.{holds}
 use Rattle.far_num.specs.declared.Row.{Row}
-use Rattle.point_laws.specs.Points.{share}
 use Rattle.std.specs.Prelude.{List, length, pos, slice_index_or, ℕ, ℤ, ◌<◌, ◌^◌, ◌≡◌, ◌≤ℤ◌, ◌≤◌, ◌⊎◌}
 use Rattle.wide_num.specs.Sums.{nth, total}
 
@@ -19,12 +19,6 @@ coefficients rows i = holds (row_at rows i).members
 
 abbrev pub bounds : List Row → ℕ → ℤ
 bounds rows i = (row_at rows i).bound
-
--- one weight of 1 to 20 for each of m coordinates
-pub record AreWeights (m : ℕ) (weights : List ℕ) : Type 0 where
-  pub long : length weights ≡ m
-  pub some : (j : ℕ) → j < m → 1 ≤ slice_index_or weights j 0
-  pub most : (j : ℕ) → j < m → slice_index_or weights j 0 ≤ 20
 
 -- the weight of each coordinate is 1
 abbrev pub AreOnes : ℕ → List ℕ → Type 0

@@ -5,7 +5,8 @@
 //! are pairs: the far part is the first multiplier, the near part the second.
 #![tactic(auto)]
 
-ghost use Rattle.nearest_point.specs.Problem.{AreBounds, AreOnes, AreTargets, AreWeights, HasMembers, HasSingles, IsNarrow, bounds, coefficients, share_at, weight_at};
+ghost use Rattle.auction_model.specs.Prices.{AreWeights};
+ghost use Rattle.nearest_point.specs.Problem.{AreBounds, AreOnes, AreTargets, HasMembers, HasSingles, IsNarrow, bounds, coefficients, share_at, weight_at};
 ghost use Rattle.nearest_point.specs.Found.{HasParts, IsNear};
 ghost use Rattle.nearest_point.specs.Numbers.{AreBelow, pairs_used};
 ghost use Rattle.point_laws.specs.Multipliers.{AreFirst, AreSecond, SumsTo};

@@ -1,6 +1,7 @@
 ghost use Rattle.nearest_point.specs.Found.{AreMultipliers, AreWithin, HasParts, IsLowered, IsNear, IsPart, point_at, row_of};
 ghost use Rattle.nearest_point.specs.Numbers.{AreBelow};
-ghost use Rattle.nearest_point.specs.Problem.{AreWeights, IsProblem, bounds, coefficients, weight_at};
+ghost use Rattle.auction_model.specs.Prices.{AreWeights};
+ghost use Rattle.nearest_point.specs.Problem.{IsProblem, bounds, coefficients, weight_at};
 ghost use Rattle.nearest_point.specs.Search.{Independent};
 ghost use Rattle.std.specs.Prelude.{IfOk, IsTrue, length, not, pos, unsigned_abs, ℕ, ◌*ℤ◌, ◌*◌, ◌+ℤ◌, ◌<ℤ◌, ◌<◌, ◌^◌, ◌≡◌, ◌≤ℤ◌, ◌≤◌};
 ghost use Rattle.wide_num.specs.Sums.{dot, nth, total};

@@ -1,5 +1,4 @@
 pub mod Order
 pub mod PointLaws
 pub mod Ring
-pub mod Shares
 pub mod Sums

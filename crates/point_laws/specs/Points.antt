@@ -1,6 +1,6 @@
 -- Points over a denominator, rows that ask for a sum, and the point of least sum that is nearest to a target. There are m
 -- coordinates and r rows; row i has the coefficients `a i` and the number `bound i`.
-use Rattle.std.specs.Prelude.{pos, ℕ, ℤ, ◌/◌, ◌*ℤ◌, ◌-ℤ◌, ◌<◌, ◌<ℤ◌, ◌≡◌, ◌≤ℤ◌}
+use Rattle.std.specs.Prelude.{pos, ℕ, ℤ, ◌*ℤ◌, ◌-ℤ◌, ◌<◌, ◌<ℤ◌, ◌≡◌, ◌≤ℤ◌}
 use Rattle.wide_num.specs.Sums.{dot, total}
 
 -- the point x over e has at least the bound over each row
@@ -19,10 +19,6 @@ SamePoint m d n e x = (j : ℕ) → j < m → d *ℤ x j ≡ e *ℤ n j
 -- of these points none has a smaller sum than n over d
 abbrev pub HasLeastSum : ℕ → (ℤ → (ℕ → ℤ) → Type 0) → ℤ → (ℕ → ℤ) → Type 0
 HasLeastSum m Among d n = (e : ℤ) (x : ℕ → ℤ) → Among e x → (e *ℤ total m n) ≤ℤ (d *ℤ total m x)
-
--- how often a square counts whose coordinate has a weight of 1 to 20: the least number that 1 to 20 all divide, over the weight
-abbrev pub share : ℕ → ℤ
-share weight = pos (232792560 / weight)
 
 -- the squares of what x over e is off the target, each counted as often as the share of its coordinate says, times the square of e
 abbrev pub square_distance : ℕ → (ℕ → ℤ) → (ℕ → ℤ) → ℤ → (ℕ → ℤ) → ℤ

@@ -1,4 +1,5 @@
-use Rattle.auction_model.proofs.WeightLaws.{share-whole, plain-distance}
+use Rattle.auction_model.proofs.Shares.{share-whole}
+use Rattle.auction_model.proofs.WeightLaws.{plain-distance}
 use Rattle.auction_model.proofs.weighted_distance.Goals as goal
 
 pub returns-clause-share : goal.returns-clause-share

@@ -28,7 +28,7 @@ take_turns-requires-clause-can g c =
     let lawful = g.met.C.Chooser.lawful c.args.chooser.now in
     let win = g.met.C.Chooser.winning c.args.chooser.now in
     let ws = c.args.weights.now in
-    rw (c.deref.ensures.value, c.in_ok-prices.ensures) (can-turn m lawful z win c.args.singles.now c.requires.singles c.requires.few.0 c.requires.worth c.requires.members ws c.requires.few (can-weigh m z ws (lawful.lengths z win.passed) c.requires.weights.0 c.requires.weights.1))
+    rw (c.deref.ensures.value, c.in_ok-prices.ensures) (can-turn m lawful z win c.args.singles.now c.requires.singles c.requires.few.0 c.requires.worth c.requires.members ws c.requires.few (can-weigh m z ws (lawful.lengths z win.passed) c.requires.weights))
 
 pub take_turns-requires-clause-start : goal.take_turns-requires-clause-start
 take_turns-requires-clause-start g c =
@@ -47,7 +47,7 @@ returns-clause-priced g c =
     let singles = c.args.singles.now in
     let ws = c.args.weights.now in
     let prices = prices_of singles in
-    let can : CanTurn m z prices ws = can-turn m lawful z win singles c.requires.singles c.requires.few.0 c.requires.worth c.requires.members ws c.requires.few (can-weigh m z ws (lawful.lengths z win.passed) c.requires.weights.0 c.requires.weights.1) in
+    let can : CanTurn m z prices ws = can-turn m lawful z win singles c.requires.singles c.requires.few.0 c.requires.worth c.requires.members ws c.requires.few (can-weigh m z ws (lawful.lengths z win.passed) c.requires.weights) in
     let e = c.in_ok-near.field-0 in
     let rows = e.asked.rows.items in
     let choices = e.asked.choices.items in

@@ -12,7 +12,7 @@ many_win-requires-clause-long g c =
     let z = g.C.Chooser.chosen c.args.chooser.now in
     let lawful = g.met.C.Chooser.lawful c.args.chooser.now in
     let win = g.met.C.Chooser.winning c.args.chooser.now in
-    c.requires.weights.0 ∙ sym (lawful.lengths z win.passed) ∙ ap length (sym c.winners.ensures)
+    c.requires.weights.long ∙ sym (lawful.lengths z win.passed) ∙ ap length (sym c.winners.ensures)
 
 pub many_win-requires-clause-count : goal.many_win-requires-clause-count
 many_win-requires-clause-count g c =

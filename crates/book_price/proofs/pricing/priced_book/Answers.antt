@@ -21,7 +21,7 @@ price-requires-clause-worth c =
     rw (c.new-chooser.ensures.book, same) (value-most c.args.book.now c.args.winners c.bidders-bidders.ensures.kept.most c.requires.winners.passed)
 
 pub price-requires-clause-weights : goal.price-requires-clause-weights
-price-requires-clause-weights c = rw c.new-chooser.ensures.book (c.requires.weights.long, c.requires.weights.each)
+price-requires-clause-weights c = rw c.new-chooser.ensures.book c.requires.weights
 
 pub certificate-requires : goal.certificate-requires
 certificate-requires c = (

@@ -2,13 +2,14 @@ use Rattle.std.proofs.Common.{◌≡◌, ◌∙◌, ◌-◌, ℕ, ap, arith, len
 use Rattle.std.proofs.lemmas.List.{get_or-replicate, length-replicate}
 use Rattle.auction_model.specs.Book.{Book}
 use Rattle.cert_laws.specs.Tests.{bidders_of}
-use Rattle.cert_laws.specs.Weights.{IsWeighing}
+use Rattle.auction_model.specs.Prices.{AreWeights}
 use Rattle.book_price.proofs.tests.priced_alike.Goals as goal
 
-ones : (book : Book) (weights : List ℕ) → weights ≡ replicate (bidders_of book) 1 → IsWeighing book weights
-ones book weights e = subst (IsWeighing book) (sym e) (record {
+ones : (book : Book) (weights : List ℕ) → weights ≡ replicate (bidders_of book) 1 → AreWeights (bidders_of book) weights
+ones book weights e = subst (AreWeights (bidders_of book)) (sym e) (record {
   long = length-replicate {A = ℕ} (bidders_of book) 1;
-  each = λ j some inside. (let d = get_or-replicate {A = ℕ} (bidders_of book) (j - 1) 1 0 (omega (arith, some, inside)) in (omega (arith, d), omega (arith, d)));
+  some = λ k lt. (let d = get_or-replicate {A = ℕ} (bidders_of book) k 1 0 lt in omega (arith, d));
+  most = λ k lt. (let d = get_or-replicate {A = ℕ} (bidders_of book) k 1 0 lt in omega (arith, d));
 })
 
 pub price_book-requires : goal.price_book-requires

@@ -1,4 +1,4 @@
-use Rattle.std.proofs.Common.{◌≡◌, ◌∙◌, ◌-◌, arith, length, rules}
+use Rattle.std.proofs.Common.{◌≡◌, ◌∙◌, arith, length, rules}
 use Rattle.cert_laws.specs.Tests.{bidders_of}
 use Rattle.book_price.proofs.tests.priced_by.Goals as goal
 
@@ -7,5 +7,6 @@ price_book-requires g c =
     let long : length c.args.weights.now ≡ bidders_of c.args.book.now = search rules in
     record {
       long = long;
-      each = λ j some inside. c.are_weights.ensures (search rules) (j - 1) (omega (arith, some, inside, long));
+      some = λ k inside. (c.are_weights.ensures (search rules) k (omega (arith, inside, long))).0;
+      most = λ k inside. (c.are_weights.ensures (search rules) k (omega (arith, inside, long))).1;
     }

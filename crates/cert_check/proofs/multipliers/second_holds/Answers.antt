@@ -84,4 +84,5 @@ pub is_times-requires : goal.is_times-requires
 is_times-requires c =
     let count = count-same c.args.cert.now.rows c.items-rows.result.now c.items-rows.ensures in
     let all = count-same c.args.cert.now.rows c.args.cert.now.rows refl in
-    c.requires.weights.each (c.args.place - length c.items-rows.result.now) (omega arith) (omega (arith, count, all, c.requires.place.1))
+    let inside : c.args.place - length c.items-rows.result.now - 1 < bidders_of c.args.book.now = omega (arith, count, all, c.requires.place.1) in
+    (c.requires.weights.some _ inside, c.requires.weights.most _ inside)

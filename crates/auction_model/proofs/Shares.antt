@@ -2,7 +2,7 @@
 use Rattle.std.proofs.Common.{◌≡◌, ℕ, zero, suc, ◌≤◌, arith, refl}
 use Rattle.std.specs.Prelude.{pos, ◌*ℤ◌, ◌<ℤ◌}
 use Rattle.std.proofs.lemmas.Int.{ints}
-use Rattle.point_laws.specs.Points.{share}
+use Rattle.auction_model.specs.Prices.{share}
 
 -- what holds of each number from 1 to 20 holds of a weight
 each : (P : ℕ → Type 0) → P 1 → P 2 → P 3 → P 4 → P 5 → P 6 → P 7 → P 8 → P 9 → P 10 → P 11 → P 12 → P 13 → P 14 → P 15 → P 16 → P 17 → P 18 → P 19 → P 20 → (n : ℕ) → 1 ≤ n → n ≤ 20 → P n
