@@ -1,5 +1,5 @@
 -- All tests together: a certificate that passes them is sound.
-use Rattle.std.specs.Prelude.{◌≡◌, ℕ, length}
+use Rattle.std.specs.Prelude.{◌≡◌, ℕ, List, length}
 use Rattle.auction_model.specs.Book.{Book}
 use Rattle.auction_model.specs.Prices.{AreWeights, weight_of}
 use Rattle.cert_form.specs.Certificate.{CertValue}
