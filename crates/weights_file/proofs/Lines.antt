@@ -1,0 +1,67 @@
+-- The lines of weights: they have no line feed, and each says one weight.
+use Rattle.std.proofs.Common.{inl, inr, ◌≡◌, ◌≢◌, ℕ, zero, suc, ◌+◌, ◌-◌, ◌≤◌, ◌<◌, ◌^◌, None, List, [], ◌∷◌, ◌++◌, length, get_or, refl, sym, ap, ◌∙◌, arith}
+use Rattle.std.specs.Prelude.{codes}
+use Rattle.std.specs.List.{AllByRecursion}
+use Rattle.std.specs.Fmt.{decimal}
+use Rattle.std.proofs.lemmas.List.{append_cancel_left}
+use Rattle.wide_num.proofs.Decimal.{decimal_one, numeral_decimal, AreDigits}
+use Rattle.line_text.specs.LineText.{IsLine}
+use Rattle.auction_model.specs.Book.{Bidder, Book, bidder_of, no_bidder}
+use Rattle.book_form.specs.BookForm.{AreBidders, IsName, IsNameByte}
+use Rattle.weights_file.specs.WeightsForm.{IsWeight, Line, weight_line, weight_lines}
+
+digits_line : (ds : List ℕ) → AreDigits ds → IsLine ds
+digits_line [] all = tt
+digits_line (d ∷ ds) all = ((λ is. absurd (omega (arith, all.0))), digits_line ds all.1)
+
+line_append : (xs ys : List ℕ) → IsLine xs → IsLine ys → IsLine (xs ++ ys)
+line_append [] ys x y = y
+line_append (c ∷ xs) ys x y = (x.0, line_append xs ys x.1 y)
+
+name_byte : (c : ℕ) → IsNameByte c → c ≢ 10
+name_byte c (inl letter) is = omega arith
+name_byte c (inr (inl digit)) is = omega arith
+name_byte c (inr (inr low)) is = omega arith
+
+name_bytes : (cs : List ℕ) → AllByRecursion IsNameByte cs → IsLine cs
+name_bytes [] all = tt
+name_bytes (c ∷ cs) all = (name_byte c all.0, name_bytes cs all.1)
+
+name_line : (name : List ℕ) → IsName name → IsLine name
+name_line [] is = absurd is
+name_line (c ∷ cs) is = ((λ feed. omega (arith, is.0)), name_bytes cs is.1)
+
+weight_word : IsLine (codes "weight ")
+weight_word = ((λ is. absurd (omega arith)), ((λ is. absurd (omega arith)), ((λ is. absurd (omega arith)), ((λ is. absurd (omega arith)), ((λ is. absurd (omega arith)), ((λ is. absurd (omega arith)), ((λ is. absurd (omega arith)), tt)))))))
+
+pub first_word : IsLine (codes "weights 1")
+first_word = ((λ is. absurd (omega arith)), ((λ is. absurd (omega arith)), ((λ is. absurd (omega arith)), ((λ is. absurd (omega arith)), ((λ is. absurd (omega arith)), ((λ is. absurd (omega arith)), ((λ is. absurd (omega arith)), ((λ is. absurd (omega arith)), ((λ is. absurd (omega arith)), tt)))))))))
+
+pub end_word : IsLine (codes "end")
+end_word = ((λ is. absurd (omega arith)), ((λ is. absurd (omega arith)), ((λ is. absurd (omega arith)), tt)))
+
+pub weight_feeds : (name : List ℕ) (w : ℕ) → IsName name → IsWeight w → IsLine (weight_line name w).0
+weight_feeds name w is weight =
+    line_append (codes "weight ") (name ++ 32 ∷ decimal w) weight_word
+    (line_append name (32 ∷ decimal w) (name_line name is) ((λ feed. absurd (omega arith)), digits_line (decimal w) (numeral_decimal w (omega (arith, weight.1))).digits))
+
+pub weight_one : (name : List ℕ) (v w : ℕ) → IsWeight v → IsWeight w → (weight_line name v).0 ≡ (weight_line name w).0 → v ≡ w
+weight_one name v w first second is =
+    let behind : name ++ 32 ∷ decimal v ≡ name ++ 32 ∷ decimal w = append_cancel_left (codes "weight ") (name ++ 32 ∷ decimal v) (name ++ 32 ∷ decimal w) is in
+    let fields : 32 ∷ decimal v ≡ 32 ∷ decimal w = append_cancel_left name (32 ∷ decimal v) (32 ∷ decimal w) behind in
+    let same : decimal v ≡ decimal w = cc in
+    decimal_one v w (omega (arith, first.1)) (omega (arith, second.1)) same
+
+-- one more weight is one more line
+pub weight_more : (bidders : List Bidder) (given : List ℕ) (w : ℕ) → length given < length bidders
+    → weight_lines bidders (given ++ w ∷ []) ≡ weight_lines bidders given ++ weight_line (get_or bidders (length given) no_bidder).name w ∷ []
+weight_more [] given w lt = absurd (omega arith)
+weight_more (b ∷ bidders) [] w lt = refl
+weight_more (b ∷ bidders) (v ∷ given) w lt = ap (λ (r : List Line). weight_line b.name v ∷ r) (weight_more bidders given w (omega arith))
+
+pub next_is : (book : Book) (given : List ℕ) → bidder_of book (length given + 1) ≡ get_or book.bidders (length given) no_bidder
+next_is book given = let e : length given + 1 - 1 ≡ length given = omega arith in rw e refl
+
+pub names : (supply reserves : List ℕ) (front bs : List Bidder) → AreBidders supply reserves front bs → AllByRecursion (λ b. IsName b.name) bs
+names supply reserves front [] all = tt
+names supply reserves front (b ∷ bs) all = (all.0.name, names supply reserves (front ++ b ∷ []) bs all.1)

@@ -1,0 +1,11 @@
+use Rattle.std.proofs.Common.{length}
+use Rattle.line_text.proofs.OneAnswer.{one_answer}
+use Rattle.auction_model.specs.Prices.{AreWeights}
+use Rattle.weights_file.specs.Stages.{Step, excess}
+use Rattle.weights_file.specs.WeightsForm.{lines}
+use Rattle.weights_file.proofs.Reading.{IsSound, begin, finish, reads}
+use Rattle.weights_file.proofs.laws.one_weighing.Goals as goal
+
+pub returns : goal.returns
+returns c = λ book bytes x y rules a b.
+    one_answer (IsSound book rules) (Step book) excess begin finish (AreWeights (length book.bidders)) (lines book) (reads book rules) bytes x y a b

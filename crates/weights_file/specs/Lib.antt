@@ -1,0 +1,2 @@
+pub mod WeightsForm
+pub mod Stages

@@ -1,0 +1,145 @@
+// The reader of a file of weights.
+ghost use Rattle.std.specs.Prelude.{Err, IfOk, [], codes, length, ℕ, ◌<◌, ◌≡◌, ◌≢◌};
+ghost use Rattle.line_text.specs.LineText.{faulty, stated};
+ghost use Rattle.weights_file.specs.Stages.{Step, Weighs};
+ghost use Rattle.weights_file.specs.WeightsForm.{WeightsSay};
+ghost use Rattle.weights_file.specs.declared.read.LineStop.TheVariants.{Memory};
+
+use crate::line::line_weight;
+use crate::{WeightStop, Weights};
+use bid_book::BidBook;
+use line_text::line_len;
+use std::alloc::{AllocError, Global};
+
+/// What the lines so far say.
+#[derive(Drop)]
+pub enum Stage {
+    /// There is no line yet.
+    Start,
+    /// The first line, and those of some bidders.
+    Listing(Weights),
+    /// All lines, the last one too.
+    Ended(Weights),
+}
+
+/// Why a line is not taken.
+#[derive(Clone, Copy, Debug, PartialEq, Eq)]
+pub enum LineStop {
+    /// No file of weights goes on with such a line.
+    Form,
+    /// There was no memory.
+    Memory,
+}
+
+impl From<AllocError> for LineStop {
+    ghost from_gives = { λ _ stop. stop ≡ Memory };
+
+    fn from(_error: AllocError) -> LineStop {
+        LineStop::Memory
+    }
+}
+
+impl LineStop {
+    ghost use Rattle.weights_file.specs.Stages.{weight_stop};
+
+    /// The stop of the reader at the line that begins at this byte.
+    fn at(self, place: u64) -> WeightStop
+        ensures { result ≡ weight_stop self place }
+    {
+        match self {
+            LineStop::Form => WeightStop::Form(place),
+            LineStop::Memory => WeightStop::Memory,
+        }
+    }
+}
+
+/// The weights that the bytes state for the bidders of the book, one of 1 to 20 for each. The first faulty line stops it: the lines
+/// are `weights 1`, then `weight`, its name and its weight for each bidder in order, and last `end`.
+pub fn read_weights(alloc: Global, bytes: &[u8], book: &BidBook) -> Result<Weights, WeightStop>
+    ensures text { IfOk result (λ weights. WeightsSay book.now bytes.now (stated weights)) }
+    ensures form { (place : ℕ) → result ≡ Err (WeightStop.Form place) → WeightsSay book.now bytes.now (faulty place) }
+{
+    let _bidders = book.bidders();
+    let mut stage = Stage::Start;
+    let mut place = 0;
+    while let Some(len) = line_len(&bytes[place..]) {
+        match take_line(alloc, stage, book, &bytes[place..][..len]) {
+            Ok(next) => stage = next,
+            Err(stop) => return Err(stop.at(place as u64)),
+        }
+        place += len + 1;
+    }
+    if place < bytes.len() {
+        return Err(WeightStop::Form(place as u64));
+    }
+    match stage {
+        Stage::Ended(weights) => Ok(weights),
+        _ => Err(WeightStop::Form(place as u64)),
+    }
+}
+
+/// Takes the next line.
+fn take_line(
+    alloc: Global,
+    stage: Stage,
+    book: &BidBook,
+    line: &[u8],
+) -> Result<Stage, LineStop>
+    ensures ok { IfOk result (λ next. Step book.now stage line.now next) }
+    ensures form { result ≡ Err LineStop.Form → (t : Stage) → Step book.now stage line.now t → ⊥ }
+{
+    match stage {
+        Stage::Start => take_first(alloc, line),
+        Stage::Listing(weights) => take_listed(weights, book, line),
+        Stage::Ended(_) => Err(LineStop::Form),
+    }
+}
+
+/// Takes the first line.
+fn take_first(alloc: Global, line: &[u8]) -> Result<Stage, LineStop>
+    ensures ok { IfOk result (λ next. (line.now ≡ codes "weights 1") × (next ≡ Stage.Listing [])) }
+    ensures form { result ≡ Err LineStop.Form → line.now ≢ codes "weights 1" }
+{
+    if line != b"weights 1".as_slice() {
+        return Err(LineStop::Form);
+    }
+    Ok(Stage::Listing(Weights::new(alloc)))
+}
+
+/// Takes the line of the next bidder, or the last line behind those of all bidders.
+fn take_listed(weights: Weights, book: &BidBook, line: &[u8]) -> Result<Stage, LineStop>
+    ensures ok { IfOk result (λ next. Step book.now (Stage.Listing weights) line.now next) }
+    ensures form { result ≡ Err LineStop.Form → (t : Stage) → Step book.now (Stage.Listing weights) line.now t → ⊥ }
+{
+    if weights.items().len() < book.bidders() {
+        take_weight(weights, book, line)
+    } else {
+        take_end(weights, line)
+    }
+}
+
+/// Takes the line of the next bidder.
+fn take_weight(mut weights: Weights, book: &BidBook, line: &[u8]) -> Result<Stage, LineStop>
+    requires { length weights < length book.now.bidders }
+    ensures ok { IfOk result (Weighs book.now weights line.now) }
+    ensures form { result ≡ Err LineStop.Form → (t : Stage) → Weighs book.now weights line.now t → ⊥ }
+{
+    let _bidders = book.bidders();
+    let j = weights.items().len() as u16 + 1;
+    let Some(weight) = line_weight(line, book.name(j)) else {
+        return Err(LineStop::Form);
+    };
+    weights.push(weight)?;
+    Ok(Stage::Listing(weights))
+}
+
+/// Takes the last line.
+fn take_end(weights: Weights, line: &[u8]) -> Result<Stage, LineStop>
+    ensures ok { IfOk result (λ next. (line.now ≡ codes "end") × (next ≡ Stage.Ended weights)) }
+    ensures form { result ≡ Err LineStop.Form → line.now ≢ codes "end" }
+{
+    if line != b"end".as_slice() {
+        return Err(LineStop::Form);
+    }
+    Ok(Stage::Ended(weights))
+}

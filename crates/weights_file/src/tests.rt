@@ -1,0 +1,43 @@
+// What the reader takes, and where it stops.
+use crate::{WeightStop, read_weights};
+use bid_book::{BidBook, read_book};
+use std::alloc::{AllocError, Global};
+use std::test::Fail;
+
+/// Two bidders.
+const BOOK: &str = "book 1\nsupply 2\nreserve 0\nbidder east\nbid 1 5\nbidder west_2\nend\n";
+
+/// The first line and that of the first bidder: 24 bytes.
+const FRONT: &str = "weights 1\nweight east 7\n";
+
+// Where the reader stops at the text of both parts, if it stops.
+fn stop_at(alloc: Global, front: &str, rest: &str) -> Result<Option<WeightStop>, AllocError> {
+    let Ok(book) = read_book(alloc, BOOK.as_bytes()) else {
+        return Err(AllocError);
+    };
+    let text = format!(in alloc; "{front}{rest}")?;
+    Ok(read_weights(alloc, text.as_bytes(), &book).err())
+}
+
+#[test]
+fn reads_one_weight_for_each_bidder(rt: HostRuntime) {
+    let Ok(book) = read_book(rt.alloc(), BOOK.as_bytes()) else {
+        panic!(rt; "this is a book");
+    };
+    let text = b"weights 1\nweight east 1\nweight west_2 20\nend\n";
+    let Ok(weights) = read_weights(rt.alloc(), text, &book) else {
+        panic!(rt; "these are weights");
+    };
+    assert!(rt; weights.items() == [1u32, 20].as_slice());
+}
+
+#[test]
+fn reads_the_weights_of_no_bidders(rt: HostRuntime) {
+    let Ok(book) = read_book(rt.alloc(), b"book 1\nsupply 2\nreserve 0\nend\n") else {
+        panic!(rt; "this is a book");
+    };
+    let Ok(weights) = read_weights(rt.alloc(), b"weights 1\nend\n", &book) else {
+        panic!(rt; "these are weights");
+    };
+    assert!(rt; weights.items().is_empty());
+}
