@@ -12,16 +12,19 @@ use Rattle.cert_text.specs.Stops.{StopsAt}
 use Rattle.cert_text.specs.declared.stop.CertStop.{CertStop}
 use Rattle.cert_text.specs.declared.stop.CertStop.TheVariants as cert
 use Rattle.auction_rules.specs.Terms.{Terms}
+use Rattle.weights_file.specs.WeightsForm.{WeightsSay}
+use Rattle.weights_file.specs.declared.WeightStop.{WeightStop}
+use Rattle.weights_file.specs.declared.WeightStop.TheVariants as weights
 use Rattle.award_file.specs.Reading as award_reading
 use Rattle.award_file.specs.declared.read.AwardStop.{AwardStop}
 use Rattle.award_file.specs.declared.read.AwardStop.TheVariants as award
 use Rattle.log_file.specs.LogReading as log_reading
 use Rattle.log_file.specs.declared.LogStop.{LogStop}
 use Rattle.log_file.specs.declared.LogStop.TheVariants as log
-use Rattle.cca_inputs.specs.Answers.{AwardAnswers, BookAnswers, CertAnswers, LogAnswers, award_answer}
+use Rattle.cca_inputs.specs.Answers.{AwardAnswers, BookAnswers, CertAnswers, LogAnswers, WeightsAnswers, award_answer}
 use Rattle.cca_inputs.specs.Outcome.{stops}
 use Rattle.cca_inputs.specs.Statuses.{IsStop}
-use Rattle.cca_inputs.specs.Stops.{award_status, book_status, cert_status, log_status}
+use Rattle.cca_inputs.specs.Stops.{award_status, book_status, cert_status, log_status, weight_status}
 use Rattle.cca_inputs.specs.declared.status.Status.TheVariants.{Memory}
 
 -- the stop of a book is want of memory, or what its bytes answer
@@ -54,3 +57,9 @@ pub log-stop : (terms : Terms) (bytes : List ℕ) (stop : LogStop) → log_readi
 log-stop terms bytes (log.Form number) is = inr (tt, inl (number, is, refl))
 log-stop terms bytes (log.Limit kind count) is = inr (tt, inr (is.0, cc (is.1, is.2)))
 log-stop terms bytes log.Memory is = inl refl
+
+-- the stop of weights is want of memory, or what their bytes answer
+pub weights-stop : (b : BookValue) (bytes : List ℕ) (stop : WeightStop) → ((place : ℕ) → stop ≡ weights.Form place → WeightsSay b bytes (faulty place))
+    → (weight_status stop ≡ Memory) ⊎ (IsStop (weight_status stop) × WeightsAnswers b bytes (stops (weight_status stop)))
+weights-stop b bytes (weights.Form place) form = inr (tt, (faulty place, form place refl, refl))
+weights-stop b bytes weights.Memory form = inl refl

@@ -14,8 +14,9 @@ use Rattle.log_file.specs.LogReading.{AreLog, AreTooMany, IsFirstFault, log_reco
 use Rattle.cert_form.specs.Certificate.{CertValue}
 use Rattle.cert_form.specs.Says.{CertSays}
 use Rattle.cert_laws.specs.Tests.{bidders_of, states}
+use Rattle.weights_file.specs.WeightsForm.{WeightsSay}
 use Rattle.cca_inputs.specs.Outcome.{Answer, value, stops}
-use Rattle.cca_inputs.specs.declared.status.FileKind.TheVariants.{Award, Log, Book, Cert}
+use Rattle.cca_inputs.specs.declared.status.FileKind.TheVariants.{Award, Log, Book, Cert, Weights}
 use Rattle.cca_inputs.specs.declared.status.Status.TheVariants.{Refused, Limit}
 
 -- a faulty line refuses the file, and a quantity above its limit is told
@@ -37,6 +38,16 @@ cert_answer (beyond place) = stops (Refused Cert place 0)
 -- what the bytes of a certificate of this book say
 abbrev pub CertAnswers : BookValue → List ℕ → Answer CertValue → Type 0
 CertAnswers book bytes answer = (said : Said CertValue ℕ) × CertSays (bidders_of book) (states book) bytes said × (answer ≡ cert_answer said)
+
+-- a faulty line refuses the file
+abbrev pub weights_answer : Said (List ℕ) ⊥ → Answer (List ℕ)
+weights_answer (stated weights) = value weights
+weights_answer (faulty place) = stops (Refused Weights place 0)
+weights_answer (beyond none) = absurd none
+
+-- what the bytes of the weights of this book say
+abbrev pub WeightsAnswers : BookValue → List ℕ → Answer (List ℕ) → Type 0
+WeightsAnswers book bytes answer = (said : Said (List ℕ) ⊥) × WeightsSay book bytes said × (answer ≡ weights_answer said)
 
 -- a broken rule refuses the file by its field and table, a text that isn't TOML refuses it by none, and a quantity above its limit is told
 abbrev pub award_answer : award.Reading → Answer Terms

@@ -3,7 +3,7 @@ use Rattle.std.specs.Prelude.{ℕ, Bool, true, false, ◌==◌, ◌&&◌, ◌||�
 use Rattle.std.specs.Str.{bytes_eq}
 use Rattle.cca_inputs.specs.declared.price_form.PriceForm.{PriceForm}
 use Rattle.cca_inputs.specs.declared.status.FileKind.{FileKind}
-use Rattle.cca_inputs.specs.declared.status.FileKind.TheVariants.{Award, Log, Book, Cert, Out}
+use Rattle.cca_inputs.specs.declared.status.FileKind.TheVariants.{Award, Log, Book, Cert, Weights, Out}
 
 -- what is to be done, with the names of its files
 pub data CommandValue : Type 0 where
@@ -13,6 +13,10 @@ pub data CommandValue : Type 0 where
   price : List ℕ → List ℕ → PriceForm → CommandValue
   -- the test of a certificate of a book
   check : List ℕ → List ℕ → CommandValue
+  -- the prices of a book by weights in a form, and their certificate
+  weigh : List ℕ → List ℕ → List ℕ → PriceForm → CommandValue
+  -- the test of a certificate of a book by weights
+  weigh_check : List ℕ → List ℕ → List ℕ → CommandValue
   -- the replies to the log of an auction, and its book
   auction : List ℕ → List ℕ → List ℕ → CommandValue
   -- the prices of the book of a log in a form, and their certificate
@@ -42,6 +46,8 @@ abbrev pub files_of : CommandValue → List FileUse
 files_of (win book) = reading Book book ∷ []
 files_of (price book cert form) = reading Book book ∷ appending Cert cert ∷ []
 files_of (check book cert) = reading Book book ∷ reading Cert cert ∷ []
+files_of (weigh book weights cert form) = reading Book book ∷ reading Weights weights ∷ appending Cert cert ∷ []
+files_of (weigh_check book weights cert) = reading Book book ∷ reading Weights weights ∷ reading Cert cert ∷ []
 files_of (auction terms log book) = reading Award terms ∷ reading Log log ∷ appending Book book ∷ []
 files_of (award terms log cert form) = reading Award terms ∷ reading Log log ∷ appending Cert cert ∷ []
 files_of (audit terms log cert) = reading Award terms ∷ reading Log log ∷ reading Cert cert ∷ []
@@ -106,6 +112,21 @@ check_words (f ∷ []) = None
 check_words (f ∷ g ∷ []) = if are_file_words (f ∷ g ∷ []) then Some (check f g) else None
 check_words (f ∷ g ∷ h ∷ rest) = None
 
+-- the words behind `weigh`
+abbrev pub weigh_words : List (List ℕ) → Option CommandValue
+weigh_words [] = None
+weigh_words (f ∷ []) = None
+weigh_words (f ∷ g ∷ []) = None
+weigh_words (f ∷ g ∷ h ∷ flags) = if are_file_words (f ∷ g ∷ h ∷ []) then option_map (weigh f g h) (form_asked flags) else None
+
+-- the words behind `weigh-check`
+abbrev pub weigh_check_words : List (List ℕ) → Option CommandValue
+weigh_check_words [] = None
+weigh_check_words (f ∷ []) = None
+weigh_check_words (f ∷ g ∷ []) = None
+weigh_check_words (f ∷ g ∷ h ∷ []) = if are_file_words (f ∷ g ∷ h ∷ []) then Some (weigh_check f g h) else None
+weigh_check_words (f ∷ g ∷ h ∷ i ∷ rest) = None
+
 -- the words behind `auction`
 abbrev pub auction_words : List (List ℕ) → Option CommandValue
 auction_words [] = None
@@ -136,6 +157,8 @@ command_of (w ∷ rest) =
     if bytes_eq w (codes "win") then win_words rest
     else if bytes_eq w (codes "price") then price_words rest
     else if bytes_eq w (codes "check") then check_words rest
+    else if bytes_eq w (codes "weigh") then weigh_words rest
+    else if bytes_eq w (codes "weigh-check") then weigh_check_words rest
     else if bytes_eq w (codes "auction") then auction_words rest
     else if bytes_eq w (codes "award") then award_words rest
     else if bytes_eq w (codes "audit") then audit_words rest
@@ -147,7 +170,8 @@ kind_number Award = 0
 kind_number Log = 1
 kind_number Book = 2
 kind_number Cert = 3
-kind_number Out = 4
+kind_number Weights = 4
+kind_number Out = 5
 
 abbrev pub is_kind : FileKind → FileKind → Bool
 is_kind kind other = kind_number kind == kind_number other

@@ -4,7 +4,7 @@ use Rattle.std.specs.Fmt.{decimal}
 use Rattle.limits.specs.declared.LimitKind.{LimitKind}
 use Rattle.limits.specs.declared.LimitKind.TheVariants.{Bytes, Categories, Lots, States, Bidders, Bids, Records, Rounds, Price, Winners}
 use Rattle.cca_inputs.specs.declared.status.FileKind.{FileKind}
-use Rattle.cca_inputs.specs.declared.status.FileKind.TheVariants.{Award, Log, Book, Cert, Out}
+use Rattle.cca_inputs.specs.declared.status.FileKind.TheVariants.{Award, Log, Book, Cert, Weights, Out}
 use Rattle.cca_inputs.specs.declared.status.Status.{Status}
 use Rattle.cca_inputs.specs.declared.status.Status.TheVariants.{Done, No, Words, Refused, ReadFault, WriteFault, Memory, Limit}
 
@@ -13,6 +13,7 @@ file_text Award = codes "award"
 file_text Log = codes "log"
 file_text Book = codes "book"
 file_text Cert = codes "cert"
+file_text Weights = codes "weights"
 file_text Out = codes "out"
 
 abbrev pub limit_text : LimitKind → List ℕ

@@ -1,5 +1,5 @@
 -- What the statuses say of the way of a run.
-use Rattle.cca_inputs.specs.declared.status.FileKind.TheVariants.{Award, Log, Book, Cert, Out}
+use Rattle.cca_inputs.specs.declared.status.FileKind.TheVariants.{Award, Log, Book, Cert, Weights, Out}
 use Rattle.cca_inputs.specs.declared.status.Status.{Status}
 use Rattle.cca_inputs.specs.declared.status.Status.TheVariants.{Done, No, Words, Refused, ReadFault, WriteFault, Memory, Limit}
 
@@ -36,6 +36,7 @@ IsHindered (WriteFault Award) = Unit {0}
 IsHindered (WriteFault Log) = Unit {0}
 IsHindered (WriteFault Book) = Unit {0}
 IsHindered (WriteFault Cert) = Unit {0}
+IsHindered (WriteFault Weights) = Unit {0}
 IsHindered (WriteFault Out) = ⊥
 IsHindered Memory = Unit {0}
 IsHindered (Limit which count) = ⊥

@@ -11,8 +11,10 @@ use Rattle.award_file.specs.declared.read.AwardStop.{AwardStop}
 use Rattle.award_file.specs.declared.read.AwardStop.TheVariants as award
 use Rattle.log_file.specs.declared.LogStop.{LogStop}
 use Rattle.log_file.specs.declared.LogStop.TheVariants as log
+use Rattle.weights_file.specs.declared.WeightStop.{WeightStop}
+use Rattle.weights_file.specs.declared.WeightStop.TheVariants as weights
 use Rattle.cca_inputs.specs.declared.status.FileKind.{FileKind}
-use Rattle.cca_inputs.specs.declared.status.FileKind.TheVariants.{Award, Log, Book, Cert}
+use Rattle.cca_inputs.specs.declared.status.FileKind.TheVariants.{Award, Log, Book, Cert, Weights}
 use Rattle.cca_inputs.specs.declared.status.Status.{Status}
 use Rattle.cca_inputs.specs.declared.status.Status.TheVariants.{Refused, ReadFault, Memory, Limit}
 
@@ -44,3 +46,7 @@ abbrev pub log_status : LogStop → Status
 log_status (log.Form number) = Refused Log number 0
 log_status (log.Limit which count) = Limit which count
 log_status log.Memory = Memory
+
+abbrev pub weight_status : WeightStop → Status
+weight_status (weights.Form place) = Refused Weights place 0
+weight_status weights.Memory = Memory

@@ -3,13 +3,15 @@ use Rattle.std.specs.Prelude.{ℕ, List, Contains, IsTrue}
 use Rattle.std.specs.List.{AllByRecursion}
 use Rattle.cca_base.specs.Files.{Folder}
 use Rattle.cca_inputs.specs.declared.words.Command.{Command}
-use Rattle.cca_inputs.specs.declared.words.Command.TheVariants.{Win, Price, Check, Auction, Award, Audit}
-use Rattle.cca_inputs.specs.Command.{CommandValue, win, price, check, auction, award, audit, files_of}
+use Rattle.cca_inputs.specs.declared.words.Command.TheVariants.{Win, Price, Check, Weigh, WeighCheck, Auction, Award, Audit}
+use Rattle.cca_inputs.specs.Command.{CommandValue, win, price, check, weigh, weigh_check, auction, award, audit, files_of}
 
 abbrev pub command_value : Command → CommandValue
 command_value (Win book) = win book.now
 command_value (Price book cert form) = price book.now cert.now form
 command_value (Check book cert) = check book.now cert.now
+command_value (Weigh book weights cert form) = weigh book.now weights.now cert.now form
+command_value (WeighCheck book weights cert) = weigh_check book.now weights.now cert.now
 command_value (Auction terms log book) = auction terms.now log.now book.now
 command_value (Award terms log cert form) = award terms.now log.now cert.now form
 command_value (Audit terms log cert) = audit terms.now log.now cert.now

@@ -12,6 +12,7 @@ mod log_input;
 mod price_form;
 mod status;
 mod stops;
+mod weights_input;
 mod words;
 
 pub use award_input::AwardInput;
@@ -23,4 +24,5 @@ pub use line::{Line, line_of};
 pub use log_input::LogInput;
 pub use price_form::PriceForm;
 pub use status::{FileKind, Status};
+pub use weights_input::WeightsInput;
 pub use words::{Command, read_command};

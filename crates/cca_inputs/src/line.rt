@@ -16,13 +16,14 @@ pub type Line = ArrayVec<u8, ROOM>;
 
 fn file_name(file: FileKind) -> &'static [u8]
     ensures text { result.now ≡ file_text file }
-    ensures short { length result.now ≤ 5 }
+    ensures short { length result.now ≤ 7 }
 {
     match file {
         FileKind::Award => b"award",
         FileKind::Log => b"log",
         FileKind::Book => b"book",
         FileKind::Cert => b"cert",
+        FileKind::Weights => b"weights",
         FileKind::Out => b"out",
     }
 }
@@ -65,7 +66,7 @@ fn add_number(line: &mut Line, n: u64)
 
 // The end of the line of a refused file: its place, and for an award the entry.
 fn add_place(line: &mut Line, file: FileKind, place: u64, entry: u32)
-    requires { length line.old.items ≤ 20 }
+    requires { length line.old.items ≤ 22 }
     ensures { line.new.items ≡ line.old.items ++ decimal place ++ entry_text file entry ++ codes "\n" }
 {
     add_number(line, place);

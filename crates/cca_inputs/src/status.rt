@@ -15,6 +15,8 @@ pub enum FileKind {
     Book,
     /// A certificate.
     Cert,
+    /// The weights of the bidders of a book.
+    Weights,
     /// The standard output.
     Out,
 }
@@ -31,7 +33,7 @@ pub enum Status {
     },
     /// The words aren't of the plain form.
     Words,
-    /// A file isn't of its form, or a log isn't complete. For a book and a certificate the place is the byte where the first faulty line
+    /// A file isn't of its form, or a log isn't complete. For a book, a certificate and weights the place is the byte where the first faulty line
     /// begins, and for a log the number of the first faulty record, or of the one that would follow. For an award the place is the number
     /// of the field whose rule is broken first, with that of its table as the entry, or 0 where it isn't TOML.
     Refused {

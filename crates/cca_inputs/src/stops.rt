@@ -1,6 +1,6 @@
 // The statuses of the stops of the readers.
 ghost use Rattle.std.specs.Prelude.{◌≡◌, ◌<◌, ◌^◌};
-ghost use Rattle.cca_inputs.specs.Stops.{award_status, book_status, cert_status, log_status, read_status};
+ghost use Rattle.cca_inputs.specs.Stops.{award_status, book_status, cert_status, log_status, read_status, weight_status};
 ghost use Rattle.cca_inputs.specs.declared.status.Status.TheVariants.{Memory};
 
 use crate::{FileKind, Status};
@@ -11,6 +11,7 @@ use cert_text::CertStop;
 use limits::LimitKind;
 use log_file::LogStop;
 use std::alloc::{AllocError, AllocFailed};
+use weights_file::WeightStop;
 
 /// The status of a stop of reading a file of this kind, which has at most so many bytes.
 pub fn status_of_read(file: FileKind, most: u64, stop: ReadStop) -> Status
@@ -94,6 +95,17 @@ impl From<LogStop> for Status {
             LogStop::Form(number) => refused(FileKind::Log, number),
             LogStop::Limit(which, count) => Status::Limit { which, count },
             LogStop::Memory => Status::Memory,
+        }
+    }
+}
+
+impl From<WeightStop> for Status {
+    ghost from_gives = { λ stop status. status ≡ weight_status stop };
+
+    fn from(stop: WeightStop) -> Status {
+        match stop {
+            WeightStop::Form(place) => refused(FileKind::Weights, place),
+            WeightStop::Memory => Status::Memory,
         }
     }
 }

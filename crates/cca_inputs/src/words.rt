@@ -1,6 +1,6 @@
 // The plain form of the words.
 ghost use Rattle.std.specs.Prelude.{◌≡◌, map, string_bytes, option_map, Some, None, IfSome};
-ghost use Rattle.cca_inputs.specs.Command.{are_file_words, auction_words, audit_words, award_words, check_words, command_of, is_among, is_file_word, output_as, price_words, win_words};
+ghost use Rattle.cca_inputs.specs.Command.{are_file_words, auction_words, audit_words, award_words, check_words, command_of, is_among, is_file_word, output_as, price_words, weigh_check_words, weigh_words, win_words};
 ghost use Rattle.cca_inputs.specs.Words.{AreAmong, command_value};
 
 use crate::price_form::asked_form;
@@ -22,6 +22,20 @@ pub enum Command<'a> {
     /// A certificate of a book is tested.
     Check {
         book: &'a str,
+        cert: &'a str,
+    },
+    /// A book is priced by the weights of its bidders; its certificate is appended, and the prices are printed in the form that is asked
+    /// for.
+    Weigh {
+        book: &'a str,
+        weights: &'a str,
+        cert: &'a str,
+        form: PriceForm,
+    },
+    /// A certificate of a book is tested by the weights of its bidders.
+    WeighCheck {
+        book: &'a str,
+        weights: &'a str,
         cert: &'a str,
     },
     /// The log of an auction is replayed; its book is appended, and the replies to its lines are printed.
@@ -53,6 +67,7 @@ impl<'a> Command<'a> {
     {
         match (self, kind) {
             (Command::Price { cert, .. }, FileKind::Cert) => Some(cert),
+            (Command::Weigh { cert, .. }, FileKind::Cert) => Some(cert),
             (Command::Award { cert, .. }, FileKind::Cert) => Some(cert),
             (Command::Auction { book, .. }, FileKind::Book) => Some(book),
             _ => None,
@@ -139,6 +154,42 @@ fn check_command(words: &[String]) -> Option<Command<'_>>
     })
 }
 
+fn weigh_command(words: &[String]) -> Option<Command<'_>>
+    ensures among { IfSome result (λ c. AreAmong (map string_bytes words.now) (command_value c)) }
+    ensures command { option_map command_value result ≡ weigh_words (map string_bytes words.now) }
+{
+    let [book, weights, cert, flags @ ..] = words else {
+        return None;
+    };
+    if !can_be_files(&words[..3]) {
+        return None;
+    }
+    let form = asked_form(flags)?;
+    Some(Command::Weigh {
+        book: book.as_str(),
+        weights: weights.as_str(),
+        cert: cert.as_str(),
+        form,
+    })
+}
+
+fn weigh_check_command(words: &[String]) -> Option<Command<'_>>
+    ensures among { IfSome result (λ c. AreAmong (map string_bytes words.now) (command_value c)) }
+    ensures command { option_map command_value result ≡ weigh_check_words (map string_bytes words.now) }
+{
+    let [book, weights, cert] = words else {
+        return None;
+    };
+    if !can_be_files(words) {
+        return None;
+    }
+    Some(Command::WeighCheck {
+        book: book.as_str(),
+        weights: weights.as_str(),
+        cert: cert.as_str(),
+    })
+}
+
 fn auction_command(words: &[String]) -> Option<Command<'_>>
     ensures among { IfSome result (λ c. AreAmong (map string_bytes words.now) (command_value c)) }
     ensures command { option_map command_value result ≡ auction_words (map string_bytes words.now) }
@@ -204,6 +255,8 @@ pub fn read_command(words: &[String]) -> Option<Command<'_>>
         "win" => win_command(rest),
         "price" => price_command(rest),
         "check" => check_command(rest),
+        "weigh" => weigh_command(rest),
+        "weigh-check" => weigh_check_command(rest),
         "auction" => auction_command(rest),
         "award" => award_command(rest),
         "audit" => audit_command(rest),

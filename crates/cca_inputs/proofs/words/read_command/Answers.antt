@@ -10,6 +10,12 @@ returns-in-price-clause-among c = IfSome_then c.price_command.result c.price_com
 pub returns-in-check-clause-among : goal.returns-in-check-clause-among
 returns-in-check-clause-among c = IfSome_then c.check_command.result c.check_command.ensures.among (λ k among. among-behind string_bytes c.args.words.now (command_value k) among)
 
+pub returns-in-weigh-clause-among : goal.returns-in-weigh-clause-among
+returns-in-weigh-clause-among c = IfSome_then c.weigh_command.result c.weigh_command.ensures.among (λ k among. among-behind string_bytes c.args.words.now (command_value k) among)
+
+pub returns-in-weigh-check-clause-among : goal.returns-in-weigh-check-clause-among
+returns-in-weigh-check-clause-among c = IfSome_then c.weigh_check_command.result c.weigh_check_command.ensures.among (λ k among. among-behind string_bytes c.args.words.now (command_value k) among)
+
 pub returns-in-auction-clause-among : goal.returns-in-auction-clause-among
 returns-in-auction-clause-among c = IfSome_then c.auction_command.result c.auction_command.ensures.among (λ k among. among-behind string_bytes c.args.words.now (command_value k) among)
 
