@@ -9,7 +9,7 @@ use Rattle.cca_inputs.specs.StatusLine.{status_line}
 use Rattle.cca_inputs.specs.Statuses.{IsDecided, IsHindered, KeepsAll}
 use Rattle.cca_inputs.specs.declared.file_text.FileText.{FileText}
 use Rattle.cca_inputs.specs.declared.status.FileKind.{FileKind}
-use Rattle.cca_inputs.specs.declared.status.FileKind.TheVariants.{Award, Log, Book, Cert, Out}
+use Rattle.cca_inputs.specs.declared.status.FileKind.TheVariants.{Award, Log, Book, Cert, Weights, Out}
 use Rattle.cca_inputs.specs.declared.status.Status.{Status}
 use Rattle.cca_inputs.specs.declared.status.Status.TheVariants.{Done, Words, ReadFault, WriteFault}
 use Rattle.cca_run.specs.Gives.{FilesGive}
@@ -125,6 +125,8 @@ module _ (command : CommandValue) (old mid new : Folder) (before now : Output) (
       by Book w (inr f) = fails-to Book f
       by Cert w (inl x) = let no : Cert ≡ Out = x.0 in absurd cc
       by Cert w (inr f) = fails-to Cert f
+      by Weights w (inl x) = let no : Weights ≡ Out = x.0 in absurd cc
+      by Weights w (inr f) = fails-to Weights f
       by Out w (inl x) = x.1
       by Out w (inr f) = absurd (never-out command f.name f.output)
 

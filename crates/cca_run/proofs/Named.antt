@@ -5,7 +5,7 @@ use Rattle.std.specs.Option.{option_map}
 use Rattle.std.specs.List.{AllByRecursion}
 use Rattle.std.proofs.lemmas.Bool.{cases_Bool}
 use Rattle.cca_base.specs.Files.{Folder}
-use Rattle.cca_inputs.specs.Command.{CommandValue, win, price, check, auction, award, audit, FileUse, appended_files, files_of, is_kind, is_read, output_as, outputs_of}
+use Rattle.cca_inputs.specs.Command.{CommandValue, win, price, check, weigh, weigh_check, auction, award, audit, FileUse, appended_files, files_of, is_kind, is_read, output_as, outputs_of}
 use Rattle.cca_inputs.specs.Words.{KnowsFiles}
 use Rattle.cca_inputs.specs.declared.status.FileKind.{FileKind}
 use Rattle.cca_inputs.specs.declared.status.FileKind.TheVariants.{Out}
@@ -48,6 +48,8 @@ pub never-out : (command : CommandValue) (name : List ℕ) → output_as command
 never-out (win book) name is = cc
 never-out (price book cert form) name is = cc
 never-out (check book cert) name is = cc
+never-out (weigh book weights cert form) name is = cc
+never-out (weigh_check book weights cert) name is = cc
 never-out (auction terms log book) name is = cc
 never-out (award terms log cert form) name is = cc
 never-out (audit terms log cert) name is = cc

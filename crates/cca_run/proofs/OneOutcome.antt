@@ -29,17 +29,18 @@ use Rattle.log_replay.specs.ReplyLines.{end_of}
 use Rattle.auction_rules.specs.Terms.{Terms}
 use Rattle.auction_rules.specs.declared.Event.{Event}
 use Rattle.log_replay.specs.declared.results.ReplayStop.{ReplayStop}
+use Rattle.weights_file.specs.WeightsForm.{WeightsSay}
 use Rattle.cca_run.proofs.OneLog.{one-award-answer}
 use Rattle.cca_run.proofs.Ones.{not_few_and_many, ones-weigh}
-use Rattle.cca_inputs.specs.Answers.{AwardAnswers, BookAnswers, CertAnswers, LogAnswers, book_answer, cert_answer}
-use Rattle.cca_inputs.specs.Command.{CommandValue, win, price, check, auction, award, audit, command_of, contents_of}
+use Rattle.cca_inputs.specs.Answers.{AwardAnswers, BookAnswers, CertAnswers, LogAnswers, WeightsAnswers, book_answer, cert_answer, weights_answer}
+use Rattle.cca_inputs.specs.Command.{CommandValue, win, price, check, weigh, weigh_check, auction, award, audit, command_of, contents_of}
 use Rattle.cca_inputs.specs.Outcome.{Answer, AnswerGives, FileAnswers, InputGives, Outcome, done, stopped, stops, value}
 use Rattle.cca_inputs.specs.declared.file_text.FileText.{FileText}
 use Rattle.cca_inputs.specs.declared.price_form.PriceForm.{PriceForm}
 use Rattle.cca_inputs.specs.declared.status.FileKind.{FileKind}
-use Rattle.cca_inputs.specs.declared.status.FileKind.TheVariants.{Award, Log, Book as BookFile, Cert}
-use Rattle.limits.specs.declared.TheConstants.{AWARD_BYTES, LOG_BYTES, BOOK_BYTES, CERT_BYTES}
-use Rattle.cca_run.specs.Gives.{ArePriceLines, AreRounds, AuctionGives, BookOfLogGives, CertGives, CommandGives, Gives, EndGives, HasTooMany, IsPricing, IsPrinted, IsYesText, LogGives, PriceGives, RepliesGive, VerdictGives, WinGives, WordsGive, book_file, cert_file, ones}
+use Rattle.cca_inputs.specs.declared.status.FileKind.TheVariants.{Award, Log, Book as BookFile, Cert, Weights}
+use Rattle.limits.specs.declared.TheConstants.{AWARD_BYTES, LOG_BYTES, BOOK_BYTES, CERT_BYTES, WEIGHTS_BYTES}
+use Rattle.cca_run.specs.Gives.{ArePriceLines, AreRounds, AuctionGives, BookOfLogGives, CertGives, CommandGives, Gives, EndGives, HasTooMany, IsPricing, IsPrinted, IsYesText, LogGives, PriceGives, RepliesGive, VerdictGives, WeightsGive, WinGives, WordsGive, book_file, cert_file, ones}
 use Rattle.cca_inputs.specs.declared.status.Status.TheVariants.{No, Limit}
 use Rattle.limits.specs.declared.LimitKind.TheVariants.{Winners}
 
@@ -96,6 +97,7 @@ one-ended records (Err stop) follows o p same x y = equal o p _ x y
 -- what the laws of the crates below say
 module _ (one_book : (bytes : List ℕ) (x y : Said Book Excess) → Says IsBook lines bytes x → Says IsBook lines bytes y → x ≡ y)
     (lawful_log : (terms : Terms) (rows : List (List (List ℕ))) (events : List Event) (book : Book) → IsAward terms → AreLog terms rows events → end_of terms (reverse events) ≡ Ok book → IsMarket (market_of book))
+    (one_weighing : (book : Book) (bytes : List ℕ) (x y : Said (List ℕ) ⊥) → IsBook book → WeightsSay book bytes x → WeightsSay book bytes y → x ≡ y)
     (one_log_answer : (terms : Terms) (bytes : List ℕ) (x y : Answer (List Event)) → LogAnswers terms bytes x → LogAnswers terms bytes y → x ≡ y)
     (one_cert : (bidders number : ℕ) (bytes : List ℕ) (x y : Said CertValue ℕ) → CertSays bidders number bytes x → CertSays bidders number bytes y → x ≡ y)
     (one_verdict : (book : Book) (w : ℕ → ℕ) (c : CertValue) (t p u q : ℕ) → FailsFirst book w c t p → FailsFirst book w c u q → (t ≡ u) × (p ≡ q))
@@ -120,6 +122,27 @@ module _ (one_book : (bytes : List ℕ) (x y : Said Book Excess) → Says IsBook
 
   one-cert-answer : (book : Book) (bytes : List ℕ) (x y : Answer CertValue) → CertAnswers book bytes x → CertAnswers book bytes y → x ≡ y
   one-cert-answer book bytes x y a b = a.2 ∙ ap cert_answer (one_cert (bidders_of book) (states book) bytes a.0 b.0 a.1 b.1) ∙ sym b.2
+
+  -- a book that bytes state keeps the rules of its form
+  form-of : (bytes : List ℕ) (book : Book) → BookAnswers bytes (value book) → IsBook book
+  form-of bytes book (said, says, is) = by said says is
+    where
+      by : (said : Said Book Excess) → Says IsBook lines bytes said → value book ≡ book_answer said → IsBook book
+      by (stated b) says is = let same : b ≡ book = cc in subst IsBook same says.valid
+      by (faulty place) says is = absurd cc
+      by (beyond e) says is = absurd cc
+
+  one-weights-answer : (book : Book) → IsBook book → (bytes : List ℕ) (x y : Answer (List ℕ)) → WeightsAnswers book bytes x → WeightsAnswers book bytes y → x ≡ y
+  one-weights-answer book rules bytes x y a b = a.2 ∙ ap weights_answer (one_weighing book bytes a.0 b.0 rules a.1 b.1) ∙ sym b.2
+
+  -- weights that bytes state are one of 1 to 20 for each bidder
+  weights-of : (book : Book) (bytes weights : List ℕ) → WeightsAnswers book bytes (value weights) → AreWeights (bidders_of book) weights
+  weights-of book bytes weights (said, says, is) = by said says is
+    where
+      by : (said : Said (List ℕ) ⊥) → WeightsSay book bytes said → value weights ≡ weights_answer said → AreWeights (bidders_of book) weights
+      by (stated w) says is = let same : w ≡ weights = cc in subst (AreWeights (bidders_of book)) same says.valid
+      by (faulty place) says is = absurd cc
+      by (beyond none) says is = absurd none
 
   -- the market of a book that bytes state is lawful
   lawful : (bytes : List ℕ) (book : Book) → BookAnswers bytes (value book) → IsMarket (market_of book)
@@ -209,6 +232,15 @@ module _ (one_book : (bytes : List ℕ) (x y : Said Book Excess) → Says IsBook
   one-of (check name cert) contents o p x y = one-input BookFile BOOK_BYTES BookAnswers (λ book. CertGives book (contents Cert) (VerdictGives book (ones book))) one-book-answer (contents BookFile) o p
       (λ book bytes says x y. one-input Cert CERT_BYTES (CertAnswers book) (VerdictGives book (ones book)) (one-cert-answer book) (contents Cert) o p
       (λ c of says_it a b. one-judged book (ones book) c o p (lawful bytes book says) a b) x y) x y
+  one-of (weigh name weights cert form) contents o p x y =
+      one-input BookFile BOOK_BYTES BookAnswers (λ b. WeightsGive b (contents Weights) (λ w. PriceGives b w form)) one-book-answer (contents BookFile) o p
+      (λ book bytes says x y. one-input Weights WEIGHTS_BYTES (WeightsAnswers book) (λ w. PriceGives book w form) (one-weights-answer book (form-of bytes book says)) (contents Weights) o p
+      (λ w of says_it a b. one-priced book w (weights-of book of w says_it) form o p (lawful bytes book says) a b) x y) x y
+  one-of (weigh_check name weights cert) contents o p x y =
+      one-input BookFile BOOK_BYTES BookAnswers (λ b. WeightsGive b (contents Weights) (λ w. CertGives b (contents Cert) (VerdictGives b w))) one-book-answer (contents BookFile) o p
+      (λ book bytes says x y. one-input Weights WEIGHTS_BYTES (WeightsAnswers book) (λ w. CertGives book (contents Cert) (VerdictGives book w)) (one-weights-answer book (form-of bytes book says)) (contents Weights) o p
+      (λ w of says_it a b. one-input Cert CERT_BYTES (CertAnswers book) (VerdictGives book w) (one-cert-answer book) (contents Cert) o p
+      (λ c with_it says_cert g h. one-judged book w c o p (lawful bytes book says) g h) a b) x y) x y
   one-of (auction terms log book) contents o p x y = one-input Award AWARD_BYTES AwardAnswers (λ terms. LogGives terms (contents Log) (AuctionGives terms)) one-award-answer (contents Award) o p
       (λ terms bytes says x y. one-input Log LOG_BYTES (LogAnswers terms) (AuctionGives terms) (one_log_answer terms) (contents Log) o p
       (λ events of says_it a b. one-end _ _ _ o p a b) x y) x y

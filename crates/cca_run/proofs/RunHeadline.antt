@@ -62,11 +62,13 @@ no-write None old new before now kinds.Award none fault = fault
 no-write None old new before now kinds.Log none fault = fault
 no-write None old new before now kinds.Book none fault = fault
 no-write None old new before now kinds.Cert none fault = fault
+no-write None old new before now kinds.Weights none fault = fault
 no-write None old new before now kinds.Out none fault = none.puts fault
 no-write (Some command) old new before now kinds.Award none fault = none.appends fault.name fault.rose
 no-write (Some command) old new before now kinds.Log none fault = none.appends fault.name fault.rose
 no-write (Some command) old new before now kinds.Book none fault = none.appends fault.name fault.rose
 no-write (Some command) old new before now kinds.Cert none fault = none.appends fault.name fault.rose
+no-write (Some command) old new before now kinds.Weights none fault = none.appends fault.name fault.rose
 no-write (Some command) old new before now kinds.Out none fault = none.puts fault
 
 -- without a fault a status is decided, or there was no memory

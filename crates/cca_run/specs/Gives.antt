@@ -21,19 +21,19 @@ use Rattle.cert_laws.specs.Sound.{IsSound, cert_point, cert_prices}
 use Rattle.cert_laws.specs.Tests.{FailsFirst, Holds, bidders_of, states}
 use Rattle.core_price.specs.Weights.{FewWin, ManyWin}
 use Rattle.limits.specs.declared.LimitKind.TheVariants.{Rounds, Price, Winners}
-use Rattle.limits.specs.declared.TheConstants.{AWARD_BYTES, LOG_BYTES, BOOK_BYTES, CERT_BYTES}
+use Rattle.limits.specs.declared.TheConstants.{AWARD_BYTES, LOG_BYTES, BOOK_BYTES, CERT_BYTES, WEIGHTS_BYTES}
 use Rattle.print_form.specs.Json.{IsOutcomeJson}
 use Rattle.print_form.specs.Prices.{IsPriceText}
 use Rattle.print_form.specs.Turns.{AreTurnLines}
 use Rattle.row_laws.specs.Turns.{IsLastPoint}
 use Rattle.row_laws.specs.Winners.{winners_in}
-use Rattle.cca_inputs.specs.Answers.{AwardAnswers, BookAnswers, CertAnswers, LogAnswers}
-use Rattle.cca_inputs.specs.Command.{CommandValue, win, price, check, auction, award, audit, command_of, contents_of}
+use Rattle.cca_inputs.specs.Answers.{AwardAnswers, BookAnswers, CertAnswers, LogAnswers, WeightsAnswers}
+use Rattle.cca_inputs.specs.Command.{CommandValue, win, price, check, weigh, weigh_check, auction, award, audit, command_of, contents_of}
 use Rattle.cca_inputs.specs.Outcome.{InputGives, Outcome, done, stopped, stopped_after}
 use Rattle.cca_inputs.specs.declared.file_text.FileText.{FileText}
 use Rattle.cca_inputs.specs.declared.price_form.PriceForm.{PriceForm}
 use Rattle.cca_inputs.specs.declared.status.FileKind.{FileKind}
-use Rattle.cca_inputs.specs.declared.status.FileKind.TheVariants.{Award, Log, Book, Cert}
+use Rattle.cca_inputs.specs.declared.status.FileKind.TheVariants.{Award, Log, Book, Cert, Weights}
 use Rattle.cca_inputs.specs.declared.status.Status.{Status}
 use Rattle.cca_inputs.specs.declared.status.Status.TheVariants.{No, Words, Refused, Limit}
 
@@ -156,11 +156,18 @@ BookGives content follows outcome = InputGives Book BOOK_BYTES BookAnswers conte
 abbrev pub CertGives : BookValue → Option (List ℕ) → (CertValue → Outcome → Type 0) → Outcome → Type 0
 CertGives book content follows outcome = InputGives Cert CERT_BYTES (CertAnswers book) content follows outcome
 
+-- what the weights of a book give by their bytes, where this follows
+abbrev pub WeightsGive : BookValue → Option (List ℕ) → (List ℕ → Outcome → Type 0) → Outcome → Type 0
+WeightsGive book content follows outcome = InputGives Weights WEIGHTS_BYTES (WeightsAnswers book) content follows outcome
+
 -- What a command gives, by the bytes of its inputs of each kind.
 abbrev pub CommandGives : CommandValue → (FileKind → Option (List ℕ)) → Outcome → Type 0
 CommandGives (win book) contents outcome = BookGives (contents Book) WinGives outcome
 CommandGives (price book cert form) contents outcome = BookGives (contents Book) (λ b. PriceGives b (ones b) form) outcome
 CommandGives (check book cert) contents outcome = BookGives (contents Book) (λ b. CertGives b (contents Cert) (VerdictGives b (ones b))) outcome
+CommandGives (weigh book weights cert form) contents outcome = BookGives (contents Book) (λ b. WeightsGive b (contents Weights) (λ w. PriceGives b w form)) outcome
+CommandGives (weigh_check book weights cert) contents outcome =
+    BookGives (contents Book) (λ b. WeightsGive b (contents Weights) (λ w. CertGives b (contents Cert) (VerdictGives b w))) outcome
 CommandGives (auction terms log book) contents outcome = AwardGives (contents Award) (λ t. LogGives t (contents Log) (AuctionGives t)) outcome
 CommandGives (award terms log cert form) contents outcome =
     AwardGives (contents Award) (λ t. LogGives t (contents Log) (λ events. BookOfLogGives t events (λ b. PriceGives b (ones b) form))) outcome

@@ -8,7 +8,7 @@ use Rattle.cca_inputs.specs.Outcome.{Outcome, stopped}
 use Rattle.cca_inputs.specs.StatusLine.{status_line}
 use Rattle.cca_inputs.specs.declared.file_text.FileText.{FileText}
 use Rattle.cca_inputs.specs.declared.status.FileKind.{FileKind}
-use Rattle.cca_inputs.specs.declared.status.FileKind.TheVariants.{Award, Log, Book, Cert, Out}
+use Rattle.cca_inputs.specs.declared.status.FileKind.TheVariants.{Award, Log, Book, Cert, Weights, Out}
 use Rattle.cca_inputs.specs.declared.status.Status.{Status}
 use Rattle.cca_inputs.specs.declared.status.Status.TheVariants.{Done, No, Words, Refused, ReadFault, WriteFault, Memory, Limit}
 use Rattle.cca_run.specs.Gives.{CommandGives, FilesGive, Gives}
@@ -73,6 +73,7 @@ IsWriteFault command old new before now Award = IsFileFault command old new Awar
 IsWriteFault command old new before now Log = IsFileFault command old new Log
 IsWriteFault command old new before now Book = IsFileFault command old new Book
 IsWriteFault command old new before now Cert = IsFileFault command old new Cert
+IsWriteFault command old new before now Weights = IsFileFault command old new Weights
 IsWriteFault command old new before now Out = Rose before.faults now.faults
 
 -- words of the plain form

@@ -1,18 +1,20 @@
 // The work of each command.
 ghost use Rattle.std.specs.Prelude.{ℕ, List, [], IsTrue};
-ghost use Rattle.cca_inputs.specs.Command.{win, price, check, auction, award, audit};
+ghost use Rattle.cca_inputs.specs.Command.{win, price, check, weigh, weigh_check, auction, award, audit};
 ghost use Rattle.cca_inputs.specs.Words.{KnowsFiles, command_value};
 ghost use Rattle.cca_run.specs.Gives.{WinGives};
 ghost use Rattle.cca_run.specs.Works.{IsWork, Works};
 
 use crate::auction::{logged_book, replayed};
-use crate::pricing::price_alike;
-use crate::verdict::verdict_alike;
+use crate::pricing::{price_alike, price_weighed};
+use crate::verdict::{verdict_alike, verdict_weighed};
 use crate::win::win_of;
 use crate::work::{Stop, Work};
 use bid_book::BidBook;
 use cca_base::Files;
-use cca_inputs::{AwardInput, BookInput, CertInput, Command, LogInput, PriceForm, read_input};
+use cca_inputs::{
+    AwardInput, BookInput, CertInput, Command, LogInput, PriceForm, WeightsInput, read_input,
+};
 use log_file::packages_of_log;
 use std::alloc::Global;
 
@@ -55,6 +57,40 @@ fn check_work<F: Files>(alloc: Global, files: &mut F, book: &str, cert: &str) ->
     let book = read_input(alloc, files, book, &BookInput)?;
     let cert = read_input(alloc, files, cert, &CertInput { book: &book })?;
     verdict_alike(alloc, &book, &cert)
+}
+
+fn weigh_work<F: Files>(
+    alloc: Global,
+    files: &mut F,
+    book: &str,
+    weights: &str,
+    form: PriceForm,
+) -> Result<Work, Stop>
+    requires book { IsTrue ((F.folder files.old).knows book.now) }
+    requires weights { IsTrue ((F.folder files.old).knows weights.now) }
+    ensures { (cert : List ℕ) → Works (weigh book.now weights.now cert form) (F.folder files.old) (F.folder files.new) result }
+{
+    let book = read_input(alloc, files, book, &BookInput)?;
+    let weights = read_input(alloc, files, weights, &WeightsInput { book: &book })?;
+    price_weighed(alloc, &book, weights.items(), form)
+}
+
+fn weigh_check_work<F: Files>(
+    alloc: Global,
+    files: &mut F,
+    book: &str,
+    weights: &str,
+    cert: &str,
+) -> Result<Work, Stop>
+    requires book { IsTrue ((F.folder files.old).knows book.now) }
+    requires weights { IsTrue ((F.folder files.old).knows weights.now) }
+    requires cert { IsTrue ((F.folder files.old).knows cert.now) }
+    ensures { Works (weigh_check book.now weights.now cert.now) (F.folder files.old) (F.folder files.new) result }
+{
+    let book = read_input(alloc, files, book, &BookInput)?;
+    let weights = read_input(alloc, files, weights, &WeightsInput { book: &book })?;
+    let cert = read_input(alloc, files, cert, &CertInput { book: &book })?;
+    verdict_weighed(alloc, &book, &cert, weights.items())
 }
 
 fn auction_work<F: Files>(
@@ -120,6 +156,17 @@ pub fn work_out<F: Files>(alloc: Global, files: &mut F, command: Command<'_>) ->
         Command::Win { book } => win_work(alloc, files, book),
         Command::Price { book, form, .. } => price_work(alloc, files, book, form),
         Command::Check { book, cert } => check_work(alloc, files, book, cert),
+        Command::Weigh {
+            book,
+            weights,
+            form,
+            ..
+        } => weigh_work(alloc, files, book, weights, form),
+        Command::WeighCheck {
+            book,
+            weights,
+            cert,
+        } => weigh_check_work(alloc, files, book, weights, cert),
         Command::Auction { award, log, .. } => auction_work(alloc, files, award, log),
         Command::Award {
             award,

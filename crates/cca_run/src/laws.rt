@@ -21,6 +21,7 @@ use cert_form::{one_cert, text_of_cert};
 use cert_laws::{one_verdict, short_text, sound_yes};
 use log_file::{one_reading, packages_of_log};
 use print_form::{one_outcome_json, one_price_text, one_run_text};
+use weights_file::one_weighing;
 
 /// The words and the bytes of the files give at most one status and one printed text. So each status that is decided comes exactly
 /// where they give it.
@@ -32,6 +33,7 @@ pub fn one_outcome()
     book_of_award();
     packages_of_log();
     one_reading();
+    one_weighing();
     one_cert();
     one_verdict();
     sound_yes();

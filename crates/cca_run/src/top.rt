@@ -79,6 +79,10 @@ fn tell_words<F: Files, O: Sink>(files: &F, out: &mut O) -> Status
 /// prints `yes` and the outcome that it shows, or the first test that fails with its place. A yes is sound: the choice is the winning
 /// one, and the payments are the core outcome.
 ///
+/// `weigh BOOK WEIGHTS CERT` prices as `price` does, with the same flags, but for the distance from the Vickrey prices: each square is
+/// divided by the weight that WEIGHTS gives the bidder. `weigh-check BOOK WEIGHTS CERT` tests a certificate as `check` does, by these
+/// weights; a yes says that the payments are the core outcome for them.
+///
 /// `auction AWARD LOG BOOK` replays the log of an auction, appends the text of its book to BOOK and prints a line for the reply to each
 /// record; where a close is refused for a limit, or the log isn't complete, there is no book, and the line of the status comes behind
 /// those lines. `award AWARD LOG CERT` prices the book of the log as `price` does, with the same flags, and `audit AWARD LOG CERT` makes

@@ -9,3 +9,6 @@ returns-in-Auction g c = let works = c.auction_work.ensures c.in-Auction.book.no
 
 pub returns-in-Award : goal.returns-in-Award
 returns-in-Award g c = let works = c.award_work.ensures c.in-Award.cert.now in search rules
+
+pub returns-in-Weigh : goal.returns-in-Weigh
+returns-in-Weigh g c = let works = c.weigh_work.ensures c.in-Weigh.cert.now in search rules
