@@ -33,3 +33,5 @@ mod listing_tests;
 mod price_tests;
 #[cfg(test)]
 mod tests;
+#[cfg(test)]
+mod weigh_tests;

@@ -41,3 +41,28 @@ fn reads_the_weights_of_no_bidders(rt: HostRuntime) {
     };
     assert!(rt; weights.items().is_empty());
 }
+
+#[test]
+fn stops_at_the_first_faulty_line(rt: HostRuntime) -> Result<(), Fail> {
+    let table: [(&str, &str, u64); 14] = [
+        ("", "", 0),
+        ("", "weights 2\nend\n", 0),
+        ("", "weights 1", 0),
+        ("weights 1\n", "end\n", 10),
+        ("weights 1\n", "weight west_2 7\n", 10),
+        ("weights 1\n", "weight eas 7\n", 10),
+        ("weights 1\n", "weight east 0\n", 10),
+        ("weights 1\n", "weight east 21\n", 10),
+        ("weights 1\n", "weight east 07\n", 10),
+        ("weights 1\n", "weight east 7 \n", 10),
+        (FRONT, "weight west_2 20", 24),
+        (FRONT, "end\n", 24),
+        (FRONT, "weight west_2 20\n", 41),
+        (FRONT, "weight west_2 20\nend\nend\n", 45),
+    ];
+    for (front, rest, place) in table {
+        let stop = stop_at(rt.alloc(), front, rest)?;
+        assert_eq!(rt; stop, Some(WeightStop::Form(place)));
+    }
+    Ok(())
+}
