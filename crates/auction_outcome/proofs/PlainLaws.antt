@@ -14,3 +14,10 @@ less-plain a b s t x y first second less =
     let left : a *ℤ x ≡ pos 232792560 *ℤ (a *ℤ s) = ap (λ z. a *ℤ z) first ∙ swap_mul a (pos 232792560) s in
     let right : b *ℤ y ≡ pos 232792560 *ℤ (b *ℤ t) = ap (λ z. b *ℤ z) second ∙ swap_mul b (pos 232792560) t in
     cancel (a *ℤ s) (b *ℤ t) (subst (λ z. z <ℤ (pos 232792560 *ℤ (b *ℤ t))) left (subst (λ z. (a *ℤ x) <ℤ z) right less))
+
+-- and a factor is put on both sides
+pub less-weighed : (a b s t x y : ℤ) → x ≡ pos 232792560 *ℤ s → y ≡ pos 232792560 *ℤ t → (a *ℤ s) <ℤ (b *ℤ t) → (a *ℤ x) <ℤ (b *ℤ y)
+less-weighed a b s t x y first second less =
+    let left : a *ℤ x ≡ pos 232792560 *ℤ (a *ℤ s) = ap (λ z. a *ℤ z) first ∙ swap_mul a (pos 232792560) s in
+    let right : b *ℤ y ≡ pos 232792560 *ℤ (b *ℤ t) = ap (λ z. b *ℤ z) second ∙ swap_mul b (pos 232792560) t in
+    omega (arith, ints, left, right, less)

@@ -5,11 +5,12 @@
 //! core-selecting payment rules for combinatorial auctions, Operations Research 60, 2012, with the seller's value at reserve.)
 #![tactic(auto)]
 
-ghost use Rattle.std.specs.Prelude.{◌≡◌, ℕ, ◌<◌, ◌≤◌, List};
+ghost use Rattle.std.specs.Prelude.{◌≡◌, ℕ, ℤ, ◌<◌, ◌≤◌, List};
 ghost use Rattle.auction_model.specs.Greatest.{IsWinning};
 ghost use Rattle.auction_model.specs.Market.{Market};
-ghost use Rattle.auction_model.specs.Prices.{IsCoreOutcome, Point};
+ghost use Rattle.auction_model.specs.Prices.{IsCoreOutcome, IsNearestTo, Point};
 ghost use Rattle.auction_outcome.specs.Outcome.{IsAuctionOutcome};
+ghost use Rattle.auction_outcome.specs.PlainNearest.{IsPlainNearest};
 
 use auction_model::{core_outcome, weighted_distance};
 
@@ -19,5 +20,14 @@ pub fn plain_outcome()
     ensures { (m : Market) (w : ℕ → ℕ) (z : List ℕ) (p : Point) → ((j : ℕ) → 0 < j → j ≤ m.bidders → w j ≡ 1) → IsWinning m z → IsCoreOutcome m w z p → IsAuctionOutcome m z p }
 {
     core_outcome();
+    weighted_distance();
+}
+
+/// Where each bidder weighs 1, a point is the nearest of some points by weights exactly where it is so by the plain distance: so each turn
+/// of a pricing run with these weights has the point that the plain distance asks for.
+pub fn plain_nearest()
+    ensures plain { (m : Market) (w : ℕ → ℕ) (v : ℕ → ℤ) (Among : Point → Type 0) (p : Point) → ((j : ℕ) → 0 < j → j ≤ m.bidders → w j ≡ 1) → IsNearestTo m w v Among p → IsPlainNearest m v Among p }
+    ensures weighed { (m : Market) (w : ℕ → ℕ) (v : ℕ → ℤ) (Among : Point → Type 0) (p : Point) → ((j : ℕ) → 0 < j → j ≤ m.bidders → w j ≡ 1) → IsPlainNearest m v Among p → IsNearestTo m w v Among p }
+{
     weighted_distance();
 }
