@@ -13,10 +13,10 @@ use Rattle.weights_file.specs.WeightsForm.{IsWeight, Line, weight_line, weight_l
 use Rattle.weights_file.specs.Stages.{Ends, Step, Weighs, excess}
 use Rattle.weights_file.proofs.Lines.{end_word, first_word, names, next_is, weight_feeds, weight_more, weight_one}
 
-pub begin : Stage
+abbrev pub begin : Stage
 begin = Start
 
-pub finish : List ℕ → Stage
+abbrev pub finish : List ℕ → Stage
 finish weights = Ended weights
 
 -- weights of 1 to 20, told one by one
@@ -44,6 +44,11 @@ all_ones : (n : ℕ) → AllByRecursion IsWeight (replicate n 1)
 all_ones zero = tt
 all_ones (suc n) = ((omega arith, omega arith), all_ones n)
 
+-- where a bidder has no weight yet, the next line is its
+pub weighs-next : (book : Book) (given line : List ℕ) (t : Stage) → length given < length book.bidders → Step book (Listing given) line t → Weighs book given line t
+weighs-next book given line t lt (inl step) = step
+weighs-next book given line t lt (inr step) = absurd (omega (arith, lt, step.0))
+
 -- the lines of the first weights are the first lines
 lines_append : (bidders : List Bidder) (xs ys : List ℕ) → length xs ≤ length bidders → (more : List Line) × (weight_lines bidders (xs ++ ys) ≡ weight_lines bidders xs ++ more)
 lines_append bidders [] ys few = (weight_lines bidders ys, refl)
@@ -57,12 +62,12 @@ at-front (x ∷ front) b back = at-front front b back
 
 module _ (book : Book) (rules : IsBook book) where
   -- the lines that a stage has behind it
-  behind : Stage → List Line
+  abbrev behind : Stage → List Line
   behind Start = []
   behind (Listing given) = (codes "weights 1", None) ∷ weight_lines book.bidders given
   behind (Ended given) = lines book given
 
-  pub IsSound : Stage → Type 0
+  abbrev pub IsSound : Stage → Type 0
   IsSound Start = Unit {0}
   IsSound (Listing given) = (length given ≤ length book.bidders) × AllByRecursion IsWeight given
   IsSound (Ended given) = (length given ≡ length book.bidders) × AllByRecursion IsWeight given
@@ -86,8 +91,8 @@ module _ (book : Book) (rules : IsBook book) where
       by_stage : (s : Stage) → IsSound s → Step book s l t → F (behind s) l t
       by_stage Start sound step = move [] (codes "weights 1") (Listing []) step.0 step.1 ((omega arith, tt), refl)
       by_stage (Listing given) sound (inl step) =
-          move (behind (Listing given)) (weight_line (bidder_of book (length given + 1)).name step.1).0 (Listing (given ++ step.1 ∷ [])) step.3 step.4
-          ((omega (arith, step.0, length-append given (step.1 ∷ [])), all_append given (step.1 ∷ []) sound.1 (step.2, tt)), weighed given step.1 step.0)
+          move (behind (Listing given)) (weight_line (bidder_of book (length given + 1)).name step.1.0).0 (Listing (given ++ step.1.0 ∷ [])) step.1.2 step.1.3
+          ((omega (arith, step.0, length-append given (step.1.0 ∷ [])), all_append given (step.1.0 ∷ []) sound.1 (step.1.1, tt)), weighed given step.1.0 step.0)
       by_stage (Listing given) sound (inr step) = move (behind (Listing given)) (codes "end") (Ended given) step.1 step.2 ((omega (arith, step.0, sound.0), sound.1), refl)
       by_stage (Ended given) sound step = absurd step
 
@@ -109,7 +114,7 @@ module _ (book : Book) (rules : IsBook book) where
   all_one : AreWeights (length book.bidders) (replicate (length book.bidders) 1)
   all_one = are_weights _ _ (length-replicate {A = ℕ} (length book.bidders) 1) (all_ones (length book.bidders))
 
-  filled : List ℕ → List ℕ
+  abbrev filled : List ℕ → List ℕ
   filled given = given ++ replicate (length book.bidders - length given) 1
 
   front_of : (s : Stage) → IsSound s → FrontOf (behind s)
@@ -117,8 +122,8 @@ module _ (book : Book) (rules : IsBook book) where
   front_of (Listing given) sound =
       let more = lines_append book.bidders given (replicate (length book.bidders - length given) 1) sound.0 in
       let whole : lines book (filled given) ≡ behind (Listing given) ++ (more.0 ++ (codes "end", None) ∷ []) =
-          ap (λ (r : List Line). (codes "weights 1", None) ∷ (r ++ (codes "end", None) ∷ [])) more.1
-          ∙ ap (λ (r : List Line). (codes "weights 1", None) ∷ r) (append_assoc (weight_lines book.bidders given) more.0 ((codes "end", None) ∷ [])) in
+      ap (λ (r : List Line). (codes "weights 1", None) ∷ (r ++ (codes "end", None) ∷ [])) more.1
+      ∙ ap (λ (r : List Line). (codes "weights 1", None) ∷ r) (append_assoc (weight_lines book.bidders given) more.0 ((codes "end", None) ∷ [])) in
       record {
         weights = filled given;
         count = length (behind (Listing given));
@@ -140,10 +145,10 @@ module _ (book : Book) (rules : IsBook book) where
   weighs_run front [] had (w ∷ ws) whole named long rest all = absurd (omega (arith, rest))
   weighs_run front (b ∷ back) had (w ∷ ws) whole named long rest all =
       let here : bidder_of book (length had + 1) ≡ b =
-          next_is book had ∙ (let e = long in rw e (ap (λ (l : List Bidder). get_or l (length front) no_bidder) (sym whole) ∙ at-front front b back)) in
+      next_is book had ∙ (let e = long in rw e (ap (λ (l : List Bidder). get_or l (length front) no_bidder) (sym whole) ∙ at-front front b back)) in
       let inside : length had < length book.bidders = omega (arith, long, ap length whole, length-append front (b ∷ back)) in
       let more = weighs_run (front ++ b ∷ []) back (had ++ w ∷ []) ws (append_assoc front (b ∷ []) back ∙ whole) named.1
-          (omega (arith, long, length-append had (w ∷ []), length-append front (b ∷ []))) (omega (arith, rest)) all.1 in (
+      (omega (arith, long, length-append had (w ∷ []), length-append front (b ∷ []))) (omega (arith, rest)) all.1 in (
         Listing (had ++ w ∷ []),
         weight_feeds b.name w named.0 all.0,
         inl (inside, (w, all.0, ap (λ (x : Bidder). (weight_line x.name w).0) (sym here), refl)),
@@ -165,7 +170,7 @@ module _ (book : Book) (rules : IsBook book) where
 
   one_weight : (given l : List ℕ) (t u : Stage) → Weighs book given l t → Weighs book given l u → t ≡ u
   one_weight given l t u a b =
-      a.4 ∙ ap (λ (w : ℕ). Listing (given ++ w ∷ [])) (weight_one (bidder_of book (length given + 1)).name a.1 b.1 a.2 b.2 (sym a.3 ∙ b.3)) ∙ sym b.4
+      a.1.3 ∙ ap (λ (w : ℕ). Listing (given ++ w ∷ [])) (weight_one (bidder_of book (length given + 1)).name a.1.0 b.1.0 a.1.1 b.1.1 (sym a.1.2 ∙ b.1.2)) ∙ sym b.1.3
 
   one_step : (s t u : Stage) (l : List ℕ) → IsSound s → Step book s l t → Step book s l u → t ≡ u
   one_step s t u l = by_stage s

@@ -7,9 +7,9 @@ ghost use Rattle.weights_file.specs.declared.WeightStop.TheVariants.{Memory};
 mod laws;
 mod line;
 mod read;
-mod weights;
 #[cfg(test)]
 mod tests;
+mod weights;
 
 pub use laws::{one_text, one_weighing};
 pub use read::read_weights;

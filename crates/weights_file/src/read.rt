@@ -79,12 +79,7 @@ pub fn read_weights(alloc: Global, bytes: &[u8], book: &BidBook) -> Result<Weigh
 }
 
 /// Takes the next line.
-fn take_line(
-    alloc: Global,
-    stage: Stage,
-    book: &BidBook,
-    line: &[u8],
-) -> Result<Stage, LineStop>
+fn take_line(alloc: Global, stage: Stage, book: &BidBook, line: &[u8]) -> Result<Stage, LineStop>
     ensures ok { IfOk result (λ next. Step book.now stage line.now next) }
     ensures form { result ≡ Err LineStop.Form → (t : Stage) → Step book.now stage line.now t → ⊥ }
 {
