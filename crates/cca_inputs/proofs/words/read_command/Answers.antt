@@ -13,8 +13,8 @@ returns-in-check-clause-among c = IfSome_then c.check_command.result c.check_com
 pub returns-in-weigh-clause-among : goal.returns-in-weigh-clause-among
 returns-in-weigh-clause-among c = IfSome_then c.weigh_command.result c.weigh_command.ensures.among (λ k among. among-behind string_bytes c.args.words.now (command_value k) among)
 
-pub returns-in-weigh-check-clause-among : goal.returns-in-weigh-check-clause-among
-returns-in-weigh-check-clause-among c = IfSome_then c.weigh_check_command.result c.weigh_check_command.ensures.among (λ k among. among-behind string_bytes c.args.words.now (command_value k) among)
+pub returns-in-text-clause-among : goal.returns-in-text-clause-among
+returns-in-text-clause-among c = IfSome_then c.weigh_check_command.result c.weigh_check_command.ensures.among (λ k among. among-behind string_bytes c.args.words.now (command_value k) among)
 
 pub returns-in-auction-clause-among : goal.returns-in-auction-clause-among
 returns-in-auction-clause-among c = IfSome_then c.auction_command.result c.auction_command.ensures.among (λ k among. among-behind string_bytes c.args.words.now (command_value k) among)
