@@ -20,5 +20,5 @@ returns-clause-verdict c = held-all c.args.book.now (weight_of c.args.weights.no
 
 pub returns-clause-sound : goal.returns-clause-sound
 returns-clause-sound c =
-    λ yes. c.sound_yes.ensures c.args.book.now (weight_of c.args.weights.now) (cert_value c.args.cert.now) c.requires.weights.each c.requires.shape.bidders_are (c.args.cert.now.rules.pay.0 ∙ c.requires.shape.bidders_are)
+    λ yes. c.sound_yes.ensures c.args.book.now c.args.weights.now (cert_value c.args.cert.now) c.requires.weights c.requires.shape.bidders_are (c.args.cert.now.rules.pay.0 ∙ c.requires.shape.bidders_are)
     (held-all c.args.book.now (weight_of c.args.weights.now) (cert_value c.args.cert.now) c.loop-test.test c.loop-test.invariant (omega arith))
