@@ -8,7 +8,8 @@
 ghost use Rattle.std.specs.Prelude.{◌≡◌, ℕ, ℤ, ◌<◌, ◌≤◌, List};
 ghost use Rattle.auction_model.specs.Greatest.{IsWinning};
 ghost use Rattle.auction_model.specs.Market.{Market};
-ghost use Rattle.auction_model.specs.Prices.{IsCoreOutcome, IsNearestTo, Point};
+ghost use Rattle.auction_model.specs.Prices.{HasLeastSum, IsCoreOutcome, Point};
+ghost use Rattle.auction_model.specs.PricingRun.{IsTurnPoint, MeetsRows, Row};
 ghost use Rattle.auction_outcome.specs.Outcome.{IsAuctionOutcome};
 ghost use Rattle.auction_outcome.specs.PlainNearest.{IsPlainNearest};
 
@@ -23,11 +24,13 @@ pub fn plain_outcome()
     weighted_distance();
 }
 
-/// Where each bidder weighs 1, a point is the nearest of some points by weights exactly where it is so by the plain distance: so each turn
-/// of a pricing run with these weights has the point that the plain distance asks for.
-pub fn plain_nearest()
-    ensures plain { (m : Market) (w : ℕ → ℕ) (v : ℕ → ℤ) (Among : Point → Type 0) (p : Point) → ((j : ℕ) → 0 < j → j ≤ m.bidders → w j ≡ 1) → IsNearestTo m w v Among p → IsPlainNearest m v Among p }
-    ensures weighed { (m : Market) (w : ℕ → ℕ) (v : ℕ → ℤ) (Among : Point → Type 0) (p : Point) → ((j : ℕ) → 0 < j → j ≤ m.bidders → w j ≡ 1) → IsPlainNearest m v Among p → IsNearestTo m w v Among p }
+/// Where each bidder weighs 1, the point of a turn of a pricing run is the one that the plain distance asks for: of the points of least sum
+/// that meet the rows, the nearest to the prices.
+pub fn plain_turns()
+    ensures plain { (m : Market) (w : ℕ → ℕ) (z : List ℕ) (v : ℕ → ℤ) (rows : List Row) (p : Point) → ((j : ℕ) → 0 < j → j ≤ m.bidders → w j ≡ 1)
+        → IsTurnPoint m w z v rows p → IsPlainNearest m v (MeetsRows m z rows) p }
+    ensures weighed { (m : Market) (w : ℕ → ℕ) (z : List ℕ) (v : ℕ → ℤ) (rows : List Row) (p : Point) → ((j : ℕ) → 0 < j → j ≤ m.bidders → w j ≡ 1)
+        → MeetsRows m z rows p → HasLeastSum m (MeetsRows m z rows) p → IsPlainNearest m v (MeetsRows m z rows) p → IsTurnPoint m w z v rows p }
 {
     weighted_distance();
 }
