@@ -10,6 +10,7 @@ mod rounds;
 
 pub use amounts::{amount_listed, highest, place_of};
 pub use answer::{Cap, OverCap};
-pub use caps::{cap, list_fault};
+pub use caps::{cap, list_fault, list_fault_by};
+pub use levels::Levels;
 pub use packages::is_same;
 pub use rounds::constraining_round;

@@ -1,7 +1,6 @@
 -- One place more.
-use Rattle.std.proofs.Common.{◌≡◌, ◌+◌, ◌-◌, ◌<◌, length, map, ◌∙◌, ap, arith}
+use Rattle.std.proofs.Common.{◌≡◌, ◌+◌, ◌-◌, ◌<◌, [], length, ◌∙◌, ap, arith}
 use Rattle.std.proofs.lemmas.List.{length-set}
-use Rattle.relative_cap.specs.OwnRounds.{bid_value}
 use Rattle.relative_cap.specs.Levels.{peak_from, CanConstrain, IsHigh}
 use Rattle.relative_cap.proofs.LevelLaws.{peak-step, set-from}
 use Rattle.relative_cap.proofs.levels.fill_levels.Goals as goal
@@ -20,7 +19,7 @@ loop-place-preserved c =
       highs_room = omega (arith, length-set c.loop-place.highs (c.loop-place.place - 1) c.high_at.result, c.loop-place.invariant.highs_room);
       each_peak = set-from (λ k x. k < length c.args.history.now → x ≡ peak_from c.args.history.now c.args.j k) c.loop-place.peaks (c.loop-place.place - 1) c.max-peak.result c.loop-place.place next
           (omega (arith, inside, c.loop-place.invariant.peaks_room)) c.loop-place.invariant.each_peak (λ low. peak);
-      each_high = set-from (λ k x. k < length c.args.history.now → CanConstrain c.args.history.now c.args.j k → IsHigh c.args.history.now c.args.j (map bid_value c.args.list.now) k x)
+      each_high = set-from (λ k x. k < length c.args.history.now → CanConstrain c.args.history.now c.args.j k → IsHigh c.args.history.now c.args.j [] k x)
           c.loop-place.highs (c.loop-place.place - 1) c.high_at.result c.loop-place.place next
           (omega (arith, inside, c.loop-place.invariant.highs_room)) c.loop-place.invariant.each_high (λ low. c.high_at.ensures);
     }
