@@ -12,7 +12,7 @@ ghost use Rattle.relative_cap.specs.OwnRounds.{entry_lots, bid_value, cap_at, el
 
 use crate::amounts::highest;
 use crate::answer::{Cap, OverCap};
-use crate::levels::{Levels, fill_levels, high_over, last_peak};
+use crate::levels::{fill_levels, high_over, last_peak};
 use crate::packages::is_same;
 use crate::rounds::constraining_round;
 use clock_stage::History;
@@ -80,7 +80,7 @@ pub fn cap(
 }
 
 /// The cap, where the amount is above it.
-fn excess(cap: Cap, amount: u64) -> Option<u64>
+pub fn excess(cap: Cap, amount: u64) -> Option<u64>
     ensures { result ≡ excess_cap (cap_value cap) amount }
 {
     match cap {
@@ -207,26 +207,4 @@ pub fn list_fault(
     let mut highs = [0; ROUNDS];
     fill_levels(history, history.rounds(), j, &mut peaks, &mut highs);
     first_fault(history, points, final_cap, j, &peaks, &highs, list)
-}
-
-/// The same as `list_fault`, where the levels of bidder `j` by the history are given, so that a test of the list goes once over its
-/// entries and not over the rounds.
-pub fn list_fault_by(
-    history: &History,
-    points: &[u32],
-    final_cap: bool,
-    j: u16,
-    levels: &Levels,
-    list: &[Bid],
-) -> Option<OverCap>
-    requires bidder { IsBidderOf history.now j }
-    requires points { ArePoints history.now points.now }
-    requires levels { AreLevels history.now j levels.now.peaks levels.now.highs }
-    requires list { All (IsEntry (categories_in history.now)) list.now }
-    requires order { InOrder (map entry_lots list.now) }
-    requires eligible { All (IsEligible points.now history.now j) list.now }
-    requires few { length list.now < 2 ^ 32 }
-    ensures { option_map excess_value result ≡ list_fault final_cap points.now (rounds_of j history.now) (map bid_value list.now) }
-{
-    first_fault(history, points, final_cap, j, levels.peaks(), levels.highs(), list)
 }

@@ -1,80 +1,17 @@
 // What the closed rounds say of the caps of a bidder, whatever its list is.
-ghost use Rattle.std.specs.Prelude.{◌≡◌, ◌+◌, ◌-◌, ◌≤◌, ◌<◌, ◌^◌, [], All, IfOk, length, map, slice_index};
+ghost use Rattle.std.specs.Prelude.{◌≡◌, ◌+◌, ◌-◌, ◌≤◌, ◌<◌, ◌^◌, [], All, length, map, slice_index};
 ghost use Rattle.auction_rules.specs.PackageTests.{InOrder};
 ghost use Rattle.clock_stage.specs.Kept.{categories_in};
 ghost use Rattle.relative_cap.specs.Asked.{IsBidderOf, IsEntry};
-ghost use Rattle.relative_cap.specs.Levels.{AreLevels, CanConstrain, IsHigh, IsLastEnough, peak_from};
+ghost use Rattle.relative_cap.specs.Levels.{AreLevels, IsHigh, IsLastEnough};
 ghost use Rattle.relative_cap.specs.OwnRounds.{entry_lots, bid_value};
 
 use crate::amounts::{amount_listed, highest};
 use clock_stage::History;
 use lots::Bid;
-use std::alloc::{AllocError, Global};
-use std::marker::Model;
-
-/// What the closed rounds say of the caps of one bidder: for each round the greatest eligibility from it on, and the greatest
-/// clock bid for what was held in it. It is worked out once, and serves to test each list of the bidder.
-#[derive(Drop)]
-pub struct Levels {
-    peaks: Vec<u64>,
-    highs: Vec<u64>,
-}
-
-impl Model for Levels {
-    ghost use Rattle.relative_cap.specs.Levels.{LevelLists, level_lists};
-
-    ghost Value = { LevelLists };
-
-    ghost view = { λ l. level_lists l.peaks.items l.highs.items };
-}
-
-impl Levels {
-    /// The levels of bidder `j` by the closed rounds of the history. The only error is want of memory.
-    pub fn of(alloc: Global, history: &History, j: u16) -> Result<Levels, AllocError>
-        requires { IsBidderOf history.now j }
-        ensures { IfOk result (λ levels. AreLevels history.now j levels.peaks levels.highs) }
-    {
-        let rounds = history.rounds();
-        let mut peaks = vec![in alloc; 0u64; rounds as usize]?;
-        let mut highs = vec![in alloc; 0u64; rounds as usize]?;
-        fill_levels(history, rounds, j, &mut peaks, &mut highs);
-        Ok(Levels { peaks, highs })
-    }
-
-    /// For each round the greatest eligibility from it on.
-    pub fn peaks(&self) -> &[u64]
-        ensures { result.now ≡ self.now.peaks }
-    {
-        self.peaks.as_slice()
-    }
-
-    /// For each round that can constrain a package the greatest clock bid for what was held in it.
-    pub fn highs(&self) -> &[u64]
-        ensures { result.now ≡ self.now.highs }
-    {
-        self.highs.as_slice()
-    }
-}
-
-/// The greatest clock bid for what bidder `j` held in the round at this place, counted from 0, where the round can constrain a
-/// package, and else 0. The greatest later eligibility is given.
-fn high_at(history: &History, rounds: u32, j: u16, place: usize, later: u64) -> u64
-    requires bidder { IsBidderOf history.now j }
-    requires rounds { rounds ≡ length history.now }
-    requires place { place < rounds }
-    requires later { later ≡ peak_from history.now j (place + 1) }
-    ensures { CanConstrain history.now j place → IsHigh history.now j [] place result }
-{
-    let r = place as u32 + 1;
-    if r == rounds || later < history.eligibility(r, j) {
-        highest(history, j, &[], history.package(r, j))
-    } else {
-        0
-    }
-}
 
 /// Works out the levels of bidder `j`, from the last round to the first: the greatest eligibility from each round on, and for each
-/// round that can constrain a package the greatest clock bid for what the bidder held in it.
+/// round the greatest clock bid for what the bidder held in it.
 pub fn fill_levels(
     history: &History,
     rounds: u32,
@@ -89,11 +26,12 @@ pub fn fill_levels(
     ensures { AreLevels history.now j peaks.new highs.new }
 {
     let mut place = rounds as usize;
-    let mut peak = 0;
+    let mut peak: u64 = 0;
     while place > 0 {
+        let r = place as u32;
         place -= 1;
-        highs[place] = high_at(history, rounds, j, place, peak);
-        peak = peak.max(history.eligibility(place as u32 + 1, j));
+        highs[place] = highest(history, j, &[], history.package(r, j));
+        peak = peak.max(history.eligibility(r, j));
         peaks[place] = peak;
     }
 }
