@@ -6,3 +6,4 @@ mod BookLaws
 mod BookStates
 mod ReachedLaws
 mod SealedLaws
+mod TesterLaws
