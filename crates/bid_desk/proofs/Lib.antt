@@ -7,3 +7,4 @@ mod BookStates
 mod ReachedLaws
 mod SealedLaws
 mod TesterLaws
+mod CopyLaws
