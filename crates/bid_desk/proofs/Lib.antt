@@ -6,3 +6,5 @@ mod BookLaws
 mod BookStates
 mod ReachedLaws
 mod SealedLaws
+mod TesterLaws
+mod CopyLaws

@@ -46,7 +46,7 @@ own-state terms clock closed bidders other drafts submitted by_drafts by_submitt
     ap (λ (ds : List (List BookBid)). with_own st ds (map submitted_in other)) by_drafts ∙ ap (with_own st drafts) by_submitted
 
 -- the draft list of a bidder in the state
-drafts-read : (terms : Terms) (clock : ClockState) (closed : Bool) (bidders : List Lists) (j : ℕ) (d old : Lists) → j - 1 < length bidders → old ≡ get_or bidders (j - 1) d
+pub drafts-read : (terms : Terms) (clock : ClockState) (closed : Bool) (bidders : List Lists) (j : ℕ) (d old : Lists) → j - 1 < length bidders → old ≡ get_or bidders (j - 1) d
     → old.drafts ≡ drafts_of (desk_value terms clock closed bidders) j
 drafts-read terms clock closed bidders j d old inside read = ap drafts_in read ∙ sym (get_or-map drafts_in bidders (j - 1) d [] inside)
 

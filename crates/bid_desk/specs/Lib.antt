@@ -5,3 +5,4 @@ pub mod Lists
 pub mod Slots
 pub mod BookBids
 pub mod Known
+pub mod Testers

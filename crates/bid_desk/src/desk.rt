@@ -23,13 +23,14 @@ ghost use Rattle.bid_desk.specs.Reached.{IsBidOrDrop, IsTaken, IsTakenOrMemory, 
 
 use crate::book::book_of;
 use crate::lists::{BidderLists, empty_lists};
+use crate::testers::{no_testers, test_list};
 use auction_rules::{Event, Reply, Stage, desk_book};
 use award_file::{Award, book_of_award};
 use bid_book::BidBook;
 use clock_stage::{Clock, Closed, reply_to_package};
 use limits::{MOST_AMOUNT, MOST_DRAFTS};
-use lots::{Bid, Package};
-use relative_cap::{OverCap, highest, list_fault};
+use lots::Package;
+use relative_cap::{ListTester, OverCap, highest};
 use std::alloc::{AllocError, Global};
 use std::marker::Model;
 
@@ -50,6 +51,7 @@ pub struct Desk {
     clock: Clock,
     closed: bool,
     bidders: Vec<BidderLists>,
+    testers: Vec<Option<ListTester>>,
 }
 
 impl Model for Desk {
@@ -59,12 +61,13 @@ impl Model for Desk {
     ghost use Rattle.auction_rules.specs.declared.Stage.{Stage};
     ghost use Rattle.bid_desk.specs.Closes.{reply_value};
     ghost use Rattle.bid_desk.specs.Reached.{IsReached};
+    ghost use Rattle.bid_desk.specs.Testers.{AreTesters};
 
     ghost Value = { DeskState };
 
     ghost view = { λ d. desk_value d.award d.clock d.closed d.bidders.items };
 
-    ghost invariant = { λ d. IsFor d.award d.clock × IsReached (desk_value d.award d.clock d.closed d.bidders.items) };
+    ghost invariant = { λ d. IsFor d.award d.clock × IsReached (desk_value d.award d.clock d.closed d.bidders.items) × AreTesters d.award d.clock d.testers.items };
 }
 
 impl Desk {
@@ -74,11 +77,13 @@ impl Desk {
     {
         let clock = Clock::start(alloc, &award)?;
         let bidders = empty_lists(alloc, award.bidders())?;
+        let testers = no_testers(alloc, award.bidders())?;
         Ok(Desk {
             award,
             clock,
             closed: false,
             bidders,
+            testers,
         })
     }
 
@@ -365,7 +370,18 @@ impl Desk {
     fn submit(&mut self, alloc: Global, bidder: u16) -> Reply
         ensures { IsTakenOrMemory self.old (Event.Submit bidder) result self.new }
     {
-        let reply = self.reply_to_submit(bidder);
+        match self.reply_to_submit(alloc, bidder) {
+            Ok(reply) => self.submit_by(alloc, bidder, reply),
+            Err(_) => Reply::Memory,
+        }
+    }
+
+    /// Takes a submission to which the rules give this reply.
+    fn submit_by(&mut self, alloc: Global, bidder: u16, reply: Reply) -> Reply
+        requires reply { reply ≡ reply_in self.old (Event.Submit bidder) }
+        requires known { reply ≡ Reply.Ok → IsKnown self.old.terms self.old bidder }
+        ensures { IsTakenOrMemory self.old (Event.Submit bidder) result self.new }
+    {
         if matches!(reply, Reply::Ok) {
             return self.submit_list(alloc, bidder);
         }
@@ -385,52 +401,56 @@ impl Desk {
         Reply::Ok
     }
 
-    /// The reply to a submission.
-    fn reply_to_submit(&self, bidder: u16) -> Reply
-        ensures reply { result ≡ reply_in self.now (Event.Submit bidder) }
-        ensures known { result ≡ Reply.Ok → IsKnown self.now.terms self.now bidder }
+    /// The reply to a submission. What the desk stands for stays the same; the only error is want of memory.
+    fn reply_to_submit(&mut self, alloc: Global, bidder: u16) -> Result<Reply, AllocError>
+        ensures reply { IfOk result (λ reply. reply ≡ reply_in self.old (Event.Submit bidder)) }
+        ensures known { IfOk result (λ reply. reply ≡ Reply.Ok → IsKnown self.old.terms self.old bidder) }
+        ensures same { self.new ≡ self.old }
     {
         if !self.is_sealed() {
-            return Reply::Stage;
+            return Ok(Reply::Stage);
         }
         if !self.knows(bidder) {
-            return Reply::Unknown;
+            return Ok(Reply::Unknown);
         }
-        match self.draft_fault(bidder) {
-            Some(over) => Reply::RelativeCap {
+        match self.draft_fault(alloc, bidder)? {
+            Some(over) => Ok(Reply::RelativeCap {
                 entry: over.entry,
                 limit: over.limit,
-            },
-            None => Reply::Ok,
+            }),
+            None => Ok(Reply::Ok),
         }
     }
 
-    /// The first entry of the bidder's draft list that is above its cap. A list that was submitted last has none.
-    fn draft_fault(&self, bidder: u16) -> Option<OverCap>
-        requires sealed { is_sealed self.now.stage ≡ true }
-        requires known { IsKnown self.now.terms self.now bidder }
-        ensures { option_map excess_value result ≡ fault_in self.now bidder (drafts_of self.now bidder) }
+    /// The first entry of the bidder's draft list that is above its cap. A list that was submitted last has none. What the desk stands
+    /// for stays the same; the only error is want of memory.
+    fn draft_fault(&mut self, alloc: Global, bidder: u16) -> Result<Option<OverCap>, AllocError>
+        requires sealed { is_sealed self.old.stage ≡ true }
+        requires known { IsKnown self.old.terms self.old bidder }
+        ensures fault { IfOk result (λ over. option_map excess_value over ≡ fault_in self.old bidder (drafts_of self.old bidder)) }
+        ensures same { self.new ≡ self.old }
     {
-        let lists = self.lists(bidder);
-        if lists.are_alike() {
-            return None;
+        if self.lists(bidder).are_alike() {
+            return Ok(None);
         }
-        self.fault_of(bidder, lists.drafts())
+        self.fault_of(alloc, bidder)
     }
 
-    /// The first entry above its cap of a list that is the draft list of a bidder.
-    fn fault_of(&self, bidder: u16, drafts: &[Bid]) -> Option<OverCap>
-        requires sealed { is_sealed self.now.stage ≡ true }
-        requires known { IsKnown self.now.terms self.now bidder }
-        requires drafts { map bid_value drafts.now ≡ drafts_of self.now bidder }
-        ensures { option_map excess_value result ≡ fault_in self.now bidder (drafts_of self.now bidder) }
+    /// The same by the bidder's tester.
+    fn fault_of(&mut self, alloc: Global, bidder: u16) -> Result<Option<OverCap>, AllocError>
+        requires sealed { is_sealed self.old.stage ≡ true }
+        requires known { IsKnown self.old.terms self.old bidder }
+        ensures fault { IfOk result (λ over. option_map excess_value over ≡ fault_in self.old bidder (drafts_of self.old bidder)) }
+        ensures same { self.new ≡ self.old }
     {
-        list_fault(
+        test_list(
+            alloc,
+            &mut self.testers,
             self.clock.history(),
             self.award.points(),
             self.award.final_cap(),
             bidder,
-            drafts,
+            self.bidders[bidder as usize - 1].drafts(),
         )
     }
 

@@ -5,6 +5,7 @@ mod book;
 mod desk;
 mod lists;
 mod slots;
+mod testers;
 #[cfg(test)]
 mod tests;
 

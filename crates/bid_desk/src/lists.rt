@@ -5,16 +5,19 @@ ghost use Rattle.auction_rules.specs.Replies.{has_entry};
 ghost use Rattle.relative_cap.specs.OwnRounds.{bid_value};
 ghost use Rattle.bid_desk.specs.Lists.{IsKept, lists_with};
 
-use crate::slots::{Slot, copied_entries, has_entry, put_entry, slot_of};
+use crate::slots::{Slot, copy_entries, has_entry, put_entry, slot_of};
 use lots::{Bid, Package};
 use std::alloc::{AllocError, Global};
 use std::marker::Model;
+use std::mem;
 
 /// The draft list and the submitted list of a bidder, each in the order of its packages, each package once.
 #[derive(Drop)]
 pub struct BidderLists {
     drafts: Vec<Bid>,
     submitted: Vec<Bid>,
+    // The entries of an earlier submitted list, which the next one overwrites. They mean nothing.
+    spare: Vec<Bid>,
     // Only where the two lists have the same entries. A list that was submitted last and hasn't changed since is valid still.
     alike: bool,
 }
@@ -39,6 +42,7 @@ impl BidderLists {
         BidderLists {
             drafts: Vec::new(alloc),
             submitted: Vec::new(alloc),
+            spare: Vec::new(alloc),
             alike: true,
         }
     }
@@ -103,7 +107,8 @@ impl BidderLists {
         if self.alike {
             return Ok(());
         }
-        self.submitted = copied_entries(alloc, &self.drafts)?;
+        copy_entries(alloc, &self.drafts, &mut self.spare)?;
+        mem::swap(&mut self.submitted, &mut self.spare);
         self.alike = true;
         Ok(())
     }

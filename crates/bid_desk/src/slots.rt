@@ -1,5 +1,5 @@
 // The places of entries in a list.
-ghost use Rattle.std.specs.Prelude.{◌≡◌, IfOk, OnErr, OnOk, length, map};
+ghost use Rattle.std.specs.Prelude.{◌≡◌, ◌+◌, ◌∷◌, ◌++◌, ◌≤◌, [], IfOk, OnErr, OnOk, length, map, take};
 ghost use Rattle.auction_rules.specs.Lines.{with_entry};
 ghost use Rattle.auction_rules.specs.Replies.{has_entry};
 ghost use Rattle.relative_cap.specs.OwnRounds.{bid_value};
@@ -79,4 +79,41 @@ pub fn copied_entries(alloc: Global, list: &[Bid]) -> Result<Vec<Bid>, AllocErro
         })?;
     }
     Ok(copies)
+}
+
+/// Makes the entry at the place that of the bid; those before it stay.
+fn copy_entry(
+    alloc: Global,
+    list: &mut Vec<Bid>,
+    place: usize,
+    bid: &Bid,
+) -> Result<(), AllocError>
+    requires { place ≤ length list.old.items }
+    ensures { OnOk result (take (place + 1) (map bid_value list.new.items) ≡ take place (map bid_value list.old.items) ++ (bid_value bid.now ∷ [])) }
+{
+    if place < list.len() && list[place].package.categories() == bid.package.categories() {
+        let entry = &mut list[place];
+        entry.package.copy_from(&bid.package);
+        entry.amount = bid.amount;
+        return Ok(());
+    }
+    let package = bid.package.copied(alloc)?;
+    list.truncate(place);
+    list.push(Bid {
+        package,
+        amount: bid.amount,
+    })?;
+    Ok(())
+}
+
+/// Makes the entries of a list those of another. It overwrites what is there, and takes memory only where there are fewer. For want
+/// of memory the list has some entries of each.
+pub fn copy_entries(alloc: Global, from: &[Bid], list: &mut Vec<Bid>) -> Result<(), AllocError>
+    ensures { OnOk result (map bid_value list.new.items ≡ map bid_value from.now) }
+{
+    for (place, bid) in from.iter().enumerate() {
+        copy_entry(alloc, list, place, bid)?;
+    }
+    list.truncate(from.len());
+    Ok(())
 }

@@ -1,15 +1,18 @@
 -- What is worked out once for a list gives the constraining round and the highest amounts.
-use Rattle.std.proofs.Common.{◌≡◌, ◌⊎◌, ℕ, zero, suc, ◌+◌, ◌-◌, ◌^◌, ◌<◌, ◌≤◌, max, List, [], ◌∷◌, length, get_or, set, drop, refl, sym, subst, ◌∙◌, ap, inl, inr, arith}
+use Rattle.std.proofs.Common.{◌≡◌, ◌⊎◌, ℕ, zero, suc, ◌+◌, ◌-◌, ◌^◌, ◌<◌, ◌≤◌, max, true, false, List, [], ◌∷◌, ◌++◌, length, map, get_or, set, drop, refl, sym, subst, ◌∙◌, ap, inl, inr, arith}
 use Rattle.std.specs.Prelude.{slice_index}
-use Rattle.std.proofs.lemmas.Bool.{cases_order}
+use Rattle.std.proofs.lemmas.Bool.{cases_order, cond-true, cond-false}
 use Rattle.std.proofs.lemmas.List.{length-map, length-drop, get_or-map, get_or-drop, get_or-set_same, get_or-set_other, drop_more}
 use Rattle.auction_model.specs.Book.{BookBid}
 use Rattle.auction_rules.specs.Rounds.{OwnRound}
 use Rattle.auction_rules.specs.State.{Round, own_of}
-use Rattle.auction_rules.specs.Caps.{no_round, highest}
+use Rattle.auction_rules.specs.PackageTests.{is_empty}
+use Rattle.auction_rules.specs.Caps.{no_round, clock_bid, greatest, highest}
+use Rattle.auction_rules.proofs.BookCaps.{greatest-append}
 use Rattle.clock_stage.specs.Kept as kept
 use Rattle.relative_cap.specs.OwnRounds.{rounds_of, own_in, eligibility_in, IsConstraining}
-use Rattle.relative_cap.specs.Levels.{peak_of, peak_from, CanConstrain, ArePeaksFrom, IsHigh, AreLevels, IsLastEnough}
+use Rattle.relative_cap.proofs.AmountLaws.{highest-is}
+use Rattle.relative_cap.specs.Levels.{peak_of, peak_from, ArePeaksFrom, IsHigh, AreLevels, IsLastEnough}
 
 peak-most : (rounds : List OwnRound) (k : ℕ) → k < length rounds → (get_or rounds k no_round).eligibility ≤ peak_of rounds
 peak-most [] k inside = absurd (omega arith)
@@ -61,12 +64,6 @@ short-behind : (history : List Round) (j needed r : ℕ) → (r ≡ length histo
 short-behind history j needed r (inl last) s low high = absurd (omega (arith, last))
 short-behind history j needed r (inr short) s low high = omega (arith, short, later-below history j r s low high)
 
-can-at : (history : List Round) (j needed r : ℕ) → 1 ≤ r → needed ≤ eligibility_in history j r → (r ≡ length history) ⊎ (peak_from history j r < needed) → CanConstrain history j (r - 1)
-can-at history j needed r low enough (inl last) = inl (omega (arith, last))
-can-at history j needed r low enough (inr short) =
-    let next : r ≡ r - 1 + 1 = omega arith in
-    inr (subst (λ m. peak_from history j m < eligibility_in history j m) next (omega (arith, short, enough)))
-
 later-of : (history : List Round) (j needed : ℕ) (peaks : List ℕ) (rounds r : ℕ) → rounds ≡ length history → ArePeaksFrom 0 history j peaks → r ≤ rounds
     → (r ≡ rounds) ⊎ (slice_index peaks r < needed) → (r ≡ length history) ⊎ (peak_from history j r < needed)
 later-of history j needed peaks rounds r count are most (inl last) = inl (last ∙ count)
@@ -80,24 +77,51 @@ later-of history j needed peaks rounds r count are most (inr short) =
     ]
 
 pub constraining-by_peaks : (history : List Round) (j needed : ℕ) (peaks : List ℕ) (rounds r : ℕ) → rounds ≡ length history → ArePeaksFrom 0 history j peaks
-    → IsLastEnough needed peaks rounds r → IsConstraining needed history j r × CanConstrain history j (r - 1)
+    → IsLastEnough needed peaks rounds r → IsConstraining needed history j r
 constraining-by_peaks history j needed peaks rounds r count are is =
     let high : r ≤ length history = omega (arith, is.last, count) in
     let later : (r ≡ length history) ⊎ (peak_from history j r < needed) = later-of history j needed peaks rounds r count are is.last is.later in
     let peak : needed ≤ peak_from history j (r - 1) = omega (arith, is.enough, are (r - 1) (omega arith) (omega (arith, is.first))) in
     let enough : needed ≤ eligibility_in history j r = enough-at history j needed r is.first high peak later in
-    (record { first = is.first; last = high; enough = enough; later = short-behind history j needed r later }, can-at history j needed r is.first enough later)
+    record { first = is.first; last = high; enough = enough; later = short-behind history j needed r later }
 
-pub can-last : (history : List Round) (j : ℕ) (last : ℕ) → 1 ≤ length history → last ≡ length history → CanConstrain history j (last - 1)
-can-last history j last some at = inl (omega (arith, at))
+-- the greatest clock bid for what was held in round r
+pub level-high : (history : List Round) (j : ℕ) (peaks highs : List ℕ) (r : ℕ) → AreLevels history j peaks highs → 1 ≤ r → r ≤ length history
+    → IsHigh history j [] (r - 1) (slice_index highs (r - 1))
+level-high history j peaks highs r are low high = are.each_high (r - 1) (omega arith) (omega arith)
 
--- the highest amount for what was held in round r
-pub level-high : (history : List Round) (j : ℕ) (bids : List BookBid) (peaks highs : List ℕ) (r : ℕ) → AreLevels history j bids peaks highs → 1 ≤ r → r ≤ length history → CanConstrain history j (r - 1)
-    → (slice_index highs (r - 1) ≡ highest (rounds_of j history) bids (own_in history j r).held) × (slice_index highs (r - 1) ≤ 2 ^ 42)
-level-high history j bids peaks highs r are low high can =
+-- what is highest for the package held in round r, by its place
+pub high-of-round : (history : List Round) (j : ℕ) (bids : List BookBid) (r high : ℕ) → 1 ≤ r → IsHigh history j bids (r - 1) high → high ≡ highest (rounds_of j history) bids (own_in history j r).held
+high-of-round history j bids r high low is =
     let next : r - 1 + 1 ≡ r = omega arith in
-    let is : IsHigh history j bids (r - 1) (slice_index highs (r - 1)) = are.each_high (r - 1) (omega arith) (omega arith) can in
-    (is.0 ∙ ap (λ m. highest (rounds_of j history) bids (own_in history j m).held) next, is.1)
+    is.0 ∙ ap (λ m. highest (rounds_of j history) bids (own_in history j m).held) next
+
+-- and the other way round
+pub high-here : (history : List Round) (j r high : ℕ) (held : List ℕ) → 0 < r → held ≡ (own_in history j r).held → high ≡ highest (rounds_of j history) [] held → high ≤ 2 ^ 42 → IsHigh history j [] (r - 1) high
+high-here history j r high held low by_held is most =
+    let next : r ≡ r - 1 + 1 = omega arith in
+    (is ∙ ap (highest (rounds_of j history) []) by_held ∙ ap (λ m. highest (rounds_of j history) [] (own_in history j m).held) next, most)
+
+-- nothing is highest for the empty package
+pub high-empty : (history : List Round) (j : ℕ) (bids : List BookBid) (r : ℕ) (held : List ℕ) → 1 ≤ r → held ≡ (own_in history j r).held → is_empty held ≡ true → IsHigh history j bids (r - 1) 0
+high-empty history j bids r held low by_held empty =
+    let next : r ≡ r - 1 + 1 = omega arith in
+    let is : is_empty (own_in history j (r - 1 + 1)).held ≡ true = ap (λ m. is_empty (own_in history j m).held) (sym next) ∙ ap is_empty (sym by_held) ∙ empty in
+    (sym (cond-true (is_empty (own_in history j (r - 1 + 1)).held) 0 (greatest (own_in history j (r - 1 + 1)).held (map clock_bid (rounds_of j history) ++ bids)) is), omega arith)
+
+-- the greatest of the clock and of the list
+pub high-some : (history : List Round) (j : ℕ) (bids : List BookBid) (r clock listed best : ℕ) (held : List ℕ) → 1 ≤ r → held ≡ (own_in history j r).held → is_empty held ≡ false
+    → IsHigh history j [] (r - 1) clock → listed ≡ greatest held bids → listed ≤ 2 ^ 42 → best ≡ max clock listed → IsHigh history j bids (r - 1) best
+high-some history j bids r clock listed best held low by_held some by_clock by_list most is =
+    let next : r ≡ r - 1 + 1 = omega arith in
+    let place : held ≡ (own_in history j (r - 1 + 1)).held = by_held ∙ ap (λ m. (own_in history j m).held) next in
+    let none : is_empty (own_in history j (r - 1 + 1)).held ≡ false = ap is_empty (sym place) ∙ some in
+    let rounds : List OwnRound = rounds_of j history in
+    let own : List ℕ = (own_in history j (r - 1 + 1)).held in
+    let alone : clock ≡ greatest own (map clock_bid rounds ++ []) = by_clock.0 ∙ cond-false (is_empty own) 0 (greatest own (map clock_bid rounds ++ [])) none in
+    let no_list : greatest own (map clock_bid rounds ++ []) ≡ max (greatest own (map clock_bid rounds)) 0 = greatest-append own (map clock_bid rounds) [] in
+    let bids_alone : clock ≡ greatest own (map clock_bid rounds) = omega (arith, alone, no_list) in
+    (highest-is rounds bids own clock listed best none bids_alone (by_list ∙ ap (λ (q : List ℕ). greatest q bids) place) is, omega (arith, is, most, by_clock.1))
 
 -- a write in front of what is known
 pub set-from : (P : ℕ → ℕ → Type 0) (xs : List ℕ) (i v p : ℕ) → p ≡ i + 1 → i < length xs → ((k : ℕ) → p ≤ k → P k (slice_index xs k)) → P i v

@@ -3,3 +3,5 @@ pub mod AmountLaws
 pub mod PlaceLaws
 pub mod CapLaws
 pub mod LevelLaws
+pub mod FirstPlace
+pub mod TestedLaws

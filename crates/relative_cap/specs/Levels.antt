@@ -1,4 +1,4 @@
--- What is worked out once for a whole list: for each round the greatest eligibility from it on, and the highest amount for what was
+-- What the closed rounds say of caps: for each round the greatest eligibility from it on, and the greatest clock bid for what was
 -- held in it. Places are counted from 0.
 use Rattle.std.specs.Prelude.{◌≡◌, ◌⊎◌, ℕ, ◌+◌, ◌-◌, ◌≤◌, ◌<◌, max, List, [], ◌∷◌, length, drop, slice_index}
 use Rattle.limits.specs.declared.TheConstants.{MOST_AMOUNT}
@@ -17,10 +17,6 @@ peak_of (r ∷ rounds) = max r.eligibility (peak_of rounds)
 abbrev pub peak_from : List Round → ℕ → ℕ → ℕ
 peak_from history j k = peak_of (rounds_of j (drop k history))
 
--- the round at place k constrains some package: it is the final one, or its eligibility is above all later ones
-abbrev pub CanConstrain : List Round → ℕ → ℕ → Type 0
-CanConstrain history j k = (k + 1 ≡ length history) ⊎ (peak_from history j (k + 1) < eligibility_in history j (k + 1))
-
 -- the greatest eligibilities from the place on
 abbrev pub ArePeaksFrom : ℕ → List Round → ℕ → List ℕ → Type 0
 ArePeaksFrom place history j peaks = (k : ℕ) → place ≤ k → k < length history → slice_index peaks k ≡ peak_from history j k
@@ -29,16 +25,20 @@ ArePeaksFrom place history j peaks = (k : ℕ) → place ≤ k → k < length hi
 abbrev pub IsHigh : List Round → ℕ → List BookBid → ℕ → ℕ → Type 0
 IsHigh history j bids k high = (high ≡ highest (rounds_of j history) bids (own_in history j (k + 1)).held) × (high ≤ MOST_AMOUNT)
 
--- the highest amounts from the place on, where they are needed
-abbrev pub AreHighsFrom : ℕ → List Round → ℕ → List BookBid → List ℕ → Type 0
-AreHighsFrom place history j bids highs =
-    (k : ℕ) → place ≤ k → k < length history → CanConstrain history j k → IsHigh history j bids k (slice_index highs k)
+-- the highest amounts over the clock alone from the place on
+abbrev pub AreHighsFrom : ℕ → List Round → ℕ → List ℕ → Type 0
+AreHighsFrom place history j highs = (k : ℕ) → place ≤ k → k < length history → IsHigh history j [] k (slice_index highs k)
 
-pub record AreLevels (history : List Round) (j : ℕ) (bids : List BookBid) (peaks highs : List ℕ) : Type 0 where
+-- the greatest eligibility from each round on
+pub record ArePeaks (history : List Round) (j : ℕ) (peaks : List ℕ) : Type 0 where
+  pub room : length history ≤ length peaks
+  pub each : ArePeaksFrom 0 history j peaks
+
+pub record AreLevels (history : List Round) (j : ℕ) (peaks highs : List ℕ) : Type 0 where
   pub peaks_room : length history ≤ length peaks
   pub highs_room : length history ≤ length highs
   pub each_peak : ArePeaksFrom 0 history j peaks
-  pub each_high : AreHighsFrom 0 history j bids highs
+  pub each_high : AreHighsFrom 0 history j highs
 
 -- the place is the last one, or the last whose number is enough
 pub record IsLastEnough (needed : ℕ) (peaks : List ℕ) (rounds r : ℕ) : Type 0 where

@@ -3,3 +3,5 @@ pub mod Answer
 pub mod Place
 pub mod Levels
 pub mod Asked
+pub mod RoundsOfPackage
+pub mod Tested

@@ -1,18 +1,18 @@
 // Caps, and the first entry above its cap.
-ghost use Rattle.std.specs.Prelude.{◌≡◌, ◌≤◌, ◌<◌, ◌^◌, All, length, map, option_map};
+ghost use Rattle.std.specs.Prelude.{◌≡◌, ◌-◌, ◌≤◌, ◌<◌, ◌^◌, [], All, length, map, option_map, slice_index};
 ghost use Rattle.limits.specs.declared.TheConstants.{MOST_AMOUNT};
 ghost use Rattle.auction_model.specs.Package.{cost_of};
 ghost use Rattle.auction_rules.specs.Caps.{cap_by, cap_of, excess_cap, list_fault};
 ghost use Rattle.auction_rules.specs.PackageTests.{InOrder};
 ghost use Rattle.clock_stage.specs.Kept.{IsHeld, categories_in};
 ghost use Rattle.relative_cap.specs.Asked.{ArePoints, IsBidderOf, IsEligible, IsEntry};
-ghost use Rattle.relative_cap.specs.Levels.{AreLevels};
+ghost use Rattle.relative_cap.specs.Levels.{AreLevels, IsHigh};
 ghost use Rattle.relative_cap.specs.Answer.{cap_value, excess_value};
 ghost use Rattle.relative_cap.specs.OwnRounds.{entry_lots, bid_value, cap_at, eligibility_in, own_in, rounds_of};
 
 use crate::amounts::highest;
 use crate::answer::{Cap, OverCap};
-use crate::levels::{fill_levels, last_peak};
+use crate::levels::{fill_levels, high_over, last_peak};
 use crate::packages::is_same;
 use crate::rounds::constraining_round;
 use clock_stage::History;
@@ -80,7 +80,7 @@ pub fn cap(
 }
 
 /// The cap, where the amount is above it.
-fn excess(cap: Cap, amount: u64) -> Option<u64>
+pub fn excess(cap: Cap, amount: u64) -> Option<u64>
     ensures { result ≡ excess_cap (cap_value cap) amount }
 {
     match cap {
@@ -89,21 +89,44 @@ fn excess(cap: Cap, amount: u64) -> Option<u64>
     }
 }
 
-/// The cap of a package over the list whose levels are given.
+/// What the package may cost by round `r`, where the greatest clock bids for what bidder `j` held are given.
+fn level_cap_by(
+    history: &History,
+    j: u16,
+    r: u32,
+    list: &[Bid],
+    highs: &[u64],
+    package: &Package,
+) -> u64
+    requires bidder { IsBidderOf history.now j }
+    requires round { (1 ≤ r) × (r ≤ length history.now) }
+    requires list { All (IsEntry (categories_in history.now)) list.now }
+    requires order { InOrder (map entry_lots list.now) }
+    requires room { length history.now ≤ length highs.now }
+    requires high { IsHigh history.now j [] (r - 1) (slice_index highs.now (r - 1)) }
+    requires categories { IsHeld (categories_in history.now) «package».now }
+    ensures { result ≡ cap_by (rounds_of j history.now) (map bid_value list.now) (own_in history.now j r) «package».now }
+{
+    let high = high_over(history, j, r, list, highs[r as usize - 1]);
+    cap_from(history, j, r, high, package)
+}
+
+/// The cap of a package over the list, where the levels of bidder `j` are given.
 fn level_cap(
     history: &History,
     points: &[u32],
     final_cap: bool,
     j: u16,
-    list: &[Bid],
     peaks: &[u64],
     highs: &[u64],
+    list: &[Bid],
     package: &Package,
 ) -> Cap
     requires bidder { IsBidderOf history.now j }
     requires points { ArePoints history.now points.now }
+    requires levels { AreLevels history.now j peaks.now highs.now }
     requires list { All (IsEntry (categories_in history.now)) list.now }
-    requires levels { AreLevels history.now j (map bid_value list.now) peaks.now highs.now }
+    requires order { InOrder (map entry_lots list.now) }
     requires categories { IsHeld (categories_in history.now) «package».now }
     requires eligible { cost_of points.now «package».now ≤ eligibility_in history.now j 1 }
     ensures { cap_value result ≡ cap_of final_cap points.now (rounds_of j history.now) (map bid_value list.now) «package».now }
@@ -113,30 +136,31 @@ fn level_cap(
         return Cap::NoCap;
     }
     let r = last_peak(peaks, last, package.points(points));
-    let round_cap = cap_from(history, j, r, highs[r as usize - 1], package);
+    let round_cap = level_cap_by(history, j, r, list, highs, package);
     if final_cap {
-        Cap::At(round_cap.min(cap_from(history, j, last, highs[last as usize - 1], package)))
+        Cap::At(round_cap.min(level_cap_by(history, j, last, list, highs, package)))
     } else {
         Cap::At(round_cap)
     }
 }
 
-/// The first entry above its cap over the list whose levels are given.
+/// The first entry above its cap over the list, where the levels of bidder `j` are given.
 fn first_fault(
     history: &History,
     points: &[u32],
     final_cap: bool,
     j: u16,
-    list: &[Bid],
     peaks: &[u64],
     highs: &[u64],
+    list: &[Bid],
 ) -> Option<OverCap>
     requires bidder { IsBidderOf history.now j }
     requires points { ArePoints history.now points.now }
+    requires levels { AreLevels history.now j peaks.now highs.now }
     requires list { All (IsEntry (categories_in history.now)) list.now }
+    requires order { InOrder (map entry_lots list.now) }
     requires eligible { All (IsEligible points.now history.now j) list.now }
     requires few { length list.now < 2 ^ 32 }
-    requires levels { AreLevels history.now j (map bid_value list.now) peaks.now highs.now }
     ensures { option_map excess_value result ≡ list_fault final_cap points.now (rounds_of j history.now) (map bid_value list.now) }
 {
     for (index, bid) in list.iter().enumerate() {
@@ -145,9 +169,9 @@ fn first_fault(
             points,
             final_cap,
             j,
-            list,
             peaks,
             highs,
+            list,
             &bid.package,
         );
         if let Some(limit) = excess(cap, bid.amount) {
@@ -181,6 +205,6 @@ pub fn list_fault(
 {
     let mut peaks = [0; ROUNDS];
     let mut highs = [0; ROUNDS];
-    fill_levels(history, history.rounds(), j, list, &mut peaks, &mut highs);
-    first_fault(history, points, final_cap, j, list, &peaks, &highs)
+    fill_levels(history, history.rounds(), j, &mut peaks, &mut highs);
+    first_fault(history, points, final_cap, j, &peaks, &highs, list)
 }

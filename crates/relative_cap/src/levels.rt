@@ -1,60 +1,55 @@
-// What is worked out once for a whole list.
-ghost use Rattle.std.specs.Prelude.{◌≡◌, ◌+◌, ◌≤◌, ◌<◌, ◌^◌, All, length, map, slice_index};
+// What the closed rounds say of the caps of a bidder, whatever its list is.
+ghost use Rattle.std.specs.Prelude.{◌≡◌, ◌+◌, ◌-◌, ◌≤◌, ◌<◌, ◌^◌, [], All, length, map, slice_index};
 ghost use Rattle.auction_rules.specs.PackageTests.{InOrder};
 ghost use Rattle.clock_stage.specs.Kept.{categories_in};
 ghost use Rattle.relative_cap.specs.Asked.{IsBidderOf, IsEntry};
-ghost use Rattle.relative_cap.specs.Levels.{AreLevels, CanConstrain, IsHigh, IsLastEnough, peak_from};
+ghost use Rattle.relative_cap.specs.Levels.{AreLevels, IsHigh, IsLastEnough};
 ghost use Rattle.relative_cap.specs.OwnRounds.{entry_lots, bid_value};
 
-use crate::amounts::highest;
+use crate::amounts::{amount_listed, highest};
 use clock_stage::History;
 use lots::Bid;
 
-/// The highest amount for what bidder `j` held in the round at this place, counted from 0, where the round can constrain a
-/// package, and else 0. The greatest later eligibility is given.
-fn high_at(history: &History, rounds: u32, j: u16, list: &[Bid], place: usize, later: u64) -> u64
-    requires bidder { IsBidderOf history.now j }
-    requires list { All (IsEntry (categories_in history.now)) list.now }
-    requires order { InOrder (map entry_lots list.now) }
-    requires rounds { rounds ≡ length history.now }
-    requires place { place < rounds }
-    requires later { later ≡ peak_from history.now j (place + 1) }
-    ensures { CanConstrain history.now j place → IsHigh history.now j (map bid_value list.now) place result }
-{
-    let r = place as u32 + 1;
-    if r == rounds || later < history.eligibility(r, j) {
-        highest(history, j, list, history.package(r, j))
-    } else {
-        0
-    }
-}
-
-/// Works out the levels of the list of bidder `j`, from the last round to the first: the greatest eligibility from each round on,
-/// and for each round that can constrain a package the highest amount for what the bidder held in it.
+/// Works out the levels of bidder `j`, from the last round to the first: the greatest eligibility from each round on, and for each
+/// round the greatest clock bid for what the bidder held in it.
 pub fn fill_levels(
     history: &History,
     rounds: u32,
     j: u16,
-    list: &[Bid],
     peaks: &mut [u64],
     highs: &mut [u64],
 )
     requires bidder { IsBidderOf history.now j }
-    requires list { All (IsEntry (categories_in history.now)) list.now }
-    requires order { InOrder (map entry_lots list.now) }
     requires rounds { rounds ≡ length history.now }
     requires peaks { length history.now ≤ length peaks.old }
     requires highs { length history.now ≤ length highs.old }
-    ensures { AreLevels history.now j (map bid_value list.now) peaks.new highs.new }
+    ensures { AreLevels history.now j peaks.new highs.new }
 {
     let mut place = rounds as usize;
-    let mut peak = 0;
+    let mut peak: u64 = 0;
     while place > 0 {
+        let r = place as u32;
         place -= 1;
-        highs[place] = high_at(history, rounds, j, list, place, peak);
-        peak = peak.max(history.eligibility(place as u32 + 1, j));
+        highs[place] = highest(history, j, &[], history.package(r, j));
+        peak = peak.max(history.eligibility(r, j));
         peaks[place] = peak;
     }
+}
+
+/// The highest amount for what bidder `j` held in round `r` among its clock bids, for which it is given, and the list.
+pub fn high_over(history: &History, j: u16, r: u32, list: &[Bid], clock: u64) -> u64
+    requires bidder { IsBidderOf history.now j }
+    requires round { (1 ≤ r) × (r ≤ length history.now) }
+    requires list { All (IsEntry (categories_in history.now)) list.now }
+    requires order { InOrder (map entry_lots list.now) }
+    requires clock { IsHigh history.now j [] (r - 1) clock }
+    ensures { IsHigh history.now j (map bid_value list.now) (r - 1) result }
+{
+    let held = history.package(r, j);
+    if held.is_empty() {
+        return 0;
+    }
+    clock.max(amount_listed(list, held))
 }
 
 /// The last of so many rounds whose number is enough, by halving. The numbers never rise.

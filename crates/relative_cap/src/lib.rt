@@ -4,12 +4,16 @@
 mod amounts;
 mod answer;
 mod caps;
+mod entries;
 mod levels;
 mod packages;
 mod rounds;
+mod terms;
+mod tester;
 
 pub use amounts::{amount_listed, highest, place_of};
 pub use answer::{Cap, OverCap};
 pub use caps::{cap, list_fault};
 pub use packages::is_same;
 pub use rounds::constraining_round;
+pub use tester::ListTester;

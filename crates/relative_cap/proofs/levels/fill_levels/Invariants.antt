@@ -1,7 +1,6 @@
 -- The levels from the place on.
-use Rattle.std.proofs.Common.{◌≡◌, ◌≤◌, length, map}
+use Rattle.std.proofs.Common.{◌≡◌, ◌≤◌, length}
 use Rattle.relative_cap.specs.Levels.{peak_from, ArePeaksFrom, AreHighsFrom}
-use Rattle.relative_cap.specs.OwnRounds.{bid_value}
 use Rattle.relative_cap.proofs.levels.fill_levels.Given as goal
 
 abbrev pub invariant-loop-place : goal.invariant-loop-place
@@ -11,7 +10,7 @@ invariant-loop-place l = record {
   peaks_room : length l.history ≤ length l.peaks;
   highs_room : length l.history ≤ length l.highs;
   each_peak : ArePeaksFrom l.place l.history l.j l.peaks;
-  each_high : AreHighsFrom l.place l.history l.j (map bid_value l.list) l.highs;
+  each_high : AreHighsFrom l.place l.history l.j l.highs;
 }
 
 abbrev pub decreases-loop-place : goal.decreases-loop-place

@@ -5,6 +5,7 @@ use Rattle.auction_rules.specs.declared.Stage.TheVariants as stage
 use Rattle.auction_rules.specs.State.{DeskState}
 use Rattle.bid_desk.specs.DeskValue.{desk_value}
 use Rattle.bid_desk.proofs.DeskLaws.{clock-stage, bid-state, reached-next}
+use Rattle.bid_desk.proofs.TesterLaws.{testers-running}
 use Rattle.bid_desk.proofs.desk.Desk.bid.Goals as goal
 
 pub invariant_of-self : goal.invariant_of-self
@@ -17,4 +18,5 @@ invariant_of-self c =
       reached-next (desk_value c.self.inside.award c.self.inside.clock c.self.inside.closed c.self.inside.bidders.items) _ line c.self.invariant.1
           (c.requires ∙ ap (λ (s : DeskState). length s.terms.supply) (sym c.self.view_is)) refl
           (bid-state c.self.inside.award c.self.inside.clock c.bid.new.self c.self.inside.closed c.self.inside.bidders.items c.args.bidder c.args.«package».now clock.0 clock.1 c.bid.ensures.clock),
+      testers-running c.self.inside.award c.self.inside.clock c.bid.new.self c.self.inside.testers.items clock.0 c.self.invariant.2,
     )

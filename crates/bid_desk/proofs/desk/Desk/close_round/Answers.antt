@@ -7,6 +7,7 @@ use Rattle.bid_desk.specs.Closes.{reply_value}
 use Rattle.bid_desk.specs.DeskValue.{desk_value}
 use Rattle.bid_desk.specs.Reached.{IsReached}
 use Rattle.bid_desk.proofs.DeskLaws.{clock-stage, close-reply, close-state, reached-next, told-reply}
+use Rattle.bid_desk.proofs.TesterLaws.{testers-running}
 use Rattle.bid_desk.proofs.desk.Desk.close_round.Goals as goal
 
 pub invariant_of-self : goal.invariant_of-self
@@ -19,6 +20,7 @@ invariant_of-self c =
         | inr told ↦ reached-next (desk_value c.self.inside.award c.self.inside.clock c.self.inside.closed c.self.inside.bidders.items) _ Close c.self.invariant.1 tt refl
             (close-state c.self.inside.award c.self.inside.clock c.close-closed.new.self c.self.inside.closed c.self.inside.bidders.items clock.0 clock.1 told.1)
       ],
+      testers-running c.self.inside.award c.self.inside.clock c.close-closed.new.self c.self.inside.testers.items clock.0 c.self.invariant.2,
     )
 
 pub returns : goal.returns

@@ -20,6 +20,7 @@ invariant_of-self c =
       reached-next old _ line c.self.invariant.1 (c.requires ∙ ap (λ (s : DeskState). length s.terms.supply) (sym c.self.view_is)) refl
           (drop-state c.self.inside.award c.self.inside.clock c.self.inside.closed c.self.inside.bidders.items c.args.bidder c.args.«package».now _ c.index_mut-lists.result.now c.remove.new.self
           (ap (λ (s : DeskState). reply_in s line) c.self.view_is ∙ sym c.reply_to_drop-reply.ensures.reply ∙ is) inside c.index_mut-lists.ensures.value c.remove.ensures),
+      c.self.invariant.2,
     )
 
 pub returns-then-matches : goal.returns-then-matches

@@ -21,6 +21,7 @@ invariant_of-self-2 c =
       reached-next old _ line c.self.invariant.1 (c.requires.categories ∙ ap (λ (s : DeskState). length s.terms.supply) (sym c.self.view_is)) refl
           (draft-state c.self.inside.award c.self.inside.clock c.self.inside.closed c.self.inside.bidders.items c.args.bidder c.args.«package».now c.args.amount _ c.index_mut-lists.result.now c.put.new.self
           (ap (λ (s : DeskState). reply_in s line) c.self.view_is ∙ c.requires.admitted) inside c.index_mut-lists.ensures.value put),
+      c.self.invariant.2,
     )
 
 pub returns : goal.returns

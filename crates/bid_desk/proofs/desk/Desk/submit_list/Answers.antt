@@ -20,6 +20,7 @@ invariant_of-self-2 c =
       reached-next old _ line c.self.invariant.1 tt refl
           (submit-state c.self.inside.award c.self.inside.clock c.self.inside.closed c.self.inside.bidders.items c.args.bidder _ c.index_mut-lists.result.now c.submit.new.self
           (ap (λ (s : DeskState). reply_in s line) c.self.view_is ∙ c.requires.admitted) inside c.index_mut-lists.ensures.value submitted),
+      c.self.invariant.2,
     )
 
 pub returns : goal.returns
