@@ -18,6 +18,7 @@ use Rattle.cca_run.specs.Headline.{CanBeAwarded, IsAudited, IsAwarded}
 use Rattle.cca_run.specs.Later.{HoldsCert, HoldsNothing}
 use Rattle.cca_run.specs.Run.{Appended, AppendsAll, HasNoFault, IsReadFault, IsWriteFault}
 use Rattle.cca_run.specs.Works.{RunEnds}
+use Rattle.cca_run.proofs.Named.{input-among, output-among}
 use Rattle.cca_run.proofs.WordsApart.{IsApart, apart-in}
 
 -- the outcome of a run that is done
@@ -56,25 +57,25 @@ run-award law command old new before now result ends terms log cert form is told
     (shows.0, shows.1, subst (λ (texts : List FileText). AppendsAll (award terms log cert form) texts old new) shows.2 appends)
 
 -- a fault of reading was counted
-no-read : (command : Option CommandValue) (old new : Folder) (before now : Output) (kind : FileKind) → HasNoFault old new before now → IsReadFault command old new kind → ⊥
+no-read : (command : Option CommandValue) (old new : Folder) (before now : Output) (kind : FileKind) → HasNoFault command old new before now → IsReadFault command old new kind → ⊥
 no-read None old new before now kind none fault = fault
-no-read (Some command) old new before now kind none fault = none.loads fault.name fault.rose
+no-read (Some command) old new before now kind none fault = none.loads fault.name (input-among command kind fault.name fault.input) fault.rose
 
 -- a fault of writing was counted
-no-write : (command : Option CommandValue) (old new : Folder) (before now : Output) (kind : FileKind) → HasNoFault old new before now → IsWriteFault command old new before now kind → ⊥
+no-write : (command : Option CommandValue) (old new : Folder) (before now : Output) (kind : FileKind) → HasNoFault command old new before now → IsWriteFault command old new before now kind → ⊥
 no-write None old new before now kinds.Award none fault = fault
 no-write None old new before now kinds.Log none fault = fault
 no-write None old new before now kinds.Book none fault = fault
 no-write None old new before now kinds.Cert none fault = fault
 no-write None old new before now kinds.Out none fault = none.puts fault
-no-write (Some command) old new before now kinds.Award none fault = none.appends fault.name fault.rose
-no-write (Some command) old new before now kinds.Log none fault = none.appends fault.name fault.rose
-no-write (Some command) old new before now kinds.Book none fault = none.appends fault.name fault.rose
-no-write (Some command) old new before now kinds.Cert none fault = none.appends fault.name fault.rose
+no-write (Some command) old new before now kinds.Award none fault = none.appends fault.name (output-among command kinds.Award fault.name fault.output) fault.rose
+no-write (Some command) old new before now kinds.Log none fault = none.appends fault.name (output-among command kinds.Log fault.name fault.output) fault.rose
+no-write (Some command) old new before now kinds.Book none fault = none.appends fault.name (output-among command kinds.Book fault.name fault.output) fault.rose
+no-write (Some command) old new before now kinds.Cert none fault = none.appends fault.name (output-among command kinds.Cert fault.name fault.output) fault.rose
 no-write (Some command) old new before now kinds.Out none fault = none.puts fault
 
 -- without a fault a status is decided, or there was no memory
-pub run-complete : (command : Option CommandValue) (old new : Folder) (before now : Output) (result : Status) → RunEnds command old new before now result → HasNoFault old new before now
+pub run-complete : (command : Option CommandValue) (old new : Folder) (before now : Output) (result : Status) → RunEnds command old new before now result → HasNoFault command old new before now
     → (result ≡ Memory) ⊎ IsDecided result
 run-complete command old new before now Done ends none = inr tt
 run-complete command old new before now (No test place) ends none = inr tt
@@ -87,7 +88,7 @@ run-complete command old new before now (Limit which count) ends none = inr tt
 
 -- without a fault a run whose words and bytes give Done alone is Done, or there was no memory
 module _ (command : Option CommandValue) (old new : Folder) (before now : Output) (result : Status) (ends : RunEnds command old new before now result) (told : IsTrue old.told)
-    (none : HasNoFault old new before now) where
+    (none : HasNoFault command old new before now) where
   done-or-memory : ((o : Outcome) → WordsGive command old.file o → o.status ≡ Done) → (result ≡ Done) ⊎ (result ≡ Memory)
   done-or-memory all =
       elim (run-complete command old new before now result ends none) [

@@ -107,17 +107,17 @@ pub fn run<F: Files, O: Sink>(alloc: Global, words: &[String], files: &mut F, ou
     // Its other half: `award` writes such a certificate for every auction within the limits, and `audit` over the same bytes says yes, where
     // the certificate's file held nothing before; but for a fault that was counted, and want of memory.
     ensures awarded { (terms log cert : List ℕ) (form : PriceForm) → command_of (map string_bytes words.now) ≡ Some (award terms log cert form) → IsTrue (F.folder files.old).told
-        → CanBeAwarded (F.folder files.old).file terms log → HasNoFault (F.folder files.old) (F.folder files.new) (O.output out.old) (O.output out.new)
+        → CanBeAwarded (F.folder files.old).file terms log → HasNoFault (command_of (map string_bytes words.now)) (F.folder files.old) (F.folder files.new) (O.output out.old) (O.output out.new)
         → (result ≡ Status.Done) ⊎ (result ≡ Status.Memory) }
     ensures accepted { (terms log cert : List ℕ) (form : PriceForm) (before : List ℕ → Option (List ℕ)) (o : Outcome) → command_of (map string_bytes words.now) ≡ Some (audit terms log cert) → IsTrue (F.folder files.old).told
         → FilesGive (award terms log cert form) before o → HoldsCert (terms ∷ log ∷ []) cert before (F.folder files.old).file o
-        → HasNoFault (F.folder files.old) (F.folder files.new) (O.output out.old) (O.output out.new) → (result ≡ Status.Done) ⊎ (result ≡ Status.Memory) }
+        → HasNoFault (command_of (map string_bytes words.now)) (F.folder files.old) (F.folder files.new) (O.output out.old) (O.output out.new) → (result ≡ Status.Done) ⊎ (result ≡ Status.Memory) }
     ensures handed_on { (terms log cert : List ℕ) (form : PriceForm) → command_of (map string_bytes words.now) ≡ Some (award terms log cert form) → IsTrue (F.folder files.old).told
         → result ≡ Status.Done → HoldsNothing ((F.folder files.old).file cert) → (o : Outcome) × FilesGive (award terms log cert form) (F.folder files.old).file o
         × HoldsCert (terms ∷ log ∷ []) cert (F.folder files.old).file (F.folder files.new).file o }
 
     // Where no fault was counted, the status is one that the words and the bytes decide, or want of memory.
-    ensures complete { HasNoFault (F.folder files.old) (F.folder files.new) (O.output out.old) (O.output out.new) → (result ≡ Status.Memory) ⊎ IsDecided result }
+    ensures complete { HasNoFault (command_of (map string_bytes words.now)) (F.folder files.old) (F.folder files.new) (O.output out.old) (O.output out.new) → (result ≡ Status.Memory) ⊎ IsDecided result }
 
     // A fault has its cause, and all that comes before it passed.
     ensures read_fault { (kind : FileKind) → result ≡ Status.ReadFault kind → IsReadFault (command_of (map string_bytes words.now)) (F.folder files.old) (F.folder files.new) kind }

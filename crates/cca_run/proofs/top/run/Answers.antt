@@ -1,4 +1,4 @@
-use Rattle.std.proofs.Common.{Option, None, subst}
+use Rattle.std.proofs.Common.{Option, subst}
 use Rattle.cca_inputs.specs.Command.{CommandValue}
 use Rattle.cca_run.specs.Works.{RunEnds}
 use Rattle.cca_run.proofs.RunHeadline.{run-accepted, run-audit, run-award, run-awarded, run-complete, run-hands-on}
@@ -42,7 +42,8 @@ returns-in-Some-clause-complete g c =
 pub returns-in-None-clause-complete : goal.returns-in-None-clause-complete
 returns-in-None-clause-complete g c =
     let folder = g.F.Files.folder c.args.files.now in
-    run-complete None folder folder _ _ c.tell_words.result c.tell_words.ensures.ends
+    let ends = subst (λ (x : Option CommandValue). RunEnds x folder folder (g.O.Sink.output c.args.out.now) (g.O.Sink.output c.tell_words.new.out) c.tell_words.result) c.in-None.ensures.command c.tell_words.ensures.ends in
+    run-complete _ folder folder _ _ c.tell_words.result ends
 
 pub returns-in-Some-clause-awarded : goal.returns-in-Some-clause-awarded
 returns-in-Some-clause-awarded g c =
