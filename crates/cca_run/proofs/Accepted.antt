@@ -108,7 +108,7 @@ just-added None (b ∷ bytes) some nothing = refl
 just-added (Some file) text some nothing = ap (λ (x : List ℕ). Some (x ++ text)) nothing
 
 -- an outcome that isn't a stop
-NoStop : Outcome → Type 0
+abbrev NoStop : Outcome → Type 0
 NoStop o = (status : Status) → o ≡ stopped status → ⊥
 
 -- Two outcomes of one input, of which the first isn't a stop, go on from one value.
@@ -208,10 +208,10 @@ module _ (one_cert : (bidders number : ℕ) (bytes : List ℕ) (x y : Said CertV
     none-stops status is = nothing-appended status o holds.text is holds.appended
 
     -- what follows for the book of the log
-    Prices : Book → Outcome → Type 0
+    abbrev Prices : Book → Outcome → Type 0
     Prices b x = PriceGives b (ones b) form x
 
-    Checks : Book → Outcome → Type 0
+    abbrev Checks : Book → Outcome → Type 0
     Checks b x = CertGives b (later cert) (VerdictGives b (ones b)) x
 
     on-book : (t : Terms) (rows : List (List (List ℕ))) (events : List Event) → IsAward t → AreLog t rows events → (b : Book) → end_of t (reverse events) ≡ Ok b → Prices b o → Checks b p → Accepts form o p

@@ -9,7 +9,6 @@ use Rattle.auction_rules.specs.BookOfLog.{book_of_log, is_complete}
 use Rattle.auction_rules.specs.Terms.{Terms}
 use Rattle.auction_rules.specs.declared.Event.{Event}
 use Rattle.award_file.specs.Award.{IsAward}
-use Rattle.award_file.specs.Reading as reading
 use Rattle.log_file.specs.LogReading.{AreLog, log_records}
 use Rattle.log_replay.specs.ReplyLines.{book_or_open, end_of, first_refusal, stopped_or}
 use Rattle.log_replay.specs.declared.results.ReplayStop.{ReplayStop}

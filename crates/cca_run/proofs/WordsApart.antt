@@ -89,7 +89,7 @@ module _ (terms log cert : List ℕ) (form : PriceForm) where
   mapped-award f g h None is = absurd cc
   mapped-award f g h (Some x) is = record { first = cc; second = cc; third = cc }
 
-  Files : Type 0
+  abbrev Files : Type 0
   Files = are_file_words (terms ∷ log ∷ cert ∷ []) ≡ true
 
   files-of : (rest : List (List ℕ)) → award_words rest ≡ Some (award terms log cert form) → Files
@@ -103,34 +103,62 @@ module _ (terms log cert : List ℕ) (form : PriceForm) where
       ]
 
   module _ (w : List ℕ) (rest : List (List ℕ)) where
-    from-audit : (if bytes_eq w (codes "audit") then audit_words rest else None) ≡ Some (award terms log cert form) → Files
+    -- what is asked of the words where no earlier first word was found
+    abbrev of-audit : Option CommandValue
+    of-audit = if bytes_eq w (codes "audit") then audit_words rest else None
+
+    abbrev of-award : Option CommandValue
+    of-award = if bytes_eq w (codes "award") then award_words rest else of-audit
+
+    abbrev of-auction : Option CommandValue
+    of-auction = if bytes_eq w (codes "auction") then auction_words rest else of-award
+
+    abbrev of-check : Option CommandValue
+    of-check = if bytes_eq w (codes "check") then check_words rest else of-auction
+
+    abbrev of-price : Option CommandValue
+    of-price = if bytes_eq w (codes "price") then price_words rest else of-check
+
+    from-audit : of-audit ≡ Some (award terms log cert form) → Files
     from-audit is =
-        elim (chosen _ (audit_words rest) None _ is) [
+        elim (chosen (bytes_eq w (codes "audit")) (audit_words rest) None (award terms log cert form) is) [
           | inl e ↦ absurd (never-audit rest e.1)
           | inr e ↦ absurd cc
         ]
 
-    from-award : (if bytes_eq w (codes "award") then award_words rest else if bytes_eq w (codes "audit") then audit_words rest else None) ≡ Some (award terms log cert form) → Files
+    from-award : of-award ≡ Some (award terms log cert form) → Files
     from-award is =
-        elim (chosen _ (award_words rest) _ _ is) [
+        elim (chosen (bytes_eq w (codes "award")) (award_words rest) of-audit (award terms log cert form) is) [
           | inl e ↦ files-of rest e.1
           | inr e ↦ from-audit e
         ]
 
+    from-auction : of-auction ≡ Some (award terms log cert form) → Files
+    from-auction is =
+        elim (chosen (bytes_eq w (codes "auction")) (auction_words rest) of-award (award terms log cert form) is) [
+          | inl e ↦ absurd (never-auction rest e.1)
+          | inr e ↦ from-award e
+        ]
+
+    from-check : of-check ≡ Some (award terms log cert form) → Files
+    from-check is =
+        elim (chosen (bytes_eq w (codes "check")) (check_words rest) of-auction (award terms log cert form) is) [
+          | inl e ↦ absurd (never-check rest e.1)
+          | inr e ↦ from-auction e
+        ]
+
+    from-price : of-price ≡ Some (award terms log cert form) → Files
+    from-price is =
+        elim (chosen (bytes_eq w (codes "price")) (price_words rest) of-check (award terms log cert form) is) [
+          | inl e ↦ absurd (never-price rest e.1)
+          | inr e ↦ from-check e
+        ]
+
     from-words : command_of (w ∷ rest) ≡ Some (award terms log cert form) → Files
     from-words is =
-        elim (chosen _ (win_words rest) _ _ is) [
+        elim (chosen (bytes_eq w (codes "win")) (win_words rest) of-price (award terms log cert form) is) [
           | inl e ↦ absurd (never-win rest e.1)
-          | inr behind_win ↦ elim (chosen _ (price_words rest) _ _ behind_win) [
-            | inl e ↦ absurd (never-price rest e.1)
-            | inr behind_price ↦ elim (chosen _ (check_words rest) _ _ behind_price) [
-              | inl e ↦ absurd (never-check rest e.1)
-              | inr behind_check ↦ elim (chosen _ (auction_words rest) _ _ behind_check) [
-                | inl e ↦ absurd (never-auction rest e.1)
-                | inr behind_auction ↦ from-award behind_auction
-              ]
-            ]
-          ]
+          | inr e ↦ from-price e
         ]
 
   all-files : (words : List (List ℕ)) → command_of words ≡ Some (award terms log cert form) → Files
