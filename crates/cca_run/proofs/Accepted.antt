@@ -1,5 +1,5 @@
 -- A certificate that pricing writes is accepted by the checker, of a book and of the book of a log.
-use Rattle.std.specs.Prelude.{◌≡◌, ℕ, ℤ, false, ◌≤◌, ◌<◌, ◌^◌, Option, Some, None, Result, Ok, Err, List, [], ◌∷◌, ◌++◌, codes, length, pos, reverse, ◌≤ℤ◌, refl, unsigned_abs}
+use Rattle.std.specs.Prelude.{◌≡◌, ℕ, ℤ, false, ◌≤◌, ◌<◌, ◌^◌, Option, Some, None, Result, Ok, Err, slice_index_or, List, [], ◌∷◌, ◌++◌, codes, length, pos, reverse, ◌≤ℤ◌, refl, unsigned_abs}
 use Rattle.std.proofs.Common.{inl, inr, sym, ◌∙◌, ap, subst, arith}
 use Rattle.std.proofs.lemmas.Bool.{cases_lt}
 use Rattle.std.proofs.lemmas.Int.{ints}
@@ -93,13 +93,14 @@ some-byte : (first rest : List ℕ) → 0 < length (first ++ 10 ∷ rest)
 some-byte [] rest = omega arith
 some-byte (b ∷ first) rest = omega arith
 
-some-line : (before : List Line) (l : Line) (behind : List Line) → 0 < length (text_of (spelled (before ++ l ∷ behind)))
-some-line [] l behind = some-byte (spell l) _
-some-line (b ∷ before) l behind = some-byte (spell b) _
+some-line : (before behind : List Line) → 0 < length behind → 0 < length (text_of (spelled (before ++ behind)))
+some-line [] [] some = absurd (omega (arith, some))
+some-line [] (l ∷ behind) some = some-byte (spell l) _
+some-line (b ∷ before) behind some = some-byte (spell b) _
 
 -- so has that of a certificate
 some-text : (c : CertValue) → 0 < length (cert_text c)
-some-text c = some-line (version_lines _ _) _ _
+some-text c = some-line (version_lines (length c.choice) (length (slice_index_or c.table 0 []))) (body_lines c) (omega arith)
 
 -- a file that held nothing holds just what was added
 just-added : (content : Option (List ℕ)) (text : List ℕ) → 0 < length text → HoldsNothing content → added content text ≡ Some text
@@ -215,13 +216,13 @@ module _ (one_cert : (bidders number : ℕ) (bytes : List ℕ) (x y : Said CertV
     Checks b x = CertGives b (later cert) (VerdictGives b (ones b)) x
 
     on-book : (t : Terms) (rows : List (List (List ℕ))) (events : List Event) → IsAward t → AreLog t rows events → (b : Book) → end_of t (reverse events) ≡ Ok b → Prices b o → Checks b p → Accepts form o p
-    on-book t rows events award log b is x y =
-        of-cert b form o p holds.text (file cert) (rules_log t rows events b award log is) x holds.appended holds.held_nothing
+    on-book t rows events rules states_all b is x y =
+        of-cert b form o p holds.text (file cert) (rules_log t rows events b rules states_all is) x holds.appended holds.held_nothing
         (subst (λ (c : Option (List ℕ)). CertGives b c (VerdictGives b (ones b)) p) holds.cert_holds y)
 
     on-log : (t : Terms) → IsAward t → (events : List Event) (bytes : List ℕ) → LogAnswers t bytes (value events) → BookOfLogGives t events Prices o → BookOfLogGives t events Checks p → Accepts form o p
-    on-log t award events bytes says x y =
-        two-ends (length events) (end_of t (reverse events)) Prices Checks o p (Accepts form o p) none-stops (on-book t (log_records bytes) events award says) x y
+    on-log t rules events bytes says x y =
+        two-ends (length events) (end_of t (reverse events)) Prices Checks o p (Accepts form o p) none-stops (on-book t (log_records bytes) events rules says) x y
 
     on-award : (t : Terms) (bytes : List ℕ) → AwardAnswers bytes (value t) → LogGives t (file log) (λ events. BookOfLogGives t events Prices) o
         → LogGives t (later log) (λ events. BookOfLogGives t events Checks) p → Accepts form o p

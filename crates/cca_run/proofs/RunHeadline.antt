@@ -118,7 +118,7 @@ appended-cert terms log cert text form old new o apart told some nothing (betwee
   appended = some;
   held_nothing = nothing;
   cert_holds = in_new cert ∙ adds.file told ∙ ap (added (old.file cert)) (take_all (length text) text (omega arith));
-  inputs_hold = (in_new terms ∙ adds.other_files terms apart.award, in_new log ∙ adds.other_files log apart.lines, tt);
+  inputs_hold = (in_new terms ∙ adds.other_files terms apart.award, (in_new log ∙ adds.other_files log apart.lines, tt));
 }
   where
     same : one.name ≡ cert
