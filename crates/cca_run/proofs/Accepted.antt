@@ -1,9 +1,9 @@
--- A certificate that pricing writes is accepted by the checker.
-use Rattle.std.specs.Prelude.{◌≡◌, ℕ, ℤ, false, ◌≤◌, ◌<◌, ◌^◌, Option, Some, None, List, [], ◌∷◌, ◌++◌, codes, length, pos, ◌≤ℤ◌, refl, unsigned_abs}
+-- A certificate that pricing writes is accepted by the checker, of a book and of the book of a log.
+use Rattle.std.specs.Prelude.{◌≡◌, ℕ, ℤ, false, ◌≤◌, ◌<◌, ◌^◌, Option, Some, None, Result, Ok, Err, slice_index_or, List, [], ◌∷◌, ◌++◌, codes, length, pos, reverse, ◌≤ℤ◌, refl, unsigned_abs}
 use Rattle.std.proofs.Common.{inl, inr, sym, ◌∙◌, ap, subst, arith}
 use Rattle.std.proofs.lemmas.Bool.{cases_lt}
 use Rattle.std.proofs.lemmas.Int.{ints}
-use Rattle.line_text.specs.LineText.{Said, stated, faulty, beyond, Says}
+use Rattle.line_text.specs.LineText.{Said, stated, faulty, beyond, Says, text_of}
 use Rattle.auction_model.specs.Book.{Book, net_of, market_of}
 use Rattle.auction_model.specs.Prices.{Point, SamePoint, weight_of}
 use Rattle.book_form.specs.BookForm.{IsBook}
@@ -11,25 +11,36 @@ use Rattle.book_form.specs.BookLines.{Excess, lines}
 use Rattle.bid_book.proofs.Within.{kept}
 use Rattle.bid_book.specs.Kept.{IsBidBook}
 use Rattle.cert_form.specs.Certificate.{CertValue}
-use Rattle.cert_form.specs.CertText.{IsCertificate}
+use Rattle.auction_rules.specs.Terms.{Terms}
+use Rattle.auction_rules.specs.declared.Event.{Event}
+use Rattle.award_file.specs.Award.{IsAward}
+use Rattle.log_file.specs.LogReading.{AreLog, log_records}
+use Rattle.log_replay.specs.ReplyLines.{end_of}
+use Rattle.log_replay.specs.declared.results.ReplayStop.{ReplayStop}
+use Rattle.cca_base.specs.Files.{added}
+use Rattle.cert_form.specs.CertText.{IsCertificate, body_lines, cert_lines}
+use Rattle.cert_form.specs.Lines.{Line, lines as spelled, over, spell, version_lines}
 use Rattle.cert_form.specs.Says.{CertSays, cert_text}
 use Rattle.cert_laws.specs.BookSizes.{IsWithinSizes}
 use Rattle.cert_laws.specs.Priced.{IsPricedCert}
 use Rattle.cert_laws.specs.Sound.{cert_point, cert_prices}
 use Rattle.cert_laws.specs.Tests.{FailsFirst, Holds, bidders_of, states}
-use Rattle.limits.specs.declared.TheConstants.{BOOK_BYTES, CERT_BYTES, MOST_AMOUNT, MOST_WINNERS}
+use Rattle.limits.specs.declared.TheConstants.{AWARD_BYTES, BOOK_BYTES, CERT_BYTES, LOG_BYTES, MOST_AMOUNT, MOST_WINNERS}
 use Rattle.print_form.specs.Prices.{IsPriceText}
 use Rattle.row_laws.specs.Winners.{winners_in}
-use Rattle.cca_inputs.specs.Answers.{BookAnswers, CertAnswers, book_answer, cert_answer}
-use Rattle.cca_inputs.specs.Command.{form_with, price, check}
-use Rattle.cca_inputs.specs.Outcome.{Answer, AnswerGives, FileAnswers, Outcome, stopped, stops, value}
+use Rattle.cca_inputs.specs.Answers.{AwardAnswers, BookAnswers, CertAnswers, LogAnswers, book_answer, cert_answer}
+use Rattle.cca_inputs.specs.Command.{form_with, price, check, award, audit}
+use Rattle.cca_inputs.specs.Outcome.{Answer, AnswerGives, FileAnswers, InputGives, Outcome, stopped, stops, value}
 use Rattle.cca_inputs.specs.declared.file_text.FileText.{FileText}
 use Rattle.cca_inputs.specs.declared.price_form.PriceForm.{PriceForm}
+use Rattle.cca_inputs.specs.declared.status.FileKind.{FileKind}
+use Rattle.cca_inputs.specs.declared.status.FileKind.TheVariants as kinds
 use Rattle.cca_inputs.specs.declared.status.Status.{Status}
-use Rattle.cca_inputs.specs.declared.status.Status.TheVariants.{Done}
+use Rattle.cca_inputs.specs.declared.status.Status.TheVariants.{Done, ReadFault}
+use Rattle.cca_run.proofs.OneLog.{one-award-answer}
 use Rattle.cca_run.proofs.OneOutcome.{one-answer}
-use Rattle.cca_run.specs.Gives.{ArePriceLines, ArePrinted, BookGives, CertGives, FilesGive, IsPricing, PriceGives, VerdictGives, cert_file, ones}
-use Rattle.cca_run.specs.Later.{HoldsCert}
+use Rattle.cca_run.specs.Gives.{ArePriceLines, ArePrinted, AwardGives, BookGives, BookOfLogGives, CertGives, EndGives, FilesGive, IsPricing, LogGives, PriceGives, VerdictGives, cert_file, ones, replay_status}
+use Rattle.cca_run.specs.Later.{HoldsCert, HoldsNothing}
 
 -- the test is done, and where lines without turns were asked for it prints `yes` and then what the prices printed
 abbrev pub Accepts : PriceForm → Outcome → Outcome → Type 0
@@ -57,7 +68,8 @@ book-kept bytes book (said, says, is) = by said says is
 size-most : (x : ℤ) (n : ℕ) → pos 0 ≤ℤ x → x ≤ℤ pos n → unsigned_abs x ≤ n
 size-most x n low high = omega (arith, ints, low, high)
 
-sizes-of : (book : Book) → IsBidBook book → IsWithinSizes book
+-- and is within the sizes that bound the text of a certificate
+pub sizes-of : (book : Book) → IsBidBook book → IsWithinSizes book
 sizes-of book rules = record {
   bidders = rules.bidders;
   states = rules.supply.states;
@@ -76,17 +88,55 @@ within-says most says bytes v answers =
 yes-printed : (lines prices others printed : List ℕ) → lines ≡ [] → others ≡ prices → printed ≡ lines ++ prices → codes "yes\n" ++ others ≡ codes "yes\n" ++ printed
 yes-printed lines prices others printed none same whole = ap (λ (t : List ℕ). codes "yes\n" ++ t) (same ∙ ap (λ (l : List ℕ). l ++ prices) (sym none) ∙ sym whole)
 
+-- a text with a line has a byte
+some-byte : (first rest : List ℕ) → 0 < length (first ++ 10 ∷ rest)
+some-byte [] rest = omega arith
+some-byte (b ∷ first) rest = omega arith
+
+some-line : (before behind : List Line) → 0 < length behind → 0 < length (text_of (spelled (before ++ behind)))
+some-line [] [] some = absurd (omega (arith, some))
+some-line [] (l ∷ behind) some = some-byte (spell l) _
+some-line (b ∷ before) behind some = some-byte (spell b) _
+
+-- so has that of a certificate
+some-text : (c : CertValue) → 0 < length (cert_text c)
+some-text c = some-line (version_lines (length c.choice) (length (slice_index_or c.table 0 []))) (body_lines c) (omega arith)
+
+-- a file that held nothing holds just what was added
+just-added : (content : Option (List ℕ)) (text : List ℕ) → 0 < length text → HoldsNothing content → added content text ≡ Some text
+just-added None [] some nothing = absurd (omega (arith, some))
+just-added None (b ∷ bytes) some nothing = refl
+just-added (Some file) text some nothing = ap (λ (x : List ℕ). Some (x ++ text)) nothing
+
+-- an outcome that isn't a stop
+abbrev NoStop : Outcome → Type 0
+NoStop o = (status : Status) → o ≡ stopped status → ⊥
+
+-- Two outcomes of one input, of which the first isn't a stop, go on from one value.
+two-inputs : {V : Type 0} (kind : FileKind) (most : ℕ) (says : List ℕ → Answer V → Type 0) (follows others : V → Outcome → Type 0) (content : Option (List ℕ)) (o p : Outcome) (R : Type 0)
+    → ((bytes : List ℕ) (a b : Answer V) → says bytes a → says bytes b → a ≡ b) → NoStop o → ((v : V) (bytes : List ℕ) → says bytes (value v) → follows v o → others v p → R)
+    → InputGives kind most says content follows o → InputGives kind most says content others p → R
+two-inputs kind most says follows others None o p R one none on x y = absurd (none (ReadFault kind) x)
+two-inputs {V} kind most says follows others (Some bytes) o p R one none on (a, answers, x) (b, same, y) =
+    go a answers x (subst (λ (z : Answer V). AnswerGives z others p) (one-answer most says one bytes b a same answers) y)
+  where
+    go : (a : Answer V) → FileAnswers most says bytes a → AnswerGives a follows o → AnswerGives a others p → R
+    go (value v) answers x y = on v bytes (within-says most says bytes v answers) x y
+    go (stops status) answers x y = absurd (none status x)
+
+-- the same of what a log leads to
+two-ends : (records : ℕ) (end : Result Book ReplayStop) (follows others : Book → Outcome → Type 0) (o p : Outcome) (R : Type 0) → NoStop o
+    → ((book : Book) → end ≡ Ok book → follows book o → others book p → R) → EndGives records end follows o → EndGives records end others p → R
+two-ends records (Ok book) follows others o p R none on x y = on book refl x y
+two-ends records (Err stop) follows others o p R none on x y = absurd (none (replay_status records stop) x)
+
 -- what the laws of the crates below say
-module _ (one_book : (bytes : List ℕ) (x y : Said Book Excess) → Says IsBook lines bytes x → Says IsBook lines bytes y → x ≡ y)
-    (one_cert : (bidders number : ℕ) (bytes : List ℕ) (x y : Said CertValue ℕ) → CertSays bidders number bytes x → CertSays bidders number bytes y → x ≡ y)
+module _ (one_cert : (bidders number : ℕ) (bytes : List ℕ) (x y : Said CertValue ℕ) → CertSays bidders number bytes x → CertSays bidders number bytes y → x ≡ y)
     (text_of_cert : (bidders number : ℕ) (c : CertValue) → bidders < 2 ^ 100 → IsCertificate bidders number c → CertSays bidders number (cert_text c) (stated c))
     (short_text : (book : Book) (w : ℕ → ℕ) (c : CertValue) → IsWithinSizes book → IsCertificate (bidders_of book) (states book) c → IsPricedCert book w c → winners_in c.choice ≤ MOST_WINNERS → length (cert_text c) < 57000000)
     (not_both : (book : Book) (w : ℕ → ℕ) (c : CertValue) (t p : ℕ) → Holds book w c → FailsFirst book w c t p → ⊥)
     (one_prices : (book : Book) (z : List ℕ) (v w : ℕ → ℤ) (p q : Point) (t u : List ℕ) → length z ≡ (market_of book).bidders → pos 1 ≤ℤ p.den → pos 1 ≤ℤ q.den
     → SamePoint (market_of book) p q → ((j : ℕ) → 0 < j → j ≤ (market_of book).bidders → v j ≡ w j) → IsPriceText book z v p t → IsPriceText book z w q u → t ≡ u) where
-  same-book : (bytes : List ℕ) (x y : Answer Book) → BookAnswers bytes x → BookAnswers bytes y → x ≡ y
-  same-book bytes x y a b = a.2 ∙ ap book_answer (one_book bytes a.0 b.0 a.1 b.1) ∙ sym b.2
-
   -- the verdict on a certificate for which all tests hold
   judged : (book : Book) (form : PriceForm) (c : CertValue) (t : List ℕ) (p : Outcome) → IsPricing book (ones book) form c t → VerdictGives book (ones book) c p
       → (p.status ≡ Done) × (form ≡ form_with false false → p.printed ≡ codes "yes\n" ++ t)
@@ -111,14 +161,17 @@ module _ (one_book : (bytes : List ℕ) (x y : Said Book Excess) → Says IsBook
       let states_it = text_of_cert (bidders_of book) (states book) c (omega (arith, rules.bidders)) is.certificate in
       says.2 ∙ ap cert_answer (one_cert (bidders_of book) (states book) (cert_text c) says.0 (stated c) says.1 states_it)
 
-  -- the certificate of a book that can be priced is accepted
-  of-cert : (book : Book) (form : PriceForm) (o p : Outcome) (text : List ℕ) → IsBidBook book → PriceGives book (ones book) form o → o.appended ≡ cert_file text ∷ []
-      → CertGives book (Some text) (VerdictGives book (ones book)) p → Accepts form o p
-  of-cert book form o p text rules (inr many) some gives = absurd (nothing-appended _ o text many.2 some)
-  of-cert book form o p text rules (inl (c, t, is, ends)) some gives = by (subst (λ (x : List ℕ). CertGives book (Some x) (VerdictGives book (ones book)) p) (sym same) gives)
+  -- the certificate of a book that can be priced is accepted, behind a file that held nothing
+  of-cert : (book : Book) (form : PriceForm) (o p : Outcome) (text : List ℕ) (content : Option (List ℕ)) → IsBidBook book → PriceGives book (ones book) form o → o.appended ≡ cert_file text ∷ []
+      → HoldsNothing content → CertGives book (added content text) (VerdictGives book (ones book)) p → Accepts form o p
+  of-cert book form o p text content rules (inr many) some nothing gives = absurd (nothing-appended _ o text many.2 some)
+  of-cert book form o p text content rules (inl (c, t, is, ends)) some nothing gives = by (subst (λ (x : Option (List ℕ)). CertGives book x (VerdictGives book (ones book)) p) holds gives)
     where
       same : cert_text c ≡ text
       same = ap first-text (sym (ap (λ (x : Outcome). x.appended) ends) ∙ some)
+
+      holds : added content text ≡ Some (cert_text c)
+      holds = just-added content text (subst (λ (x : List ℕ). 0 < length x) same (some-text c)) nothing ∙ ap Some (sym same)
 
       by : CertGives book (Some (cert_text c)) (VerdictGives book (ones book)) p → Accepts form o p
       by (answer, answers, follows) =
@@ -127,25 +180,59 @@ module _ (one_book : (bytes : List ℕ) (x y : Said Book Excess) → Says IsBook
           let both = judged book form c t p is verdict in
           (both.0, λ none. both.1 none ∙ ap (λ (x : List ℕ). codes "yes\n" ++ x) (sym (ap (λ (x : Outcome). x.printed) ends)))
 
-  -- of the bytes of a book
-  of-book : (form : PriceForm) (o p : Outcome) (text : List ℕ) (content : Option (List ℕ)) → BookGives content (λ b. PriceGives b (ones b) form) o → o.appended ≡ cert_file text ∷ []
-      → BookGives content (λ b. CertGives b (Some text) (VerdictGives b (ones b))) p → Accepts form o p
-  of-book form o p text None prices some checks = absurd (nothing-appended _ o text prices some)
-  of-book form o p text (Some bytes) (a, answers, prices) some (b, others, checks) =
-      go a answers prices (subst (λ (x : Answer Book). AnswerGives x (λ b. CertGives b (Some text) (VerdictGives b (ones b))) p) (one-answer BOOK_BYTES BookAnswers same-book bytes b a others answers) checks)
-    where
-      go : (a : Answer Book) → FileAnswers BOOK_BYTES BookAnswers bytes a → AnswerGives a (λ b. PriceGives b (ones b) form) o
-          → AnswerGives a (λ b. CertGives b (Some text) (VerdictGives b (ones b))) p → Accepts form o p
-      go (value book) answers prices checks = of-cert book form o p text (book-kept bytes book (within-says BOOK_BYTES BookAnswers bytes book answers)) prices some checks
-      go (stops status) answers prices checks = absurd (nothing-appended status o text prices some)
-
-  -- of the files
-  pub accepted : (book cert : List ℕ) (form : PriceForm) (file later : List ℕ → Option (List ℕ)) (o p : Outcome) → FilesGive (price book cert form) file o → HoldsCert book cert file later o
+  -- of the files of `price` and `check`
+  pub accepted : ((bytes : List ℕ) (x y : Said Book Excess) → Says IsBook lines bytes x → Says IsBook lines bytes y → x ≡ y)
+      → (book cert : List ℕ) (form : PriceForm) (file later : List ℕ → Option (List ℕ)) (o p : Outcome) → FilesGive (price book cert form) file o → HoldsCert (book ∷ []) cert file later o
       → FilesGive (check book cert) later p → Accepts form o p
-  accepted book cert form file later o p prices holds checks = of-book form o p holds.text (file book) prices holds.appended there
+  accepted one_book book cert form file later o p prices holds checks =
+      two-inputs kinds.Book BOOK_BYTES BookAnswers (λ b. PriceGives b (ones b) form) (λ b. CertGives b (later cert) (VerdictGives b (ones b))) (file book) o p (Accepts form o p) same-book none on prices there
     where
-      with-book : BookGives (file book) (λ b. CertGives b (later cert) (VerdictGives b (ones b))) p
-      with-book = subst (λ (x : Option (List ℕ)). BookGives x (λ b. CertGives b (later cert) (VerdictGives b (ones b))) p) holds.book_holds checks
+      none : NoStop o
+      none status is = nothing-appended status o holds.text is holds.appended
 
-      there : BookGives (file book) (λ b. CertGives b (Some holds.text) (VerdictGives b (ones b))) p
-      there = subst (λ (x : Option (List ℕ)). BookGives (file book) (λ b. CertGives b x (VerdictGives b (ones b))) p) holds.cert_holds with-book
+      same-book : (bytes : List ℕ) (x y : Answer Book) → BookAnswers bytes x → BookAnswers bytes y → x ≡ y
+      same-book bytes x y a b = a.2 ∙ ap book_answer (one_book bytes a.0 b.0 a.1 b.1) ∙ sym b.2
+
+      on : (b : Book) (bytes : List ℕ) → BookAnswers bytes (value b) → PriceGives b (ones b) form o → CertGives b (later cert) (VerdictGives b (ones b)) p → Accepts form o p
+      on b bytes says x y =
+          of-cert b form o p holds.text (file cert) (book-kept bytes b says) x holds.appended holds.held_nothing
+          (subst (λ (c : Option (List ℕ)). CertGives b c (VerdictGives b (ones b)) p) holds.cert_holds y)
+
+      there : BookGives (file book) (λ b. CertGives b (later cert) (VerdictGives b (ones b))) p
+      there = subst (λ (x : Option (List ℕ)). BookGives x (λ b. CertGives b (later cert) (VerdictGives b (ones b))) p) holds.inputs_hold.0 checks
+
+  -- of the files of `award` and `audit`
+  module _ (one_log_answer : (terms : Terms) (bytes : List ℕ) (x y : Answer (List Event)) → LogAnswers terms bytes x → LogAnswers terms bytes y → x ≡ y)
+      (rules_log : (terms : Terms) (rows : List (List (List ℕ))) (events : List Event) (book : Book) → IsAward terms → AreLog terms rows events → end_of terms (reverse events) ≡ Ok book → IsBidBook book)
+      (terms log cert : List ℕ) (form : PriceForm) (file later : List ℕ → Option (List ℕ)) (o p : Outcome) (holds : HoldsCert (terms ∷ log ∷ []) cert file later o) where
+    none-stops : NoStop o
+    none-stops status is = nothing-appended status o holds.text is holds.appended
+
+    -- what follows for the book of the log
+    abbrev Prices : Book → Outcome → Type 0
+    Prices b x = PriceGives b (ones b) form x
+
+    abbrev Checks : Book → Outcome → Type 0
+    Checks b x = CertGives b (later cert) (VerdictGives b (ones b)) x
+
+    on-book : (t : Terms) (rows : List (List (List ℕ))) (events : List Event) → IsAward t → AreLog t rows events → (b : Book) → end_of t (reverse events) ≡ Ok b → Prices b o → Checks b p → Accepts form o p
+    on-book t rows events rules states_all b is x y =
+        of-cert b form o p holds.text (file cert) (rules_log t rows events b rules states_all is) x holds.appended holds.held_nothing
+        (subst (λ (c : Option (List ℕ)). CertGives b c (VerdictGives b (ones b)) p) holds.cert_holds y)
+
+    on-log : (t : Terms) → IsAward t → (events : List Event) (bytes : List ℕ) → LogAnswers t bytes (value events) → BookOfLogGives t events Prices o → BookOfLogGives t events Checks p → Accepts form o p
+    on-log t rules events bytes says x y =
+        two-ends (length events) (end_of t (reverse events)) Prices Checks o p (Accepts form o p) none-stops (on-book t (log_records bytes) events rules says) x y
+
+    on-award : (t : Terms) (bytes : List ℕ) → AwardAnswers bytes (value t) → LogGives t (file log) (λ events. BookOfLogGives t events Prices) o
+        → LogGives t (later log) (λ events. BookOfLogGives t events Checks) p → Accepts form o p
+    on-award t bytes says x y =
+        two-inputs kinds.Log LOG_BYTES (LogAnswers t) (λ events. BookOfLogGives t events Prices) (λ events. BookOfLogGives t events Checks) (file log) o p (Accepts form o p)
+        (one_log_answer t) none-stops (on-log t says.1) x
+        (subst (λ (c : Option (List ℕ)). LogGives t c (λ events. BookOfLogGives t events Checks) p) holds.inputs_hold.1.0 y)
+
+    pub accepted-log : FilesGive (award terms log cert form) file o → FilesGive (audit terms log cert) later p → Accepts form o p
+    accepted-log prices checks =
+        two-inputs kinds.Award AWARD_BYTES AwardAnswers (λ t. LogGives t (file log) (λ events. BookOfLogGives t events Prices)) (λ t. LogGives t (later log) (λ events. BookOfLogGives t events Checks))
+        (file terms) o p (Accepts form o p) one-award-answer none-stops on-award prices
+        (subst (λ (c : Option (List ℕ)). AwardGives c (λ t. LogGives t (later log) (λ events. BookOfLogGives t events Checks)) p) holds.inputs_hold.0 checks)

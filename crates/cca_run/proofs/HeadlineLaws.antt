@@ -11,17 +11,22 @@ use Rattle.auction_outcome.specs.Outcome.{IsAuctionOutcome}
 use Rattle.auction_rules.specs.Terms.{Terms}
 use Rattle.auction_rules.specs.declared.Event.{Event}
 use Rattle.award_file.specs.Reading as reading
-use Rattle.log_file.specs.LogReading.{log_records}
+use Rattle.log_file.specs.LogReading.{AreLog, log_records}
 use Rattle.log_replay.specs.ReplyLines.{end_of}
 use Rattle.log_replay.specs.declared.results.ReplayStop.{ReplayStop}
 use Rattle.log_replay.specs.declared.results.ReplayStop.TheVariants.{Rounds, Price, Open}
 use Rattle.line_text.specs.LineText.{Said, stated, faulty, beyond}
 use Rattle.cert_form.specs.Certificate.{CertValue}
+use Rattle.bid_book.specs.Kept.{IsBidBook}
+use Rattle.award_file.specs.Award.{IsAward}
+use Rattle.row_laws.specs.Winners.{winners_in}
+use Rattle.cert_form.specs.CertText.{IsCertificate}
 use Rattle.cert_form.specs.Says.{CertSays, cert_text}
+use Rattle.cert_laws.specs.BookSizes.{IsWithinSizes}
 use Rattle.cert_laws.specs.Priced.{IsPricedCert}
 use Rattle.cert_laws.specs.Sound.{cert_point}
 use Rattle.cert_laws.specs.Tests.{bidders_of, states}
-use Rattle.limits.specs.declared.TheConstants.{AWARD_BYTES, LOG_BYTES, CERT_BYTES}
+use Rattle.limits.specs.declared.TheConstants.{AWARD_BYTES, LOG_BYTES, CERT_BYTES, MOST_WINNERS}
 use Rattle.cca_inputs.specs.Answers.{AwardAnswers, CertAnswers, LogAnswers, award_answer, cert_answer}
 use Rattle.cca_inputs.specs.Command.{award, audit}
 use Rattle.cca_inputs.specs.Outcome.{Answer, FileAnswers, AnswerGives, InputGives, Outcome, done, stopped, stops, value}
@@ -32,17 +37,27 @@ use Rattle.cca_inputs.specs.declared.status.Status.{Status}
 use Rattle.cca_inputs.specs.declared.status.Status.TheVariants.{Done}
 use Rattle.cca_run.specs.Gives.{BookOfLogGives, CertGives, EndGives, FilesGive, IsYesText, LogGives, PriceGives, VerdictGives, cert_file, ones}
 use Rattle.cca_run.specs.Headline.{IsAudited, IsAwarded, book_of}
+use Rattle.cca_run.proofs.Accepted.{sizes-of}
 use Rattle.cca_run.proofs.LogBooks.{logged}
 
 -- an input of a run that is done has a value, from which the run went on
-record HasValue {V : Type 0} (says : List ℕ → Answer V → Type 0) (content : Option (List ℕ)) (follows : V → Outcome → Type 0) (o : Outcome) : Type 0 where
-  bytes : List ℕ
-  of : V
-  here : content ≡ Some bytes
-  says_it : says bytes (value of)
-  goes_on : follows of o
+pub record HasValue {V : Type 0} (most : ℕ) (says : List ℕ → Answer V → Type 0) (content : Option (List ℕ)) (follows : V → Outcome → Type 0) (o : Outcome) : Type 0 where
+  pub bytes : List ℕ
+  pub of : V
+  pub here : content ≡ Some bytes
+  pub short : length bytes ≤ most
+  pub says_it : says bytes (value of)
+  pub goes_on : follows of o
 
 -- a value stands within the limit
+within-most : {V : Type 0} (most : ℕ) (says : List ℕ → Answer V → Type 0) (bytes : List ℕ) (v : V) → FileAnswers most says bytes (value v) → length bytes ≤ most
+within-most most says bytes v answers =
+    elim (cases_lt most (length bytes)) [
+      | inl over ↦ (let no = answers.long over in absurd cc)
+      | inr short ↦ short
+    ]
+
+-- and is what the text says
 says-within : {V : Type 0} (most : ℕ) (says : List ℕ → Answer V → Type 0) (bytes : List ℕ) (v : V) → FileAnswers most says bytes (value v) → says bytes (value v)
 says-within most says bytes v answers =
     elim (cases_lt most (length bytes)) [
@@ -58,17 +73,17 @@ never-done {V} most says bytes s none answers is =
       | inr short ↦ none bytes (subst (λ (x : Status). says bytes (stops x)) is (answers.text short))
     ]
 
-has-value : {V : Type 0} (kind : FileKind) (most : ℕ) (says : List ℕ → Answer V → Type 0) (content : Option (List ℕ)) (follows : V → Outcome → Type 0) (o : Outcome) → ((bytes : List ℕ) → says bytes (stops Done) → ⊥)
-    → InputGives kind most says content follows o → o.status ≡ Done → HasValue says content follows o
+pub has-value : {V : Type 0} (kind : FileKind) (most : ℕ) (says : List ℕ → Answer V → Type 0) (content : Option (List ℕ)) (follows : V → Outcome → Type 0) (o : Outcome) → ((bytes : List ℕ) → says bytes (stops Done) → ⊥)
+    → InputGives kind most says content follows o → o.status ≡ Done → HasValue most says content follows o
 has-value kind most says None follows o none gives ends = let no = sym (ap (λ (x : Outcome). x.status) gives) ∙ ends in absurd cc
 has-value {V} kind most says (Some bytes) follows o none (answer, answers, gives) ends = by answer answers gives
   where
-    by : (answer : Answer V) → FileAnswers most says bytes answer → AnswerGives answer follows o → HasValue says (Some bytes) follows o
-    by (value v) answers gives = record { bytes = bytes; of = v; here = refl; says_it = says-within most says bytes v answers; goes_on = gives }
+    by : (answer : Answer V) → FileAnswers most says bytes answer → AnswerGives answer follows o → HasValue most says (Some bytes) follows o
+    by (value v) answers gives = record { bytes = bytes; of = v; here = refl; short = within-most most says bytes v answers; says_it = says-within most says bytes v answers; goes_on = gives }
     by (stops s) answers gives = absurd (never-done most says bytes s none answers (sym (ap (λ (x : Outcome). x.status) gives) ∙ ends))
 
 -- the bytes of an award never say Done
-award-never : (bytes : List ℕ) → AwardAnswers bytes (stops Done) → ⊥
+pub award-never : (bytes : List ℕ) → AwardAnswers bytes (stops Done) → ⊥
 award-never bytes (is, keeps) = by (reading.reading bytes) is
   where
     by : (r : reading.Reading) → stops Done ≡ award_answer r → ⊥
@@ -78,7 +93,7 @@ award-never bytes (is, keeps) = by (reading.reading bytes) is
     by (reading.states terms) is = absurd cc
 
 -- the bytes of an award state its terms
-award-states : (bytes : List ℕ) (terms : Terms) → AwardAnswers bytes (value terms) → reading.reading bytes ≡ reading.states terms
+pub award-states : (bytes : List ℕ) (terms : Terms) → AwardAnswers bytes (value terms) → reading.reading bytes ≡ reading.states terms
 award-states bytes terms (is, keeps) = by (reading.reading bytes) is
   where
     by : (r : reading.Reading) → value terms ≡ award_answer r → r ≡ reading.states terms
@@ -88,7 +103,7 @@ award-states bytes terms (is, keeps) = by (reading.reading bytes) is
     by (reading.states t) is = let same : t ≡ terms = cc in ap reading.states same
 
 -- nor those of a log
-log-never : (terms : Terms) (bytes : List ℕ) → LogAnswers terms bytes (stops Done) → ⊥
+pub log-never : (terms : Terms) (bytes : List ℕ) → LogAnswers terms bytes (stops Done) → ⊥
 log-never terms bytes (inl (number, first, is)) = absurd cc
 log-never terms bytes (inr (many, is)) = absurd cc
 
@@ -111,7 +126,7 @@ states-cert book bytes c (said, says, is) = by said says is
     by (beyond place) says is = absurd cc
 
 -- a log of a run that is done leads to a book
-has-book : (records : ℕ) (end : Result Book ReplayStop) (follows : Book → Outcome → Type 0) (o : Outcome) → EndGives records end follows o → o.status ≡ Done → (book : Book) × (end ≡ Ok book) × follows book o
+pub has-book : (records : ℕ) (end : Result Book ReplayStop) (follows : Book → Outcome → Type 0) (o : Outcome) → EndGives records end follows o → o.status ≡ Done → (book : Book) × (end ≡ Ok book) × follows book o
 has-book records (Ok book) follows o gives ends = (book, refl, gives)
 has-book records (Err (Rounds count)) follows o gives ends = let no = sym (ap (λ (x : Outcome). x.status) gives) ∙ ends in absurd cc
 has-book records (Err (Price price)) follows o gives ends = let no = sym (ap (λ (x : Outcome). x.status) gives) ∙ ends in absurd cc
@@ -133,10 +148,10 @@ module _ (plain : (m : Market) (w : ℕ → ℕ) (z : List ℕ) (p : Point) → 
       let c = has-value kinds.Cert CERT_BYTES (CertAnswers b.0) (file cert) (VerdictGives b.0 (ones b.0)) o (cert-never b.0) b.2 ends in
       by a l b c c.goes_on
     where
-      by : (a : HasValue AwardAnswers (file terms) (λ t. LogGives t (file log) (λ events. BookOfLogGives t events (λ b. CertGives b (file cert) (VerdictGives b (ones b))))) o)
-          (l : HasValue (LogAnswers a.of) (file log) (λ events. BookOfLogGives a.of events (λ b. CertGives b (file cert) (VerdictGives b (ones b)))) o)
+      by : (a : HasValue AWARD_BYTES AwardAnswers (file terms) (λ t. LogGives t (file log) (λ events. BookOfLogGives t events (λ b. CertGives b (file cert) (VerdictGives b (ones b))))) o)
+          (l : HasValue LOG_BYTES (LogAnswers a.of) (file log) (λ events. BookOfLogGives a.of events (λ b. CertGives b (file cert) (VerdictGives b (ones b)))) o)
           (b : (book : Book) × (end_of a.of (reverse l.of) ≡ Ok book) × CertGives book (file cert) (VerdictGives book (ones book)) o)
-          (c : HasValue (CertAnswers b.0) (file cert) (VerdictGives b.0 (ones b.0)) o)
+          (c : HasValue CERT_BYTES (CertAnswers b.0) (file cert) (VerdictGives b.0 (ones b.0)) o)
           → VerdictGives b.0 (ones b.0) c.of o → IsAudited file terms log cert o.printed × (o.appended ≡ [])
       by a l b c (inr (test, place, fails, told)) = let no = sym (ap (λ (x : Outcome). x.status) told) ∙ ends in absurd cc
       by a l b c (inl (all, sound, (text, is_yes, told))) =
@@ -158,34 +173,37 @@ module _ (plain : (m : Market) (w : ℕ → ℕ) (z : List ℕ) (p : Point) → 
           )
 
   -- what was written, by what is known of each file
-  pub awarded : (file : List ℕ → Option (List ℕ)) (terms log cert : List ℕ) (form : PriceForm) (o : Outcome) → FilesGive (award terms log cert form) file o → o.status ≡ Done
-      → (text : List ℕ) × IsAwarded file terms log text × (o.appended ≡ cert_file text ∷ [])
-  awarded file terms log cert form o gives ends =
-      let a = has-value kinds.Award AWARD_BYTES AwardAnswers (file terms) (λ t. LogGives t (file log) (λ events. BookOfLogGives t events (λ b. PriceGives b (ones b) form))) o award-never gives ends in
-      let l = has-value kinds.Log LOG_BYTES (LogAnswers a.of) (file log) (λ events. BookOfLogGives a.of events (λ b. PriceGives b (ones b) form)) o (log-never a.of) a.goes_on ends in
-      let b = has-book (length l.of) (end_of a.of (reverse l.of)) (λ b. PriceGives b (ones b) form) o l.goes_on ends in
-      by a l b b.2
-    where
-      by : (a : HasValue AwardAnswers (file terms) (λ t. LogGives t (file log) (λ events. BookOfLogGives t events (λ b. PriceGives b (ones b) form))) o)
-          (l : HasValue (LogAnswers a.of) (file log) (λ events. BookOfLogGives a.of events (λ b. PriceGives b (ones b) form)) o)
-          (b : (book : Book) × (end_of a.of (reverse l.of) ≡ Ok book) × PriceGives book (ones book) form o)
-          → PriceGives b.0 (ones b.0) form o → (text : List ℕ) × IsAwarded file terms log text × (o.appended ≡ cert_file text ∷ [])
-      by a l b (inr (z, many, told)) = let no = sym (ap (λ (x : Outcome). x.status) told) ∙ ends in absurd cc
-      by a l b (inl (c, printed, is, told)) =
-          let log_of = logged a.of (reverse l.of) b.0 b.1 in (
-            cert_text c,
-            record {
-              terms = a.of;
-              lines = l.of;
-              auction = record {
-                award_states = record { bytes = a.bytes; here = a.here; said = award-states a.bytes a.of a.says_it };
-                log_states = record { bytes = l.bytes; here = l.here; said = l.says_it };
-                complete = log_of.complete;
-              };
-              certificate = c;
-              priced = subst (λ (k : Book). IsPricedCert k (weight_of (ones k)) c) log_of.is is.priced;
-              outcome = subst (λ (k : Book). IsAuctionOutcome (market_of k) c.choice (cert_point c)) log_of.is (plain (market_of b.0) (weight_of (ones b.0)) c.choice (cert_point c) (one-each b.0) is.priced.winning is.priced.outcome);
-              whole = refl;
-            },
-            ap (λ (x : Outcome). x.appended) told,
-          )
+  module _ (short_text : (book : Book) (w : ℕ → ℕ) (c : CertValue) → IsWithinSizes book → IsCertificate (bidders_of book) (states book) c → IsPricedCert book w c → winners_in c.choice ≤ MOST_WINNERS → length (cert_text c) < 57000000)
+      (rules_log : (terms : Terms) (rows : List (List (List ℕ))) (events : List Event) (book : Book) → IsAward terms → AreLog terms rows events → end_of terms (reverse events) ≡ Ok book → IsBidBook book) where
+    pub awarded : (file : List ℕ → Option (List ℕ)) (terms log cert : List ℕ) (form : PriceForm) (o : Outcome) → FilesGive (award terms log cert form) file o → o.status ≡ Done
+        → (text : List ℕ) × IsAwarded file terms log text × (o.appended ≡ cert_file text ∷ [])
+    awarded file terms log cert form o gives ends =
+        let a = has-value kinds.Award AWARD_BYTES AwardAnswers (file terms) (λ t. LogGives t (file log) (λ events. BookOfLogGives t events (λ b. PriceGives b (ones b) form))) o award-never gives ends in
+        let l = has-value kinds.Log LOG_BYTES (LogAnswers a.of) (file log) (λ events. BookOfLogGives a.of events (λ b. PriceGives b (ones b) form)) o (log-never a.of) a.goes_on ends in
+        let b = has-book (length l.of) (end_of a.of (reverse l.of)) (λ b. PriceGives b (ones b) form) o l.goes_on ends in
+        by a l b b.2
+      where
+        by : (a : HasValue AWARD_BYTES AwardAnswers (file terms) (λ t. LogGives t (file log) (λ events. BookOfLogGives t events (λ b. PriceGives b (ones b) form))) o)
+            (l : HasValue LOG_BYTES (LogAnswers a.of) (file log) (λ events. BookOfLogGives a.of events (λ b. PriceGives b (ones b) form)) o)
+            (b : (book : Book) × (end_of a.of (reverse l.of) ≡ Ok book) × PriceGives book (ones book) form o)
+            → PriceGives b.0 (ones b.0) form o → (text : List ℕ) × IsAwarded file terms log text × (o.appended ≡ cert_file text ∷ [])
+        by a l b (inr (z, many, told)) = let no = sym (ap (λ (x : Outcome). x.status) told) ∙ ends in absurd cc
+        by a l b (inl (c, printed, is, told)) =
+            let log_of = logged a.of (reverse l.of) b.0 b.1 in (
+              cert_text c,
+              record {
+                terms = a.of;
+                lines = l.of;
+                auction = record {
+                  award_states = record { bytes = a.bytes; here = a.here; said = award-states a.bytes a.of a.says_it };
+                  log_states = record { bytes = l.bytes; here = l.here; said = l.says_it };
+                  complete = log_of.complete;
+                };
+                certificate = c;
+                priced = subst (λ (k : Book). IsPricedCert k (weight_of (ones k)) c) log_of.is is.priced;
+                outcome = subst (λ (k : Book). IsAuctionOutcome (market_of k) c.choice (cert_point c)) log_of.is (plain (market_of b.0) (weight_of (ones b.0)) c.choice (cert_point c) (one-each b.0) is.priced.winning is.priced.outcome);
+                whole = refl;
+                short = short_text b.0 (weight_of (ones b.0)) c (sizes-of b.0 (rules_log a.of (log_records l.bytes) l.of b.0 a.says_it.1 l.says_it b.1)) is.certificate is.priced is.few.0;
+              },
+              ap (λ (x : Outcome). x.appended) told,
+            )

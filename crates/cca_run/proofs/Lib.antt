@@ -14,4 +14,6 @@ mod Put
 mod Stopped
 mod LogBooks
 mod HeadlineLaws
+mod CompleteLogs
+mod WordsApart
 mod RunHeadline

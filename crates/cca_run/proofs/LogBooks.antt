@@ -8,6 +8,7 @@ use Rattle.auction_model.specs.Book.{Book, bids_of, net_of, market_of}
 use Rattle.auction_model.specs.Lawful.{IsMarket}
 use Rattle.book_form.specs.BookLines.{IsBookWithinLimits}
 use Rattle.bid_book.proofs.Within.{kept}
+use Rattle.bid_book.specs.Kept.{IsBidBook}
 use Rattle.auction_rules.specs.BookOfLog.{book_of_log, is_complete}
 use Rattle.auction_rules.specs.Lawful.{HasCategories}
 use Rattle.auction_rules.specs.Terms.{Terms}
@@ -45,14 +46,18 @@ pub all-reverse : {A : Type 0} (P : A → Type 0) (xs : List A) → AllByRecursi
 all-reverse P [] all = tt
 all-reverse {A} P (x ∷ xs) all = subst (λ (ys : List A). AllByRecursion P ys) (sym (reverse-append (x ∷ []) xs)) (all-both P (reverse xs) (x ∷ []) (all-reverse P xs all.1) (all.0, tt))
 
--- what the laws of the crates below say
+-- a log whose lines keep the award's categories leads to a book that keeps the rules of a book
 module _ (within : (terms : Terms) (log : List Event) → IsAward terms → AllByRecursion (HasCategories terms) log → IsBookWithinLimits (book_of_log terms log))
-    (packages : (terms : Terms) (rows : List (List (List ℕ))) (events : List Event) → AreLog terms rows events → AllByRecursion (HasCategories terms) events)
-    (market : (book : Book) → length book.bidders < 2 ^ 16 → ((j i : ℕ) → i ≤ length (bids_of book j) → pos 0 ≤ℤ net_of book j i) → IsMarket (market_of book)) where
-  -- the market of the book of a log is lawful
-  pub lawful-log : (terms : Terms) (rows : List (List (List ℕ))) (events : List Event) (book : Book) → IsAward terms → AreLog terms rows events → end_of terms (reverse events) ≡ Ok book
-      → IsMarket (market_of book)
-  lawful-log terms rows events book award log is =
-      let rules = kept (book_of_log terms (reverse events)) (within terms (reverse events) award (all-reverse (HasCategories terms) events (packages terms rows events log))) in
-      subst (λ (b : Book). IsMarket (market_of b)) (sym (logged terms (reverse events) book is).is)
-      (market (book_of_log terms (reverse events)) (omega (arith, rules.bidders)) rules.not_negative)
+    (packages : (terms : Terms) (rows : List (List (List ℕ))) (events : List Event) → AreLog terms rows events → AllByRecursion (HasCategories terms) events) where
+  pub rules-log : (terms : Terms) (rows : List (List (List ℕ))) (events : List Event) (book : Book) → IsAward terms → AreLog terms rows events → end_of terms (reverse events) ≡ Ok book → IsBidBook book
+  rules-log terms rows events book award log is =
+      subst IsBidBook (sym (logged terms (reverse events) book is).is)
+      (kept (book_of_log terms (reverse events)) (within terms (reverse events) award (all-reverse (HasCategories terms) events (packages terms rows events log))))
+
+  -- and its market is lawful
+  module _ (market : (book : Book) → length book.bidders < 2 ^ 16 → ((j i : ℕ) → i ≤ length (bids_of book j) → pos 0 ≤ℤ net_of book j i) → IsMarket (market_of book)) where
+    pub lawful-log : (terms : Terms) (rows : List (List (List ℕ))) (events : List Event) (book : Book) → IsAward terms → AreLog terms rows events → end_of terms (reverse events) ≡ Ok book
+        → IsMarket (market_of book)
+    lawful-log terms rows events book award log is =
+        let rules = rules-log terms rows events book award log is in
+        market book (omega (arith, rules.bidders)) rules.not_negative

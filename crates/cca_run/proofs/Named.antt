@@ -5,7 +5,7 @@ use Rattle.std.specs.Option.{option_map}
 use Rattle.std.specs.List.{AllByRecursion}
 use Rattle.std.proofs.lemmas.Bool.{cases_Bool}
 use Rattle.cca_base.specs.Files.{Folder}
-use Rattle.cca_inputs.specs.Command.{CommandValue, win, price, check, weigh, weigh_check, auction, award, audit, FileUse, appended_files, files_of, is_kind, is_read, output_as, outputs_of}
+use Rattle.cca_inputs.specs.Command.{CommandValue, win, price, check, weigh, weigh_check, auction, award, audit, FileUse, appended_files, files_of, input_as, inputs_of, is_kind, is_read, output_as, outputs_of, read_files}
 use Rattle.cca_inputs.specs.Words.{KnowsFiles}
 use Rattle.cca_inputs.specs.declared.status.FileKind.{FileKind}
 use Rattle.cca_inputs.specs.declared.status.FileKind.TheVariants.{Out}
@@ -37,6 +37,10 @@ one P (f ∷ files) name all (suc k, lt, is) = one P files name all.1 (k, omega 
 -- the output of a kind is among the outputs
 pub output-among : (command : CommandValue) (kind : FileKind) (name : List ℕ) → output_as command kind ≡ Some name → Contains (outputs_of command) name
 output-among command kind name is = found (λ f. is_kind kind f.kind) (appended_files command) name is
+
+-- the input of a kind is among the inputs
+pub input-among : (command : CommandValue) (kind : FileKind) (name : List ℕ) → input_as command kind ≡ Some name → Contains (inputs_of command) name
+input-among command kind name is = found (λ f. is_kind kind f.kind) (read_files command) name is
 
 -- the files know the output of a kind
 pub output-known : (folder : Folder) (command : CommandValue) (kind : FileKind) (name : List ℕ) → output_as command kind ≡ Some name → KnowsFiles folder command → IsTrue (folder.knows name)

@@ -1,8 +1,10 @@
 -- How the end of a run bears the headline.
-use Rattle.std.proofs.Common.{◌≡◌, ◌⊎◌, ◌∙◌, ℕ, IsTrue, Option, Some, None, List, [], ◌∷◌, length, refl, sym, subst, inl, inr}
-use Rattle.cca_base.specs.Files.{Folder}
+use Rattle.std.proofs.Common.{◌≡◌, ◌⊎◌, ◌∙◌, ℕ, IsTrue, Option, Some, None, List, [], ◌∷◌, length, refl, sym, ap, subst, arith, inl, inr}
+use Rattle.std.specs.Prelude.{take}
+use Rattle.std.proofs.lemmas.List.{take_all}
+use Rattle.cca_base.specs.Files.{Adds, Folder, added}
 use Rattle.cca_base.specs.Sink.{Output, Puts}
-use Rattle.cca_inputs.specs.Command.{CommandValue, audit, award}
+use Rattle.cca_inputs.specs.Command.{CommandValue, audit, award, command_of}
 use Rattle.cca_inputs.specs.Outcome.{Outcome}
 use Rattle.cca_inputs.specs.Statuses.{IsDecided}
 use Rattle.cca_inputs.specs.declared.file_text.FileText.{FileText}
@@ -12,9 +14,12 @@ use Rattle.cca_inputs.specs.declared.status.FileKind.TheVariants as kinds
 use Rattle.cca_inputs.specs.declared.status.Status.{Status}
 use Rattle.cca_inputs.specs.declared.status.Status.TheVariants.{Done, No, Words, Refused, ReadFault, WriteFault, Memory, Limit}
 use Rattle.cca_run.specs.Gives.{FilesGive, WordsGive, cert_file}
-use Rattle.cca_run.specs.Headline.{IsAudited, IsAwarded}
+use Rattle.cca_run.specs.Headline.{CanBeAwarded, IsAudited, IsAwarded}
+use Rattle.cca_run.specs.Later.{HoldsCert, HoldsNothing}
 use Rattle.cca_run.specs.Run.{Appended, AppendsAll, HasNoFault, IsReadFault, IsWriteFault}
 use Rattle.cca_run.specs.Works.{RunEnds}
+use Rattle.cca_run.proofs.Named.{input-among, output-among}
+use Rattle.cca_run.proofs.WordsApart.{IsApart, apart-in}
 
 -- the outcome of a run that is done
 record IsDone (command : Option CommandValue) (old new : Folder) (before now : Output) : Type 0 where
@@ -52,27 +57,27 @@ run-award law command old new before now result ends terms log cert form is told
     (shows.0, shows.1, subst (λ (texts : List FileText). AppendsAll (award terms log cert form) texts old new) shows.2 appends)
 
 -- a fault of reading was counted
-no-read : (command : Option CommandValue) (old new : Folder) (before now : Output) (kind : FileKind) → HasNoFault old new before now → IsReadFault command old new kind → ⊥
+no-read : (command : Option CommandValue) (old new : Folder) (before now : Output) (kind : FileKind) → HasNoFault command old new before now → IsReadFault command old new kind → ⊥
 no-read None old new before now kind none fault = fault
-no-read (Some command) old new before now kind none fault = none.loads fault.name fault.rose
+no-read (Some command) old new before now kind none fault = none.loads fault.name (input-among command kind fault.name fault.input) fault.rose
 
 -- a fault of writing was counted
-no-write : (command : Option CommandValue) (old new : Folder) (before now : Output) (kind : FileKind) → HasNoFault old new before now → IsWriteFault command old new before now kind → ⊥
+no-write : (command : Option CommandValue) (old new : Folder) (before now : Output) (kind : FileKind) → HasNoFault command old new before now → IsWriteFault command old new before now kind → ⊥
 no-write None old new before now kinds.Award none fault = fault
 no-write None old new before now kinds.Log none fault = fault
 no-write None old new before now kinds.Book none fault = fault
 no-write None old new before now kinds.Cert none fault = fault
 no-write None old new before now kinds.Weights none fault = fault
 no-write None old new before now kinds.Out none fault = none.puts fault
-no-write (Some command) old new before now kinds.Award none fault = none.appends fault.name fault.rose
-no-write (Some command) old new before now kinds.Log none fault = none.appends fault.name fault.rose
-no-write (Some command) old new before now kinds.Book none fault = none.appends fault.name fault.rose
-no-write (Some command) old new before now kinds.Cert none fault = none.appends fault.name fault.rose
-no-write (Some command) old new before now kinds.Weights none fault = none.appends fault.name fault.rose
+no-write (Some command) old new before now kinds.Award none fault = none.appends fault.name (output-among command kinds.Award fault.name fault.output) fault.rose
+no-write (Some command) old new before now kinds.Log none fault = none.appends fault.name (output-among command kinds.Log fault.name fault.output) fault.rose
+no-write (Some command) old new before now kinds.Book none fault = none.appends fault.name (output-among command kinds.Book fault.name fault.output) fault.rose
+no-write (Some command) old new before now kinds.Cert none fault = none.appends fault.name (output-among command kinds.Cert fault.name fault.output) fault.rose
+no-write (Some command) old new before now kinds.Weights none fault = none.appends fault.name (output-among command kinds.Weights fault.name fault.output) fault.rose
 no-write (Some command) old new before now kinds.Out none fault = none.puts fault
 
 -- without a fault a status is decided, or there was no memory
-pub run-complete : (command : Option CommandValue) (old new : Folder) (before now : Output) (result : Status) → RunEnds command old new before now result → HasNoFault old new before now
+pub run-complete : (command : Option CommandValue) (old new : Folder) (before now : Output) (result : Status) → RunEnds command old new before now result → HasNoFault command old new before now
     → (result ≡ Memory) ⊎ IsDecided result
 run-complete command old new before now Done ends none = inr tt
 run-complete command old new before now (No test place) ends none = inr tt
@@ -82,3 +87,61 @@ run-complete command old new before now (ReadFault kind) ends none = absurd (no-
 run-complete command old new before now (WriteFault kind) ends none = absurd (no-write command old new before now kind none (ends.write_fault kind refl))
 run-complete command old new before now Memory ends none = inl refl
 run-complete command old new before now (Limit which count) ends none = inr tt
+
+-- without a fault a run whose words and bytes give Done alone is Done, or there was no memory
+module _ (command : Option CommandValue) (old new : Folder) (before now : Output) (result : Status) (ends : RunEnds command old new before now result) (told : IsTrue old.told)
+    (none : HasNoFault command old new before now) where
+  done-or-memory : ((o : Outcome) → WordsGive command old.file o → o.status ≡ Done) → (result ≡ Done) ⊎ (result ≡ Memory)
+  done-or-memory all =
+      elim (run-complete command old new before now result ends none) [
+        | inl memory ↦ inr memory
+        | inr decided ↦ (let a = ends.answer told decided in inl (sym a.2 ∙ all a.0 a.1))
+      ]
+
+  -- an auction within the limits was awarded
+  pub run-awarded : ((file : List ℕ → Option (List ℕ)) (terms log cert : List ℕ) (form : PriceForm) (o : Outcome) → CanBeAwarded file terms log → FilesGive (award terms log cert form) file o → o.status ≡ Done)
+      → (terms log cert : List ℕ) (form : PriceForm) → command ≡ Some (award terms log cert form) → CanBeAwarded old.file terms log → (result ≡ Done) ⊎ (result ≡ Memory)
+  run-awarded law terms log cert form is can =
+      done-or-memory (λ o gives. law old.file terms log cert form o can (subst (λ (k : Option CommandValue). WordsGive k old.file o) is gives))
+
+  -- and its certificate accepted
+  pub run-accepted : ((terms log cert : List ℕ) (form : PriceForm) (file later : List ℕ → Option (List ℕ)) (o p : Outcome) → FilesGive (award terms log cert form) file o → HoldsCert (terms ∷ log ∷ []) cert file later o
+      → FilesGive (audit terms log cert) later p → p.status ≡ Done)
+      → (terms log cert : List ℕ) (form : PriceForm) (earlier : List ℕ → Option (List ℕ)) (o : Outcome) → command ≡ Some (audit terms log cert) → FilesGive (award terms log cert form) earlier o
+      → HoldsCert (terms ∷ log ∷ []) cert earlier old.file o → (result ≡ Done) ⊎ (result ≡ Memory)
+  run-accepted law terms log cert form earlier o is gave holds =
+      done-or-memory (λ p gives. law terms log cert form earlier old.file o p gave holds (subst (λ (k : Option CommandValue). WordsGive k old.file p) is gives))
+
+-- what a text that was appended whole to a file that is none of these leaves in the files
+appended-cert : (terms log cert text : List ℕ) (form : PriceForm) (old new : Folder) (o : Outcome) → IsApart terms log cert → IsTrue old.told → o.appended ≡ cert_file text ∷ [] → HoldsNothing (old.file cert)
+    → AppendsAll (award terms log cert form) (cert_file text ∷ []) old new → HoldsCert (terms ∷ log ∷ []) cert old.file new.file o
+appended-cert terms log cert text form old new o apart told some nothing (between, one, kept) = record {
+  text = text;
+  appended = some;
+  held_nothing = nothing;
+  cert_holds = in_new cert ∙ adds.file told ∙ ap (added (old.file cert)) (take_all (length text) text (omega arith));
+  inputs_hold = (in_new terms ∙ adds.other_files terms apart.award, (in_new log ∙ adds.other_files log apart.lines, tt));
+}
+  where
+    same : one.name ≡ cert
+    same = let is = one.output in cc
+
+    adds : Adds cert old between text (length text)
+    adds = subst (λ (name : List ℕ). Adds name old between text (length text)) same one.whole
+
+    in_new : (name : List ℕ) → new.file name ≡ between.file name
+    in_new name = ap (λ (f : List ℕ → Option (List ℕ)). f name) kept.file
+
+-- an `award` that is done over a certificate's file that held nothing hands it on
+pub run-hands-on : (law : (file : List ℕ → Option (List ℕ)) (terms log cert : List ℕ) (form : PriceForm) (o : Outcome) → FilesGive (award terms log cert form) file o → o.status ≡ Done
+    → (text : List ℕ) × IsAwarded file terms log text × (o.appended ≡ cert_file text ∷ []))
+    → (words : List (List ℕ)) (old new : Folder) (before now : Output) (result : Status) → RunEnds (command_of words) old new before now result
+    → (terms log cert : List ℕ) (form : PriceForm) → command_of words ≡ Some (award terms log cert form) → IsTrue old.told → result ≡ Done → HoldsNothing (old.file cert)
+    → (o : Outcome) × FilesGive (award terms log cert form) old.file o × HoldsCert (terms ∷ log ∷ []) cert old.file new.file o
+run-hands-on law words old new before now result ends terms log cert form is told done nothing =
+    let d = is-done (command_of words) old new before now result ends told done in
+    let gives = subst (λ (k : Option CommandValue). WordsGive k old.file d.outcome) is d.gives in
+    let shows = law old.file terms log cert form d.outcome gives d.ends in
+    let appends = subst (λ (k : Option CommandValue). Appended k d.outcome.appended old new) is d.appends in
+    let whole = subst (λ (texts : List FileText). AppendsAll (award terms log cert form) texts old new) shows.2 appends in
+    (d.outcome, gives, appended-cert terms log cert shows.0 form old new d.outcome (apart-in words terms log cert form is) told shows.2 nothing whole)

@@ -1,6 +1,7 @@
 -- The headline: from the bytes of three files to the book of a log and the outcome of the auction.
-use Rattle.std.specs.Prelude.{◌≡◌, ℕ, IsTrue, Option, Some, List, reverse}
+use Rattle.std.specs.Prelude.{◌≡◌, ◌≤◌, ◌<◌, ℕ, IsTrue, Option, Some, None, List, length, reverse}
 use Rattle.auction_model.specs.Book.{Book, market_of}
+use Rattle.auction_model.specs.Greatest.{IsWinning}
 use Rattle.auction_outcome.specs.Outcome.{IsAuctionOutcome}
 use Rattle.auction_rules.specs.BookOfLog.{book_of_log, is_complete}
 use Rattle.auction_rules.specs.Terms.{Terms}
@@ -14,6 +15,9 @@ use Rattle.cert_laws.specs.Sound.{cert_point}
 use Rattle.cert_laws.specs.Tests as tests
 use Rattle.line_text.specs.LineText.{stated}
 use Rattle.auction_model.specs.Prices.{weight_of}
+use Rattle.limits.specs.declared.TheConstants.{AWARD_BYTES, LOG_BYTES, MOST_WINNERS}
+use Rattle.log_replay.specs.ReplyLines.{first_refusal}
+use Rattle.row_laws.specs.Winners.{winners_in}
 use Rattle.cca_run.specs.Gives.{IsYesText, ones}
 
 -- the file of this name holds bytes of which this is so
@@ -45,7 +49,7 @@ pub record IsAudited (file : List ℕ → Option (List ℕ)) (award log cert pri
   pub yes : IsYesText (book_of terms lines) certificate printed
 
 -- Whenever `award` is done: the award and the log state an auction, and the text that was appended is that of a certificate of its book
--- for which all tests hold, and whose winners and prices are the outcome of the auction.
+-- for which all tests hold, and whose winners and prices are the outcome of the auction. It is shorter than a certificate may be.
 pub record IsAwarded (file : List ℕ → Option (List ℕ)) (award log text : List ℕ) : Type 0 where
   pub terms : Terms
   pub lines : List Event
@@ -54,3 +58,15 @@ pub record IsAwarded (file : List ℕ → Option (List ℕ)) (award log text : L
   pub priced : IsPricedCert (book_of terms lines) (weight_of (ones (book_of terms lines))) certificate
   pub outcome : IsAuctionOutcome (market_of (book_of terms lines)) certificate.choice (cert_point certificate)
   pub whole : text ≡ cert_text certificate
+  pub short : length text < 57000000
+
+-- An auction within the limits: the award and the log state an auction, neither file is too long, no close is refused for a limit, and no
+-- more win than can be priced.
+pub record CanBeAwarded (file : List ℕ → Option (List ℕ)) (award log : List ℕ) : Type 0 where
+  pub terms : Terms
+  pub lines : List Event
+  pub auction : IsAuction file award log terms lines
+  pub short_award : FileHolds file award (λ bytes. length bytes ≤ AWARD_BYTES)
+  pub short_log : FileHolds file log (λ bytes. length bytes ≤ LOG_BYTES)
+  pub never_limited : first_refusal terms (reverse lines) ≡ None
+  pub few : (winners : List ℕ) → IsWinning (market_of (book_of terms lines)) winners → winners_in winners ≤ MOST_WINNERS

@@ -1,11 +1,18 @@
 -- The files as they stand later, when a certificate is tested.
-use Rattle.std.specs.Prelude.{◌≡◌, ℕ, Option, Some, List, [], ◌∷◌}
+use Rattle.std.specs.Prelude.{◌≡◌, ℕ, Option, List, [], ◌∷◌, unwrap_or}
+use Rattle.std.specs.List.{AllByRecursion}
+use Rattle.cca_base.specs.Files.{added}
 use Rattle.cca_inputs.specs.Outcome.{Outcome}
 use Rattle.cca_run.specs.Gives.{cert_file}
 
--- The file of the certificate holds just the text that this outcome appends, and that of the book holds what it held.
-pub record HoldsCert (book cert : List ℕ) (file later : List ℕ → Option (List ℕ)) (outcome : Outcome) : Type 0 where
+-- the file is missing or empty
+abbrev pub HoldsNothing : Option (List ℕ) → Type 0
+HoldsNothing content = unwrap_or content [] ≡ []
+
+-- The file of the certificate held nothing before and holds what this outcome appends, and each of these inputs holds what it held.
+pub record HoldsCert (inputs : List (List ℕ)) (cert : List ℕ) (file later : List ℕ → Option (List ℕ)) (outcome : Outcome) : Type 0 where
   pub text : List ℕ
   pub appended : outcome.appended ≡ cert_file text ∷ []
-  pub cert_holds : later cert ≡ Some text
-  pub book_holds : later book ≡ file book
+  pub held_nothing : HoldsNothing (file cert)
+  pub cert_holds : later cert ≡ added (file cert) text
+  pub inputs_hold : AllByRecursion (λ name. later name ≡ file name) inputs

@@ -134,8 +134,9 @@ Prints old new text status result =
     ((result ≡ status) × Puts old new text (length text))
     ⊎ ((result ≡ WriteFault Out) × Rose old.faults new.faults × ((n : ℕ) × (n < length text) × Puts old new text n))
 
--- no fault was counted in the call: no count of failed loads or appends rose, nor that of the output
-pub record HasNoFault (old new : Folder) (before now : Output) : Type 0 where
-  pub loads : (name : List ℕ) → Rose (old.load_faults name) (new.load_faults name) → ⊥
-  pub appends : (name : List ℕ) → Rose (old.append_faults name) (new.append_faults name) → ⊥
+-- No fault was counted in the call: no count of failed loads of a file that the command reads rose, none of failed appends to a file that
+-- it appends to, nor that of the output.
+pub record HasNoFault (command : Option CommandValue) (old new : Folder) (before now : Output) : Type 0 where
+  pub loads : (name : List ℕ) → Contains (inputs command) name → Rose (old.load_faults name) (new.load_faults name) → ⊥
+  pub appends : (name : List ℕ) → Contains (outputs command) name → Rose (old.append_faults name) (new.append_faults name) → ⊥
   pub puts : Rose before.faults now.faults → ⊥

@@ -10,7 +10,7 @@ ghost use Rattle.cca_inputs.specs.Outcome.{Outcome};
 ghost use Rattle.cca_inputs.specs.declared.price_form.PriceForm.{PriceForm};
 ghost use Rattle.cca_inputs.specs.declared.status.Status.TheVariants.{Done};
 ghost use Rattle.cca_run.specs.Gives.{FilesGive, Gives, cert_file, ones};
-ghost use Rattle.cca_run.specs.Headline.{IsAudited, IsAwarded};
+ghost use Rattle.cca_run.specs.Headline.{CanBeAwarded, IsAudited, IsAwarded};
 ghost use Rattle.cca_run.specs.Later.{HoldsCert};
 
 use auction_model::{book_market, core_outcome, vickrey_prices, winning_choice};
@@ -52,13 +52,13 @@ pub fn limit_of_ones()
     ensures many { (book : Book) (z : List ℕ) → length z ≡ bidders_of book → ManyWin z (ones book) → MOST_WINNERS < winners_in z }
 {}
 
-/// What `price` writes, `check` accepts. Where the file of the certificate holds just the text that `price` appended, and that of the
-/// book what it held, `check` gives Done, and nothing else. Without flags it prints `yes` and then what `price` printed.
+/// What `price` writes, `check` accepts. Where the file of the certificate held nothing before and holds the text that `price` appended,
+/// and that of the book holds what it held, `check` gives Done, and nothing else. Without flags it prints `yes` and then what `price` printed.
 pub fn written_cert_passes()
     ensures passes { (book cert : List ℕ) (form : PriceForm) (file later : List ℕ → Option (List ℕ)) (o p : Outcome)
-        → FilesGive (price book cert form) file o → HoldsCert book cert file later o → FilesGive (check book cert) later p → p.status ≡ Done }
+        → FilesGive (price book cert form) file o → HoldsCert (book ∷ []) cert file later o → FilesGive (check book cert) later p → p.status ≡ Done }
     ensures prints { (book cert : List ℕ) (file later : List ℕ → Option (List ℕ)) (o p : Outcome)
-        → FilesGive (price book cert (form_with false false)) file o → HoldsCert book cert file later o → FilesGive (check book cert) later p
+        → FilesGive (price book cert (form_with false false)) file o → HoldsCert (book ∷ []) cert file later o → FilesGive (check book cert) later p
         → p.printed ≡ codes "yes\n" ++ o.printed }
 {
     one_book();
@@ -78,4 +78,41 @@ pub fn headline()
         → (text : List ℕ) × IsAwarded file terms log text × (o.appended ≡ cert_file text ∷ []) }
 {
     plain_outcome();
+    packages_of_log();
+    book_of_award();
+    short_text();
+}
+
+/// What `award` writes, `audit` accepts. Where the file of the certificate held nothing before and holds the text that `award` appended, and
+/// those of the award and the log hold what they held, `audit` gives Done, and nothing else. Without flags it prints `yes` and then what
+/// `award` printed.
+pub fn awarded_cert_passes()
+    ensures passes { (terms log cert : List ℕ) (form : PriceForm) (file later : List ℕ → Option (List ℕ)) (o p : Outcome)
+        → FilesGive (award terms log cert form) file o → HoldsCert (terms ∷ log ∷ []) cert file later o → FilesGive (audit terms log cert) later p → p.status ≡ Done }
+    ensures prints { (terms log cert : List ℕ) (file later : List ℕ → Option (List ℕ)) (o p : Outcome)
+        → FilesGive (award terms log cert (form_with false false)) file o → HoldsCert (terms ∷ log ∷ []) cert file later o → FilesGive (audit terms log cert) later p
+        → p.printed ≡ codes "yes\n" ++ o.printed }
+{
+    one_reading();
+    one_cert();
+    text_of_cert();
+    short_text();
+    one_verdict();
+    one_price_text();
+    book_of_award();
+    packages_of_log();
+}
+
+/// `award` gives Done exactly where the award and the log state an auction within the limits.
+pub fn complete_log_is_awarded()
+    ensures done { (file : List ℕ → Option (List ℕ)) (terms log cert : List ℕ) (form : PriceForm) (o : Outcome)
+        → CanBeAwarded file terms log → FilesGive (award terms log cert form) file o → o.status ≡ Done }
+    ensures only { (file : List ℕ → Option (List ℕ)) (terms log cert : List ℕ) (form : PriceForm) (o : Outcome)
+        → FilesGive (award terms log cert form) file o → o.status ≡ Done → CanBeAwarded file terms log }
+{
+    one_reading();
+    packages_of_log();
+    book_of_award();
+    book_market();
+    winning_choice();
 }

@@ -16,7 +16,9 @@ mod work;
 
 pub use auction_laws::one_auction;
 pub use cca_inputs::{FileKind, Status};
-pub use laws::{limit_of_ones, one_outcome, written_cert_passes};
+pub use laws::{
+    awarded_cert_passes, complete_log_is_awarded, limit_of_ones, one_outcome, written_cert_passes,
+};
 pub use top::run;
 
 #[cfg(test)]

@@ -1,5 +1,5 @@
 // The top call.
-ghost use Rattle.std.specs.Prelude.{◌≡◌, ◌⊎◌, ◌≤◌, ◌<◌, ◌∷◌, ℕ, List, [], length, map, string_bytes, All, IsTrue, Some, None};
+ghost use Rattle.std.specs.Prelude.{◌≡◌, ◌⊎◌, ◌≤◌, ◌<◌, ◌∷◌, ℕ, List, [], length, map, string_bytes, All, IsTrue, Option, Some, None};
 ghost use Rattle.cca_base.specs.Files.{KeepsFiles};
 ghost use Rattle.cca_base.specs.Sink.{Puts};
 ghost use Rattle.cca_inputs.specs.Command.{audit, award, command_of};
@@ -10,14 +10,15 @@ ghost use Rattle.cca_inputs.specs.Words.{KnowsFiles, command_value};
 ghost use Rattle.cca_inputs.specs.declared.price_form.PriceForm.{PriceForm};
 ghost use Rattle.cca_inputs.specs.declared.status.FileKind.{FileKind};
 ghost use Rattle.cca_inputs.specs.declared.status.Status.{Status};
-ghost use Rattle.cca_run.specs.Gives.{Gives, cert_file};
-ghost use Rattle.cca_run.specs.Headline.{IsAudited, IsAwarded};
+ghost use Rattle.cca_run.specs.Gives.{FilesGive, Gives, cert_file};
+ghost use Rattle.cca_run.specs.Headline.{CanBeAwarded, IsAudited, IsAwarded};
+ghost use Rattle.cca_run.specs.Later.{HoldsCert, HoldsNothing};
 ghost use Rattle.cca_run.specs.Run.{Appended, AppendsAll, Changes, CountsAmong, HasNoFault, IsDue, IsReadFault, IsWriteFault, inputs, outputs};
 ghost use Rattle.cca_run.specs.Works.{AreOutputs, FinishEnds, RunEnds};
 
 use crate::append::append_all;
 use crate::commands::work_out;
-use crate::laws::headline;
+use crate::laws::{awarded_cert_passes, complete_log_is_awarded, headline};
 use crate::print::{print, print_stop};
 use crate::work::Work;
 use crate::{FileKind, Status};
@@ -107,8 +108,20 @@ pub fn run<F: Files, O: Sink>(alloc: Global, words: &[String], files: &mut F, ou
         → result ≡ Status.Done → (text : List ℕ) × IsAwarded (F.folder files.old).file terms log text
         × AppendsAll (award terms log cert form) (cert_file text ∷ []) (F.folder files.old) (F.folder files.new) }
 
+    // Its other half: `award` writes such a certificate for every auction within the limits, and `audit` over the same bytes says yes, where
+    // the certificate's file held nothing before; but for a fault that was counted, and want of memory.
+    ensures awarded { (terms log cert : List ℕ) (form : PriceForm) → command_of (map string_bytes words.now) ≡ Some (award terms log cert form) → IsTrue (F.folder files.old).told
+        → CanBeAwarded (F.folder files.old).file terms log → HasNoFault (command_of (map string_bytes words.now)) (F.folder files.old) (F.folder files.new) (O.output out.old) (O.output out.new)
+        → (result ≡ Status.Done) ⊎ (result ≡ Status.Memory) }
+    ensures accepted { (terms log cert : List ℕ) (form : PriceForm) (before : List ℕ → Option (List ℕ)) (o : Outcome) → command_of (map string_bytes words.now) ≡ Some (audit terms log cert) → IsTrue (F.folder files.old).told
+        → FilesGive (award terms log cert form) before o → HoldsCert (terms ∷ log ∷ []) cert before (F.folder files.old).file o
+        → HasNoFault (command_of (map string_bytes words.now)) (F.folder files.old) (F.folder files.new) (O.output out.old) (O.output out.new) → (result ≡ Status.Done) ⊎ (result ≡ Status.Memory) }
+    ensures handed_on { (terms log cert : List ℕ) (form : PriceForm) → command_of (map string_bytes words.now) ≡ Some (award terms log cert form) → IsTrue (F.folder files.old).told
+        → result ≡ Status.Done → HoldsNothing ((F.folder files.old).file cert) → (o : Outcome) × FilesGive (award terms log cert form) (F.folder files.old).file o
+        × HoldsCert (terms ∷ log ∷ []) cert (F.folder files.old).file (F.folder files.new).file o }
+
     // Where no fault was counted, the status is one that the words and the bytes decide, or want of memory.
-    ensures complete { HasNoFault (F.folder files.old) (F.folder files.new) (O.output out.old) (O.output out.new) → (result ≡ Status.Memory) ⊎ IsDecided result }
+    ensures complete { HasNoFault (command_of (map string_bytes words.now)) (F.folder files.old) (F.folder files.new) (O.output out.old) (O.output out.new) → (result ≡ Status.Memory) ⊎ IsDecided result }
 
     // A fault has its cause, and all that comes before it passed.
     ensures read_fault { (kind : FileKind) → result ≡ Status.ReadFault kind → IsReadFault (command_of (map string_bytes words.now)) (F.folder files.old) (F.folder files.new) kind }
@@ -138,6 +151,8 @@ pub fn run<F: Files, O: Sink>(alloc: Global, words: &[String], files: &mut F, ou
     ensures faults { (O.output out.old).faults ≤ (O.output out.new).faults }
 {
     headline();
+    complete_log_is_awarded();
+    awarded_cert_passes();
     match read_command(words) {
         Some(command) => run_command(alloc, files, out, command),
         None => tell_words(files, out),

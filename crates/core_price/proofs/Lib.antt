@@ -13,7 +13,7 @@ mod PricedLaws
 mod Runs
 mod SameRows
 mod SolveLaws
-mod Spots
+pub mod Spots
 mod Spreading
 mod StartLaws
 mod StopLaws

@@ -1,7 +1,7 @@
-use Rattle.std.proofs.Common.{Option, None, subst}
+use Rattle.std.proofs.Common.{Option, map, string_bytes, subst}
 use Rattle.cca_inputs.specs.Command.{CommandValue}
 use Rattle.cca_run.specs.Works.{RunEnds}
-use Rattle.cca_run.proofs.RunHeadline.{run-audit, run-award, run-complete}
+use Rattle.cca_run.proofs.RunHeadline.{run-accepted, run-audit, run-award, run-awarded, run-complete, run-hands-on}
 use Rattle.cca_run.proofs.top.run.Goals as goal
 
 pub returns-in-Some-clause-front : goal.returns-in-Some-clause-front
@@ -42,4 +42,28 @@ returns-in-Some-clause-complete g c =
 pub returns-in-None-clause-complete : goal.returns-in-None-clause-complete
 returns-in-None-clause-complete g c =
     let folder = g.F.Files.folder c.args.files.now in
-    run-complete None folder folder _ _ c.tell_words.result c.tell_words.ensures.ends
+    let ends = subst (λ (x : Option CommandValue). RunEnds x folder folder (g.O.Sink.output c.args.out.now) (g.O.Sink.output c.tell_words.new.out) c.tell_words.result) c.in-None.ensures.command c.tell_words.ensures.ends in
+    run-complete _ folder folder _ _ c.tell_words.result ends
+
+pub returns-in-Some-clause-awarded : goal.returns-in-Some-clause-awarded
+returns-in-Some-clause-awarded g c =
+    let old = g.F.Files.folder c.args.files.now in
+    let new = g.F.Files.folder c.run_command.new.files in
+    let ends = subst (λ (x : Option CommandValue). RunEnds x old new (g.O.Sink.output c.args.out.now) (g.O.Sink.output c.run_command.new.out) c.run_command.result) c.in-Some.ensures.command c.run_command.ensures.ends in
+    λ terms log cert form is told can none.
+    run-awarded _ old new _ _ c.run_command.result ends told none c.complete_log_is_awarded.ensures.done terms log cert form is can
+
+pub returns-in-Some-clause-accepted : goal.returns-in-Some-clause-accepted
+returns-in-Some-clause-accepted g c =
+    let old = g.F.Files.folder c.args.files.now in
+    let new = g.F.Files.folder c.run_command.new.files in
+    let ends = subst (λ (x : Option CommandValue). RunEnds x old new (g.O.Sink.output c.args.out.now) (g.O.Sink.output c.run_command.new.out) c.run_command.result) c.in-Some.ensures.command c.run_command.ensures.ends in
+    λ terms log cert form earlier o is told gave holds none.
+    run-accepted _ old new _ _ c.run_command.result ends told none c.awarded_cert_passes.ensures.passes terms log cert form earlier o is gave holds
+
+pub returns-in-Some-clause-handed_on : goal.returns-in-Some-clause-handed_on
+returns-in-Some-clause-handed_on g c =
+    let old = g.F.Files.folder c.args.files.now in
+    let new = g.F.Files.folder c.run_command.new.files in
+    let ends = subst (λ (x : Option CommandValue). RunEnds x old new (g.O.Sink.output c.args.out.now) (g.O.Sink.output c.run_command.new.out) c.run_command.result) c.in-Some.ensures.command c.run_command.ensures.ends in
+    run-hands-on c.headline.ensures.award (map string_bytes c.args.words.now) old new _ _ c.run_command.result ends
