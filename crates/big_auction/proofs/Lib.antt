@@ -1,0 +1,15 @@
+pub mod Forward
+pub mod Drawing
+pub mod PriceBounds
+pub mod AwardLaw
+pub mod ClockRounds
+pub mod Caps
+pub mod SealedRound
+pub mod Offers
+pub mod MadeClock
+pub mod WholeLog
+pub mod FewWinners
+pub mod Asking
+pub mod LinesAdded
+pub mod Pieces
+pub mod MadeLines

@@ -1,0 +1,12 @@
+//! A large valid auction from a number: an award, and a complete log of it.
+#![tactic(auto)]
+
+mod award;
+mod draws;
+mod laws;
+mod lines;
+mod made;
+mod prices;
+mod values;
+
+pub use made::{Made, make};
