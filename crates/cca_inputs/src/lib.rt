@@ -2,27 +2,23 @@
 //! their lines, and one way from a file to what its bytes state.
 #![tactic(auto)]
 
-mod award_input;
-mod book_input;
-mod cert_input;
 mod file_text;
 mod input;
+mod inputs;
 mod line;
-mod log_input;
 mod price_form;
 mod status;
 mod stops;
-mod weights_input;
 mod words;
 
-pub use award_input::AwardInput;
-pub use book_input::BookInput;
-pub use cert_input::CertInput;
 pub use file_text::FileText;
 pub use input::{Input, read_input};
+pub use inputs::award_input::AwardInput;
+pub use inputs::book_input::BookInput;
+pub use inputs::cert_input::CertInput;
+pub use inputs::log_input::LogInput;
+pub use inputs::weights_input::WeightsInput;
 pub use line::{Line, line_of};
-pub use log_input::LogInput;
 pub use price_form::PriceForm;
 pub use status::{FileKind, Status};
-pub use weights_input::WeightsInput;
 pub use words::{Command, read_command};

@@ -2,16 +2,10 @@
 #![tactic(auto)]
 
 mod append;
-mod auction;
 mod auction_laws;
-mod commands;
 mod laws;
-mod price_text;
-mod pricing;
 mod print;
 mod top;
-mod verdict;
-mod win;
 mod work;
 
 pub use auction_laws::one_auction;
@@ -20,20 +14,3 @@ pub use laws::{
     awarded_cert_passes, complete_log_is_awarded, limit_of_ones, one_outcome, written_cert_passes,
 };
 pub use top::run;
-
-#[cfg(test)]
-mod auction_tests;
-#[cfg(test)]
-mod award_tests;
-#[cfg(test)]
-mod cert_tests;
-#[cfg(test)]
-mod fault_tests;
-#[cfg(test)]
-mod listing_tests;
-#[cfg(test)]
-mod price_tests;
-#[cfg(test)]
-mod tests;
-#[cfg(test)]
-mod weigh_tests;

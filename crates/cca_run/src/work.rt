@@ -3,6 +3,13 @@ ghost use Rattle.std.specs.Prelude.{◌≡◌};
 ghost use Rattle.cca_run.specs.Works.{bare, price_status};
 ghost use Rattle.cca_inputs.specs.declared.status.Status.TheVariants.{Memory};
 
+pub(crate) mod auction;
+pub(crate) mod commands;
+pub(crate) mod price_text;
+pub(crate) mod pricing;
+pub(crate) mod verdict;
+pub(crate) mod win;
+
 use cca_inputs::{FileText, Status};
 use core_price::PriceStop;
 use limits::LimitKind;

@@ -1,0 +1,7 @@
+// How each kind of file is read.
+
+pub(crate) mod award_input;
+pub(crate) mod book_input;
+pub(crate) mod cert_input;
+pub(crate) mod log_input;
+pub(crate) mod weights_input;

@@ -1,0 +1,305 @@
+// Runs over files in memory: the winners of books with known ones, faulty books and words, and the codes of the statuses.
+ghost use Rattle.std.specs.Prelude.{◌<◌, length, IfOk, OnOk, All, IsTrue, map, string_bytes};
+ghost use Rattle.cca_base.specs.MemFiles.{mem_folder};
+
+use bid_book::LimitKind;
+use cca_base::{MemFiles, MemSink};
+use cca_run::{FileKind, Status, run};
+use std::alloc::{AllocError, Global};
+use std::test::Fail;
+
+pub const DAY_CRAMTON: &str =
+    "book 1\nsupply 1 1\nreserve 0 0\nbidder b1\nbid 1 0 28\nbidder b2\nbid 0 1 20\nbidder b3\nbid 1 1 32\nbidder b4\nbid 1 0 14\nbidder b5\nbid 0 1 12\nend\n";
+
+pub const NOBODY: &str = "book 1\nsupply 1\nreserve 0\nend\n";
+
+pub const AT_RESERVE: &str = "book 1\nsupply 1\nreserve 50\nbidder solo\nbid 1 50\nend\n";
+
+pub const LOCALS: &str =
+    "book 1\nsupply 1 1 1\nreserve 0 0 0\nbidder l1\nbid 1 0 0 10\nbidder l2\nbid 0 1 0 10\nbidder l3\nbid 0 0 1 10\nbidder g\nbid 1 1 1 11\nend\n";
+
+pub const SPECTRUM: &str =
+    "book 1\nsupply 4 1 14 9\nreserve 200000 250000 15000 100\nbidder p1\nbid 2 0 0 0 550000\nbidder p2\nbid 0 1 0 0 350000\nbidder p3\nbid 2 0 4 5 710500\nbidder p4\nbid 0 0 7 0 225000\nbidder p5\nbid 0 0 3 4 105400\nbidder p6\nbid 4 0 7 0 1285000\nend\n";
+
+pub const TIE: &str =
+    "book 1\nsupply 2\nreserve 0\nbidder east\nbid 1 5\nbid 2 9\nbidder west\nbid 1 4\nend\n";
+
+pub const ELEVEN: &str =
+    "book 1\nsupply 11\nreserve 0\nbidder c1\nbid 1 5\nbidder c2\nbid 1 5\nbidder c3\nbid 1 5\nbidder c4\nbid 1 5\nbidder c5\nbid 1 5\nbidder c6\nbid 1 5\nbidder c7\nbid 1 5\nbidder c8\nbid 1 5\nbidder c9\nbid 1 5\nbidder c10\nbid 1 5\nbidder c11\nbid 1 5\nend\n";
+
+pub const EQUALS: &str =
+    "book 1\nsupply 1\nreserve 0\nbidder n1\nbid 1 9\nbidder n2\nbid 1 9\nbidder n3\nbid 1 9\nbidder n4\nbid 1 9\nend\n";
+
+const GREATEST: &str = "book 1\nsupply 3 3 3 3 7 7\nreserve 0 0 0 0 0 0\nend\n";
+
+const TOO_MANY_STATES: &str = "book 1\nsupply 3 3 3 3 7 8\nreserve 0 0 0 0 0 0\nend\n";
+
+const LEADING_ZERO: &str = "book 1\nsupply 1 1\nreserve 0 0\nbidder east\nbid 1 0 028\nend\n";
+
+/// What the files hold before a run, and the load, the append and the put that fail; 0 for none.
+#[derive(Clone, Copy, Debug)]
+pub struct Setting<'a> {
+    /// The bytes of the file that the second word names.
+    pub book: Option<&'a [u8]>,
+    /// The bytes of the file that the third word names.
+    pub cert: Option<&'a [u8]>,
+    pub fail_load: u64,
+    pub fail_append: u64,
+    pub fail_put: u64,
+}
+
+/// What a run answers, prints and leaves in the file that the third word names.
+#[derive(Drop)]
+pub struct Ended {
+    pub status: Status,
+    pub printed: Vec<u8>,
+    pub cert: Option<Vec<u8>>,
+}
+
+/// These words.
+pub fn words_of(alloc: Global, words: &[&str]) -> Result<Vec<String>, AllocError> {
+    let mut list = Vec::new(alloc);
+    for word in words {
+        list.push(String::from_str(alloc, word)?)?;
+    }
+    Ok(list)
+}
+
+/// Files that know the words, and are all missing. At most 100 bytes go in one call.
+pub fn no_files(alloc: Global, words: &[String]) -> Result<MemFiles, AllocError>
+    ensures { IfOk result (λ files. All (λ w. IsTrue ((mem_folder files.files.items).knows w)) (map string_bytes words.now)) }
+{
+    let files = MemFiles::new(alloc, words, 100)?;
+    Ok(files)
+}
+
+// Gives the file that the word at this place names these bytes.
+fn set_at(
+    files: &mut MemFiles,
+    words: &[String],
+    place: usize,
+    bytes: &[u8],
+) -> Result<(), AllocError>
+    requires place { place < length words.now }
+    requires known { All (λ w. IsTrue ((mem_folder files.old.files.items).knows w)) (map string_bytes words.now) }
+    ensures { OnOk result (All (λ w. IsTrue ((mem_folder files.new.files.items).knows w)) (map string_bytes words.now)) }
+{
+    files.set(words[place].as_str(), bytes)?;
+    Ok(())
+}
+
+/// Gives the file that the word at this place names these bytes, where there are such a word and bytes.
+pub fn fill(
+    files: &mut MemFiles,
+    words: &[String],
+    place: usize,
+    bytes: Option<&[u8]>,
+) -> Result<(), AllocError>
+    requires { All (λ w. IsTrue ((mem_folder files.old.files.items).knows w)) (map string_bytes words.now) }
+    ensures { OnOk result (All (λ w. IsTrue ((mem_folder files.new.files.items).knows w)) (map string_bytes words.now)) }
+{
+    match bytes {
+        Some(bytes) if place < words.len() => set_at(files, words, place, bytes),
+        _ => Ok(()),
+    }
+}
+
+// Files that know the words, with the bytes of the book and of the certificate.
+fn files_of(alloc: Global, words: &[String], setting: &Setting<'_>) -> Result<MemFiles, AllocError>
+    ensures { IfOk result (λ files. All (λ w. IsTrue ((mem_folder files.files.items).knows w)) (map string_bytes words.now)) }
+{
+    let mut files = no_files(alloc, words)?;
+    fill(&mut files, words, 1, setting.book)?;
+    fill(&mut files, words, 2, setting.cert)?;
+    Ok(files)
+}
+
+/// The bytes of the file that the word at this place names, of different words.
+pub fn left_at(
+    alloc: Global,
+    files: &MemFiles,
+    place: usize,
+) -> Result<Option<Vec<u8>>, AllocError> {
+    let Some(file) = files.files.get(place) else {
+        return Ok(None);
+    };
+    match &file.bytes {
+        Some(bytes) => Ok(Some(Vec::from_slice(alloc, bytes)?)),
+        None => Ok(None),
+    }
+}
+
+/// What a run over files in memory answers, prints and leaves.
+pub fn run_on(alloc: Global, words: &[&str], setting: &Setting<'_>) -> Result<Ended, AllocError> {
+    let words = words_of(alloc, words)?;
+    let mut files = files_of(alloc, &words, setting)?;
+    files.fail_loads.push(setting.fail_load)?;
+    files.fail_appends.push(setting.fail_append)?;
+    let mut out = MemSink::new(alloc, 5);
+    out.fail_puts.push(setting.fail_put)?;
+    let status = run(alloc, &words, &mut files, &mut out);
+    Ok(Ended {
+        status,
+        printed: out.bytes,
+        cert: left_at(alloc, &files, 2)?,
+    })
+}
+
+/// The same where no call fails.
+pub fn run_plain(
+    alloc: Global,
+    words: &[&str],
+    book: &str,
+    cert: Option<&[u8]>,
+) -> Result<Ended, AllocError> {
+    let setting = Setting {
+        book: Some(book.as_bytes()),
+        cert,
+        fail_load: 0,
+        fail_append: 0,
+        fail_put: 0,
+    };
+    run_on(alloc, words, &setting)
+}
+
+/// The bytes of the pieces together.
+pub fn joined(alloc: Global, pieces: &[&str]) -> Result<Vec<u8>, AllocError> {
+    let mut bytes = Vec::new(alloc);
+    for piece in pieces {
+        bytes.extend_from_slice(piece.as_bytes())?;
+    }
+    Ok(bytes)
+}
+
+#[test]
+fn prints_the_winners(rt: HostRuntime) -> Result<(), Fail> {
+    let table: [(&str, &str); 9] = [
+        (DAY_CRAMTON, "winner b1 1 0 28\nwinner b2 0 1 20\nnet 48\n"),
+        (NOBODY, "net 0\n"),
+        (AT_RESERVE, "winner solo 1 50\nnet 0\n"),
+        (
+            LOCALS,
+            "winner l1 1 0 0 10\nwinner l2 0 1 0 10\nwinner l3 0 0 1 10\nnet 30\n",
+        ),
+        (
+            SPECTRUM,
+            "winner p1 2 0 0 0 550000\nwinner p2 0 1 0 0 350000\nwinner p3 2 0 4 5 710500\nwinner p4 0 0 7 0 225000\nwinner p5 0 0 3 4 105400\nnet 680000\n",
+        ),
+        (TIE, "winner east 1 5\nwinner west 1 4\nnet 9\n"),
+        (
+            ELEVEN,
+            "winner c1 1 5\nwinner c2 1 5\nwinner c3 1 5\nwinner c4 1 5\nwinner c5 1 5\nwinner c6 1 5\nwinner c7 1 5\nwinner c8 1 5\nwinner c9 1 5\nwinner c10 1 5\nwinner c11 1 5\nnet 55\n",
+        ),
+        (EQUALS, "winner n1 1 9\nnet 9\n"),
+        (GREATEST, "net 0\n"),
+    ];
+    for (book, printed) in table {
+        let ended = run_plain(rt.alloc(), &["win", "BOOK"], book, None)?;
+        assert_eq!(rt; ended.status, Status::Done);
+        assert_eq!(rt; ended.printed.as_slice(), printed.as_bytes());
+    }
+    Ok(())
+}
+
+fn refused(place: u64) -> Status {
+    Status::Refused {
+        file: FileKind::Book,
+        place,
+        entry: 0,
+    }
+}
+
+#[test]
+fn refuses_faulty_books(rt: HostRuntime) -> Result<(), Fail> {
+    let table: [(&str, Status, &str); 4] = [
+        (LEADING_ZERO, refused(42), "cca: refused book 42\n"),
+        ("", refused(0), "cca: refused book 0\n"),
+        (
+            "book 1\nsupply 1\nreserve 0\nend",
+            refused(26),
+            "cca: refused book 26\n",
+        ),
+        (
+            TOO_MANY_STATES,
+            Status::Limit {
+                which: LimitKind::States,
+                count: 18432,
+            },
+            "cca: limit states 18432\n",
+        ),
+    ];
+    for (book, expected, printed) in table {
+        let ended = run_plain(rt.alloc(), &["win", "BOOK"], book, None)?;
+        assert_eq!(rt; ended.status, expected);
+        assert_eq!(rt; ended.printed.as_slice(), printed.as_bytes());
+    }
+    Ok(())
+}
+
+#[test]
+fn refuses_other_words(rt: HostRuntime) -> Result<(), Fail> {
+    let table: [&[&str]; 23] = [
+        &[],
+        &["win"],
+        &["win", ""],
+        &["win", "-BOOK"],
+        &["win", "BOOK", "CERT"],
+        &["wins", "BOOK"],
+        &["price"],
+        &["price", "BOOK"],
+        &["price", "BOOK", "BOOK"],
+        &["price", "BOOK", "--rounds"],
+        &["price", "--rounds", "BOOK", "CERT"],
+        &["price", "BOOK", "--rounds", "CERT"],
+        &["price", "BOOK", "CERT", "--json", "--json"],
+        &["price", "BOOK", "CERT", "--rounds", "--rounds"],
+        &["check", "BOOK"],
+        &["check", "BOOK", "BOOK"],
+        &["check", "BOOK", ""],
+        &["check", "BOOK", "CERT", "--rounds"],
+        &["check", "--rounds", "BOOK", "CERT"],
+        &["auction", "AWARD", "LOG"],
+        &["auction", "AWARD", "LOG", "LOG"],
+        &["auction", "AWARD", "LOG", "-"],
+        &["auction", "AWARD", "LOG", "BOOK", "CERT"],
+    ];
+    for words in table {
+        let ended = run_plain(rt.alloc(), words, NOBODY, None)?;
+        assert_eq!(rt; ended.status, Status::Words);
+        assert_eq!(rt; ended.printed.as_slice(), b"cca: words\n".as_slice());
+    }
+    Ok(())
+}
+
+#[test]
+fn ends_with_codes(rt: HostRuntime) {
+    let table: [(Status, u8); 8] = [
+        (Status::Done, 0),
+        (Status::No { test: 8, place: 2 }, 1),
+        (Status::Words, 2),
+        (refused(42), 3),
+        (
+            Status::ReadFault {
+                file: FileKind::Book,
+            },
+            4,
+        ),
+        (
+            Status::WriteFault {
+                file: FileKind::Cert,
+            },
+            5,
+        ),
+        (Status::Memory, 6),
+        (
+            Status::Limit {
+                which: LimitKind::Winners,
+                count: 11,
+            },
+            7,
+        ),
+    ];
+    for (status, code) in table {
+        assert_eq!(rt; status.code(), code);
+    }
+}
