@@ -113,7 +113,10 @@ fn prices_four_winners_of_other_weights(rt: HostRuntime) -> Result<(), Fail> {
 fn tells_the_limit_of_winners(rt: HostRuntime) -> Result<(), Fail> {
     let alloc = rt.alloc();
     let ended = run_three(alloc, WEIGH, SIX.as_bytes(), FIRST_HEAVY.as_bytes(), None)?;
-    assert_eq!(rt; ended.printed.as_slice(), b"cca: limit winners 6\n".as_slice());
+    assert_eq!(rt;
+        ended.printed.as_slice(),
+        b"cca: limit winners 6\n".as_slice()
+    );
     assert!(rt; ended.third.is_none());
     Ok(())
 }
@@ -129,6 +132,9 @@ fn refuses_weights_before_the_certificate(rt: HostRuntime) -> Result<(), Fail> {
         entry: 0,
     };
     assert_eq!(rt; ended.status, refused);
-    assert_eq!(rt; ended.printed.as_slice(), b"cca: refused weights 10\n".as_slice());
+    assert_eq!(rt;
+        ended.printed.as_slice(),
+        b"cca: refused weights 10\n".as_slice()
+    );
     Ok(())
 }
