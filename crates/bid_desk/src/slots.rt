@@ -82,12 +82,7 @@ pub fn copied_entries(alloc: Global, list: &[Bid]) -> Result<Vec<Bid>, AllocErro
 }
 
 /// Makes the entry at the place that of the bid; those before it stay.
-fn copy_entry(
-    alloc: Global,
-    list: &mut Vec<Bid>,
-    place: usize,
-    bid: &Bid,
-) -> Result<(), AllocError>
+fn copy_entry(alloc: Global, list: &mut Vec<Bid>, place: usize, bid: &Bid) -> Result<(), AllocError>
     requires { place ≤ length list.old.items }
     ensures { OnOk result (take (place + 1) (map bid_value list.new.items) ≡ take place (map bid_value list.old.items) ++ (bid_value bid.now ∷ [])) }
 {

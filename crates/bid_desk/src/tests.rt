@@ -125,6 +125,18 @@ const REPLAYS: &[(&str, &str, &str)] = &[
         "bid,east,2,\nbid,east,3,\nbid,west,2,\nclose,,,\nbid,east,1,\nbid,west,2,\nclose,,,\ndraft,east,1,20\ndraft,east,3,45\nsubmit,east,,\ndraft,east,3,44\nsubmit,east,,\nclose,,,\n",
         "Ok\nOk\nOk\nOk Clock 2 [12]\nOk\nOk\nOk Sealed 2 [12]\nOk\nOk\nRelativeCap { entry: 2, limit: 44 }\nOk\nOk\nOk Closed 2 [12]\nbook 1\nsupply 3\nreserve 10\nbidder east\nbid 1 20\nbid 3 44\nbidder west\nbid 2 24\nend\n",
     ),
+    // Lists that differ in a few entries from the one that was tested last.
+    (
+        LOTS,
+        "bid,east,3,\nbid,west,2,\nclose,,,\nbid,east,1,\nbid,west,2,\nclose,,,\ndraft,east,1,20\ndraft,east,3,45\nsubmit,east,,\ndraft,east,2,33\nsubmit,east,,\ndraft,east,1,21\nsubmit,east,,\ndrop,east,1,\nsubmit,east,,\ndraft,east,1,21\nsubmit,east,,\ndraft,east,1,20\nsubmit,east,,\nclose,,,\n",
+        "Ok\nOk\nOk Clock 2 [12]\nOk\nOk\nOk Sealed 2 [12]\nOk\nOk\nRelativeCap { entry: 2, limit: 44 }\nOk\nRelativeCap { entry: 2, limit: 32 }\nOk\nOk\nOk\nRelativeCap { entry: 1, limit: 24 }\nOk\nOk\nOk\nRelativeCap { entry: 2, limit: 32 }\nOk Closed 2 [12]\nbook 1\nsupply 3\nreserve 10\nbidder east\nbid 1 21\nbid 2 33\nbid 3 45\nbidder west\nbid 2 24\nend\n",
+    ),
+    // A package that was held in two rounds counts with the greater of its prices.
+    (
+        DOUBLING,
+        "bid,east,2 0,\nbid,west,1 0,\nclose,,,\nbid,east,2 0,\nbid,west,1 0,\nclose,,,\nbid,east,0 1,\nbid,west,1 0,\nclose,,,\ndraft,east,0 3,51\nsubmit,east,,\ndraft,east,2 0,45\ndraft,east,0 3,55\nsubmit,east,,\ndraft,east,0 3,56\nsubmit,east,,\ndrop,east,2 0,\nsubmit,east,,\nclose,,,\n",
+        "Ok\nOk\nOk Clock 2 [20, 10]\nOk\nOk\nOk Clock 3 [40, 10]\nOk\nOk\nOk Sealed 3 [40, 10]\nOk\nRelativeCap { entry: 1, limit: 50 }\nOk\nOk\nOk\nOk\nRelativeCap { entry: 1, limit: 55 }\nOk\nRelativeCap { entry: 1, limit: 50 }\nOk Closed 3 [40, 10]\nbook 1\nsupply 2 3\nreserve 10 10\nbidder east\nbid 0 1 10\nbid 0 3 55\nbid 2 0 45\nbidder west\nbid 1 0 40\nend\n",
+    ),
     // Lines that are refused in the first round.
     (
         LOTS,

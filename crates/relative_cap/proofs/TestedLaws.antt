@@ -165,8 +165,13 @@ round-fits history j bids highs lots r t are low high is =
       inside = omega (arith, is.place, inside, are.room);
       high = omega (arith, top, (are.each (own_in history j r).held inside).most);
       price = is.most;
-      held = omega (arith, top, is.held, (are.each (own_in history j r).held inside).is,
-          price-least history bids j r (own_in history j r).prices (own_in history j r).held low high refl refl);
+      held = omega (
+        arith,
+        top,
+        is.held,
+        (are.each (own_in history j r).held inside).is,
+        price-least history bids j r (own_in history j r).prices (own_in history j r).held low high refl refl,
+      );
     }
 
 pub terms-fit : (history : List Round) (points : List ℕ) (j : ℕ) (bids : List BookBid) (highs lots : List ℕ) (t : PackageTerms) → AreHighs history j bids highs → 1 ≤ length history

@@ -12,13 +12,7 @@ use lots::Bid;
 
 /// Works out the levels of bidder `j`, from the last round to the first: the greatest eligibility from each round on, and for each
 /// round the greatest clock bid for what the bidder held in it.
-pub fn fill_levels(
-    history: &History,
-    rounds: u32,
-    j: u16,
-    peaks: &mut [u64],
-    highs: &mut [u64],
-)
+pub fn fill_levels(history: &History, rounds: u32, j: u16, peaks: &mut [u64], highs: &mut [u64])
     requires bidder { IsBidderOf history.now j }
     requires rounds { rounds ≡ length history.now }
     requires peaks { length history.now ≤ length peaks.old }

@@ -78,7 +78,15 @@ impl ListTester {
         ensures fault { IfOk result (λ over. option_map excess_value over ≡ list_fault final_cap points.now (rounds_of j history.now) (map bid_value list.now)) }
         ensures tester { IsTester history.now points.now j self.new }
     {
-        follow(alloc, history, points, j, &self.peaks, list, &mut self.entries)?;
+        follow(
+            alloc,
+            history,
+            points,
+            j,
+            &self.peaks,
+            list,
+            &mut self.entries,
+        )?;
         let highs = highs_over(alloc, &self.clock, &self.entries)?;
         Ok(first_fault(final_cap, &highs, &self.entries))
     }
@@ -96,11 +104,7 @@ fn raise(highs: &mut Vec<u64>, place: u32, amount: u64)
 
 /// The highest amounts over the clock and the entries: at the first of the rounds in which a package was held stands what is
 /// highest for it. Those over the clock alone are given.
-fn highs_over(
-    alloc: Global,
-    clock: &[u64],
-    entries: &[TestedEntry],
-) -> Result<Vec<u64>, AllocError>
+fn highs_over(alloc: Global, clock: &[u64], entries: &[TestedEntry]) -> Result<Vec<u64>, AllocError>
     ensures { (history : List Round) (points : List ℕ) (j : ℕ) → AreHighs history j [] clock.now → All (IsTested history points j) entries.now
         → IfOk result (λ highs. AreHighs history j (map tested_bid entries.now) highs.items) }
 {
