@@ -2,14 +2,12 @@
 
     python3 checker.py BOOK CERT
 
-It is written from the page CERTIFICATES.md alone, which has the two formats and the nine tests, and needs nothing but Python. It
-prints what `cca check BOOK CERT` prints: on yes the line `yes`, the winners and what they pay, the net value and the revenue; on no
-the first test that fails and the first of its places; else why it came to no verdict. The status is 0 for yes and 1 for no; 2 where
-the words aren't two names, 3 for a text that isn't of its form, 4 for a file that can't be read, and 7 beyond a limit.
+It is written from the page CERTIFICATES.md alone, which has both formats and the nine tests, and needs nothing but Python. It
+prints what `cca check BOOK CERT` prints, and ends with the same status: 0 for yes, 1 for no with the first test that fails and the
+first of its places, 2 for other words, 3 for a text that isn't of its form, 4 for a file that can't be read, 7 beyond a limit.
 """
-import math
-import re
-import sys
+import math, re, sys
+from fractions import Fraction
 
 NUMBER = re.compile(rb"0|[1-9][0-9]*")
 SIGNED = re.compile(rb"0|-?[1-9][0-9]*")
@@ -32,7 +30,6 @@ class Text:
             raise Stop(f"cca: refused {self.kind} {self.start}", 3)
 
     def line(self):
-        """The fields of the next line."""
         self.start = self.end
         feed = self.data.find(b"\n", self.start)
         self.need(feed >= 0)
@@ -139,20 +136,18 @@ class Book:
 
     def broken_rules(self, table, worths):
         """The places, in order, at which a table breaks the rules for the worths of bids."""
-        for k, line in enumerate(table):
-            least = list(table[k + 1]) if k < len(self.bids) else [0] * self.states
-            for (package, _), worth in zip(self.bids[k], worths[k]) if k < len(self.bids) else []:
+        below = [*table[1:], [0] * self.states]
+        for k, (line, after, bids, nets) in enumerate(zip(table, below, [*self.bids, []], [*worths, []])):
+            least = list(after)
+            for (package, _), worth in zip(bids, nets):
                 taken = self.place(package)
                 for s in self.places_with(package):
-                    least[s] = max(least[s], worth + table[k + 1][s - taken])
+                    least[s] = max(least[s], worth + after[s - taken])
             yield from (k * self.states + s for s in range(self.states) if line[s] < least[s])
 
 
 class Certificate:
-    """The parts of a certificate, and its tests. Bidders are counted from 0 here, and from 1 in texts and places.
-
-    Each test gives the places at which it fails, in order. It is made only where those before it hold.
-    """
+    """The parts of a certificate, with bidders counted from 0. Each test gives the places, from 1, at which it fails, in order."""
 
     def __init__(self, book, data):
         text = Text("cert", data)
@@ -261,7 +256,8 @@ class Certificate:
         for j in self.winners:
             package, amount = self.book.bids[j][self.choice[j] - 1]
             reserve = self.book.reserve(package)
-            pays, revenue = self.pay[j] + self.den * reserve, revenue + self.pay[j] + self.den * reserve
+            pays = self.pay[j] + self.den * reserve
+            revenue += pays
             words = ["winner", self.book.names[j], *package, "bid", amount, "vickrey", self.vickrey(j) + reserve]
             yield " ".join(map(str, [*words, "pays", fraction(pays, self.den)]))
         yield f"net {self.net_value}"
@@ -269,10 +265,8 @@ class Certificate:
 
 
 def fraction(top, den):
-    """A fraction that isn't below 0, as its whole part and a rest in lowest terms."""
-    whole, rest = divmod(top, den)
-    shared = math.gcd(rest, den)
-    return f"{whole}+{rest // shared}/{den // shared}" if rest else f"{whole}"
+    whole, rest = divmod(Fraction(top, den), 1)
+    return f"{whole}+{rest}" if rest else f"{whole}"
 
 
 def load(name, kind, most):
@@ -285,21 +279,26 @@ def load(name, kind, most):
     return data
 
 
-def main(words):
+def outcome(words):
     if len(words) != 2:
         raise Stop("cca: words", 2)
     book = Book(load(words[0], "book", 1048576))
     cert = Certificate(book, load(words[1], "cert", 67108864))
-    tests = [cert.c1, cert.c2, cert.c3, cert.c4, cert.c5, cert.c6, cert.c7, cert.c8, cert.c9]
-    for number, test in enumerate(tests, 1):
+    for number, test in enumerate([cert.c1, cert.c2, cert.c3, cert.c4, cert.c5, cert.c6, cert.c7, cert.c8, cert.c9], 1):
         for place in test():
             raise Stop(f"no C{number} {place}", 1)
-    print("yes", *cert.outcome(), sep="\n")
+    return "\n".join(["yes", *cert.outcome()])
+
+
+def said_of(words):
+    """What is printed of the files with these names, and the status."""
+    try:
+        return outcome(words), 0
+    except Stop as stop:
+        return stop.args
 
 
 if __name__ == "__main__":
-    try:
-        main(sys.argv[1:])
-    except Stop as stop:
-        print(stop.args[0])
-        sys.exit(stop.args[1])
+    said, status = said_of(sys.argv[1:])
+    print(said)
+    sys.exit(status)
