@@ -250,7 +250,7 @@ class Certificate:
         if self.lowered[0][-1] > sum(self.pay):
             yield self.past
 
-    def outcome(self):
+    def prices(self):
         """What a certificate shows that passes: the winners in order with their prices, and the sums."""
         revenue = 0
         for j in self.winners:
@@ -279,7 +279,8 @@ def load(name, kind, most):
     return data
 
 
-def outcome(words):
+def check(words):
+    """What is printed on yes; else a stop."""
     if len(words) != 2:
         raise Stop("cca: words", 2)
     book = Book(load(words[0], "book", 1048576))
@@ -287,18 +288,12 @@ def outcome(words):
     for number, test in enumerate([cert.c1, cert.c2, cert.c3, cert.c4, cert.c5, cert.c6, cert.c7, cert.c8, cert.c9], 1):
         for place in test():
             raise Stop(f"no C{number} {place}", 1)
-    return "\n".join(["yes", *cert.outcome()])
-
-
-def said_of(words):
-    """What is printed of the files with these names, and the status."""
-    try:
-        return outcome(words), 0
-    except Stop as stop:
-        return stop.args
+    return "\n".join(["yes", *cert.prices()])
 
 
 if __name__ == "__main__":
-    said, status = said_of(sys.argv[1:])
-    print(said)
-    sys.exit(status)
+    try:
+        print(check(sys.argv[1:]))
+    except Stop as stop:
+        print(stop.args[0])
+        sys.exit(stop.args[1])
