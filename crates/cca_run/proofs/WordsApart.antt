@@ -4,7 +4,7 @@ use Rattle.std.specs.Prelude.{◌&&◌, ◌||◌, not, codes, if◌then◌else�
 use Rattle.std.specs.Option.{option_map}
 use Rattle.std.specs.Str.{bytes_eq}
 use Rattle.std.proofs.lemmas.Slice.Eq.{bytes_eq-Decides}
-use Rattle.cca_inputs.specs.Command.{CommandValue, win, price, check, auction, award, audit, are_file_words, auction_words, audit_words, award_words, check_words, command_of, form_asked, is_among, is_file_word, price_words, win_words}
+use Rattle.cca_inputs.specs.Command.{CommandValue, win, price, check, weigh, weigh_check, auction, award, audit, are_file_words, auction_words, audit_words, award_words, check_words, command_of, form_asked, is_among, is_file_word, price_words, weigh_check_words, weigh_words, win_words}
 use Rattle.cca_inputs.specs.declared.price_form.PriceForm.{PriceForm}
 
 -- one of two was chosen
@@ -56,6 +56,31 @@ module _ (terms log cert : List ℕ) (form : PriceForm) where
         | inr e ↦ cc
       ]
   never-check (f ∷ g ∷ h ∷ rest) is = cc
+
+  mapped-weigh : (f g h : List ℕ) (asked : Option PriceForm) → option_map (weigh f g h) asked ≡ Some (award terms log cert form) → ⊥
+  mapped-weigh f g h None is = cc
+  mapped-weigh f g h (Some x) is = cc
+
+  never-weigh : (rest : List (List ℕ)) → weigh_words rest ≡ Some (award terms log cert form) → ⊥
+  never-weigh [] is = cc
+  never-weigh (f ∷ []) is = cc
+  never-weigh (f ∷ g ∷ []) is = cc
+  never-weigh (f ∷ g ∷ h ∷ flags) is =
+      elim (chosen (are_file_words (f ∷ g ∷ h ∷ [])) (option_map (weigh f g h) (form_asked flags)) None (award terms log cert form) is) [
+        | inl e ↦ mapped-weigh f g h (form_asked flags) e.1
+        | inr e ↦ cc
+      ]
+
+  never-weigh_check : (rest : List (List ℕ)) → weigh_check_words rest ≡ Some (award terms log cert form) → ⊥
+  never-weigh_check [] is = cc
+  never-weigh_check (f ∷ []) is = cc
+  never-weigh_check (f ∷ g ∷ []) is = cc
+  never-weigh_check (f ∷ g ∷ h ∷ []) is =
+      elim (chosen (are_file_words (f ∷ g ∷ h ∷ [])) (Some (weigh_check f g h)) None (award terms log cert form) is) [
+        | inl e ↦ (let no = e.1 in cc)
+        | inr e ↦ cc
+      ]
+  never-weigh_check (f ∷ g ∷ h ∷ i ∷ rest) is = cc
 
   never-auction : (rest : List (List ℕ)) → auction_words rest ≡ Some (award terms log cert form) → ⊥
   never-auction [] is = cc
@@ -113,8 +138,14 @@ module _ (terms log cert : List ℕ) (form : PriceForm) where
     abbrev of-auction : Option CommandValue
     of-auction = if bytes_eq w (codes "auction") then auction_words rest else of-award
 
+    abbrev of-weigh_check : Option CommandValue
+    of-weigh_check = if bytes_eq w (codes "weigh-check") then weigh_check_words rest else of-auction
+
+    abbrev of-weigh : Option CommandValue
+    of-weigh = if bytes_eq w (codes "weigh") then weigh_words rest else of-weigh_check
+
     abbrev of-check : Option CommandValue
-    of-check = if bytes_eq w (codes "check") then check_words rest else of-auction
+    of-check = if bytes_eq w (codes "check") then check_words rest else of-weigh
 
     abbrev of-price : Option CommandValue
     of-price = if bytes_eq w (codes "price") then price_words rest else of-check
@@ -140,11 +171,25 @@ module _ (terms log cert : List ℕ) (form : PriceForm) where
           | inr e ↦ from-award e
         ]
 
+    from-weigh_check : of-weigh_check ≡ Some (award terms log cert form) → Files
+    from-weigh_check is =
+        elim (chosen (bytes_eq w (codes "weigh-check")) (weigh_check_words rest) of-auction (award terms log cert form) is) [
+          | inl e ↦ absurd (never-weigh_check rest e.1)
+          | inr e ↦ from-auction e
+        ]
+
+    from-weigh : of-weigh ≡ Some (award terms log cert form) → Files
+    from-weigh is =
+        elim (chosen (bytes_eq w (codes "weigh")) (weigh_words rest) of-weigh_check (award terms log cert form) is) [
+          | inl e ↦ absurd (never-weigh rest e.1)
+          | inr e ↦ from-weigh_check e
+        ]
+
     from-check : of-check ≡ Some (award terms log cert form) → Files
     from-check is =
-        elim (chosen (bytes_eq w (codes "check")) (check_words rest) of-auction (award terms log cert form) is) [
+        elim (chosen (bytes_eq w (codes "check")) (check_words rest) of-weigh (award terms log cert form) is) [
           | inl e ↦ absurd (never-check rest e.1)
-          | inr e ↦ from-auction e
+          | inr e ↦ from-weigh e
         ]
 
     from-price : of-price ≡ Some (award terms log cert form) → Files
