@@ -1,0 +1,123 @@
+// Logs by a draw, and two long ones: what a replay gives is what the rules give that look through the whole list of the admitted
+// lines for each answer anew. Nothing here calls the code that is tested.
+ghost use Rattle.std.specs.Prelude.{IfOk};
+ghost use Rattle.std.specs.List.{AllByRecursion};
+ghost use Rattle.auction_rules.specs.Lawful.{HasCategories};
+
+mod draw;
+mod past;
+mod replies;
+mod terms;
+mod texts;
+
+use crate::{Events, Replay, ReplayStop, replay};
+use award_file::{Award, read_award};
+use bid_book::write_book;
+use draw::{Draw, packages_within};
+use log_file::{packages_of_log, read_log};
+use std::alloc::Global;
+use std::process::Abort;
+use std::test::Fail;
+use terms::{Entrant, Line, Pair, Step, Terms};
+use texts::{Wanted, award_text, log_text, replay_plainly};
+
+/// The words of all replies but that for want of memory, and of all ends.
+const WORDS: &[&str] = &[
+    " ok\n",
+    " round ",
+    " sealed\n",
+    " closed\n",
+    " stage\n",
+    " unknown\n",
+    " supply 1\n",
+    " supply 2\n",
+    " spectrum-cap 1 ",
+    " spectrum-cap 2 ",
+    " points ",
+    " empty\n",
+    " below-reserve ",
+    " below-clock ",
+    " no-draft\n",
+    " relative-cap 1 ",
+    " relative-cap 2 ",
+    " amount-top ",
+    " price-top 1 ",
+    " price-top 2 ",
+    "book 1\n",
+    "open\n",
+    "price ",
+];
+
+/// The award of this text.
+fn award_of(rt: &impl Abort, alloc: Global, terms: &Terms) -> Result<Award, Fail> {
+    let text = award_text(alloc, terms)?;
+    let Ok(award) = read_award(alloc, text.as_bytes()) else {
+        panic!(rt; "this is an award: {text}");
+    };
+    Ok(award)
+}
+
+/// The events of a log.
+fn events_of(rt: &impl Abort, alloc: Global, award: &Award, log: &[Line]) -> Result<Events, Fail>
+    ensures { IfOk result (AllByRecursion (HasCategories award.now)) }
+{
+    let text = log_text(alloc, log)?;
+    packages_of_log();
+    let Ok(events) = read_log(alloc, text.as_bytes(), award) else {
+        panic!(rt; "this is a log: {text}");
+    };
+    Ok(events)
+}
+
+/// What a replay leads to, as a text.
+fn end_of(rt: &impl Abort, alloc: Global, replay: &Replay) -> Result<String, Fail> {
+    match &replay.end {
+        Ok(book) => {
+            let written = write_book(alloc, book)?;
+            Ok(text_of(rt, alloc, written.items())?)
+        }
+        Err(ReplayStop::Open) => Ok(format!(in alloc; "open")?),
+        Err(ReplayStop::Rounds(rounds)) => Ok(format!(in alloc; "rounds {rounds}")?),
+        Err(ReplayStop::Price(price)) => Ok(format!(in alloc; "price {price}")?),
+    }
+}
+
+/// Bytes as a text.
+fn text_of(rt: &impl Abort, alloc: Global, bytes: &[u8]) -> Result<String, Fail> {
+    let Ok(text) = str::from_utf8(bytes) else {
+        panic!(rt; "this is a text");
+    };
+    Ok(String::from_str(alloc, text)?)
+}
+
+/// Replays a log, and asserts that what comes of it is as wanted, which it gives.
+fn agree(rt: &impl Abort, alloc: Global, terms: &Terms, log: &[Line]) -> Result<Wanted, Fail> {
+    let award = award_of(rt, alloc, terms)?;
+    let events = events_of(rt, alloc, &award, log)?;
+    let wanted = replay_plainly(alloc, terms, log)?;
+    let replay = replay(alloc, award, &events)?;
+    let replies = text_of(rt, alloc, replay.replies.items())?;
+    let end = end_of(rt, alloc, &replay)?;
+    assert_eq!(rt; replies, wanted.replies);
+    assert_eq!(rt; end, wanted.end);
+    Ok(wanted)
+}
+
+#[test]
+fn drawn_logs_are_replayed_by_the_rules(rt: HostRuntime) -> Result<(), Fail> {
+    let mut draw = Draw::new(2012);
+    let mut seen = String::new(rt.alloc());
+    for _ in 0..150u32 {
+        let terms = draw.terms(rt.alloc())?;
+        let log = draw.log(rt.alloc(), &terms)?;
+        let Wanted { replies, end } = agree(&rt, rt.alloc(), &terms, &log)?;
+        seen.push_str(&replies)?;
+        seen.push_str(&end)?;
+        seen.push_str("\n")?;
+    }
+    eprintln!(rt; "{seen}")?;
+    for word in WORDS {
+        assert!(rt; seen.as_str().contains(*word), "no log has a reply {word}");
+    }
+    Ok(())
+}

@@ -1,0 +1,217 @@
+// What the admitted lines of a log say, each time worked out from all of them.
+use super::terms::{Line, Pair, Terms};
+use auction_rules::Stage;
+
+/// The admitted lines of a log so far.
+#[derive(Clone, Copy)]
+pub struct Past<'a> {
+    pub terms: &'a Terms,
+    pub lines: &'a [Line],
+}
+
+/// The amount of the bidder's draft for the lots behind these lines: that of the last one, unless it was dropped since.
+fn draft_in(lines: &[Line], of: u64, package: Pair) -> Option<u64> {
+    let mut draft = None;
+    for line in lines {
+        match *line {
+            Line::Draft {
+                bidder,
+                lots,
+                amount,
+            } if bidder == of && lots == package => draft = Some(amount),
+            Line::Drop { bidder, lots } if bidder == of && lots == package => draft = None,
+            _ => {}
+        }
+    }
+    draft
+}
+
+impl Past<'_> {
+    /// How many rounds are closed; the close of the sealed round is counted too.
+    pub fn closes(&self) -> u64 {
+        let mut closes = 0u64;
+        for line in self.lines {
+            if matches!(line, Line::Close) {
+                closes = closes.saturating_add(1);
+            }
+        }
+        closes
+    }
+
+    /// What the bidder holds in a round: the lots of its last bid in it.
+    pub fn held(&self, round: u64, of: u64) -> Pair {
+        let mut posted = 1u64;
+        let mut held = Pair::NONE;
+        for line in self.lines {
+            match *line {
+                Line::Close => posted = posted.saturating_add(1),
+                Line::Bid { bidder, lots } if bidder == of && posted == round => held = lots,
+                _ => {}
+            }
+        }
+        held
+    }
+
+    /// By how much demand is above the supply in a round.
+    pub fn excess(&self, round: u64) -> Pair {
+        let mut demand = Pair::NONE;
+        for bidder in 1..=self.terms.last_bidder() {
+            demand = demand.plus(self.held(round, bidder));
+        }
+        demand.above(self.terms.supply)
+    }
+
+    /// The prices of a round.
+    pub fn prices(&self, round: u64) -> Pair {
+        let mut prices = self.terms.reserves;
+        for closed in 1..round {
+            prices = self.raised(prices, self.excess(closed));
+        }
+        prices
+    }
+
+    /// The prices behind a round with this excess demand.
+    pub fn raised(&self, prices: Pair, excess: Pair) -> Pair {
+        let mut raised = prices;
+        if excess.first > 0 {
+            raised.first = self.terms.raised(prices.first, excess.first);
+        }
+        if excess.second > 0 {
+            raised.second = self.terms.raised(prices.second, excess.second);
+        }
+        raised
+    }
+
+    /// The eligibility of the bidder in a round: the points of what it held in the round before.
+    pub fn eligibility(&self, round: u64, bidder: u64) -> u64 {
+        if round > 1 {
+            return self.terms.points.times(self.held(round - 1, bidder));
+        }
+        match self.terms.entrant(bidder) {
+            Some(entrant) => entrant.eligibility,
+            None => 0,
+        }
+    }
+
+    /// The first closed round without excess demand.
+    pub fn final_round(&self) -> Option<u64> {
+        for round in 1..=self.closes() {
+            if self.excess(round) == Pair::NONE {
+                return Some(round);
+            }
+        }
+        None
+    }
+
+    /// How far the auction is.
+    pub fn stage(&self) -> Stage {
+        match self.final_round() {
+            None => Stage::Clock,
+            Some(last) if last == self.closes() => Stage::Sealed,
+            Some(_) => Stage::Closed,
+        }
+    }
+
+    /// The posted round, and the final round once the clock has ended.
+    pub fn round(&self) -> u64 {
+        match self.final_round() {
+            Some(last) => last,
+            None => self.closes().saturating_add(1),
+        }
+    }
+
+    /// The last closed round of the clock, and 0 where there is none.
+    fn last_closed(&self) -> u64 {
+        match self.final_round() {
+            Some(last) => last,
+            None => self.closes(),
+        }
+    }
+
+    /// The greatest amount of the bidder's clock bids for the lots, and None where it made none. A round without a bid counts as
+    /// one for no lots.
+    pub fn clock_amount(&self, bidder: u64, lots: Pair) -> Option<u64> {
+        let mut greatest = None;
+        for round in 1..=self.last_closed() {
+            if self.held(round, bidder) == lots {
+                let amount = self.prices(round).times(lots);
+                greatest = greatest.max(Some(amount));
+            }
+        }
+        greatest
+    }
+
+    /// The amount of the bidder's draft for the lots.
+    pub fn draft(&self, bidder: u64, lots: Pair) -> Option<u64> {
+        draft_in(self.lines, bidder, lots)
+    }
+
+    /// How many drafts the bidder has.
+    pub fn drafts(&self, bidder: u64) -> u64 {
+        let mut drafts = 0u64;
+        for lots in self.terms.packages.iter() {
+            if self.draft(bidder, *lots).is_some() {
+                drafts = drafts.saturating_add(1);
+            }
+        }
+        drafts
+    }
+
+    /// The amount for the lots in the list that the bidder submitted last.
+    pub fn submitted(&self, of: u64, lots: Pair) -> Option<u64> {
+        let mut before: &[Line] = &[];
+        for (place, line) in self.lines.iter().enumerate() {
+            match *line {
+                Line::Submit { bidder } if bidder == of => before = &self.lines[..place],
+                _ => {}
+            }
+        }
+        draft_in(before, of, lots)
+    }
+
+    /// The greatest amount for the lots among the bidder's clock bids and its drafts.
+    fn highest(&self, bidder: u64, lots: Pair) -> u64 {
+        if lots == Pair::NONE {
+            return 0;
+        }
+        let greatest = self
+            .clock_amount(bidder, lots)
+            .max(self.draft(bidder, lots));
+        greatest.unwrap_or(0)
+    }
+
+    /// The last round up to this one in which the bidder's eligibility was enough for the lots.
+    fn constraining(&self, last: u64, bidder: u64, lots: Pair) -> u64 {
+        let mut constraining = 1;
+        for round in 1..=last {
+            if self.eligibility(round, bidder) >= self.terms.points.times(lots) {
+                constraining = round;
+            }
+        }
+        constraining
+    }
+
+    /// What the lots may cost by what the bidder held in a round.
+    fn cap_by(&self, round: u64, bidder: u64, lots: Pair) -> u64 {
+        let held = self.held(round, bidder);
+        let prices = self.prices(round);
+        let most = self
+            .highest(bidder, held)
+            .saturating_add(prices.times(lots));
+        most.saturating_sub(prices.times(held))
+    }
+
+    /// The relative cap of the lots over the bidder's drafts. What it held in the final round has none.
+    pub fn cap(&self, bidder: u64, lots: Pair) -> Option<u64> {
+        let last = self.final_round()?;
+        if lots == self.held(last, bidder) {
+            return None;
+        }
+        let cap = self.cap_by(self.constraining(last, bidder, lots), bidder, lots);
+        if self.terms.final_cap {
+            Some(cap.min(self.cap_by(last, bidder, lots)))
+        } else {
+            Some(cap)
+        }
+    }
+}

@@ -1,0 +1,128 @@
+// Awards of two categories and the lines of their logs, as plain numbers.
+
+/// A number for each of the two categories: lots, points or prices.
+#[derive(Clone, Copy, Debug, PartialEq, Eq, PartialOrd, Ord)]
+pub struct Pair {
+    pub first: u64,
+    pub second: u64,
+}
+
+impl Pair {
+    /// No lot of either category.
+    pub const NONE: Pair = Pair {
+        first: 0,
+        second: 0,
+    };
+
+    /// The sum of the two products.
+    pub fn times(self, other: Pair) -> u64 {
+        let first = self.first.saturating_mul(other.first);
+        let second = self.second.saturating_mul(other.second);
+        first.saturating_add(second)
+    }
+
+    /// The two sums.
+    pub fn plus(self, other: Pair) -> Pair {
+        Pair {
+            first: self.first.saturating_add(other.first),
+            second: self.second.saturating_add(other.second),
+        }
+    }
+
+    /// By how much each number is above the other's, 0 where it isn't.
+    pub fn above(self, other: Pair) -> Pair {
+        Pair {
+            first: self.first.saturating_sub(other.first),
+            second: self.second.saturating_sub(other.second),
+        }
+    }
+}
+
+/// A threshold of the price steps.
+#[derive(Clone, Copy)]
+pub struct Step {
+    pub excess: u64,
+    pub permille: u64,
+}
+
+/// A bidder of an award.
+#[derive(Clone, Copy)]
+pub struct Entrant {
+    pub eligibility: u64,
+    pub holding: Pair,
+}
+
+/// A spectrum cap.
+#[derive(Clone, Copy)]
+pub struct SpectrumCap {
+    pub weights: Pair,
+    pub limit: u64,
+}
+
+/// An award. Bidders are numbered from 1, and 0 is a stranger's number.
+#[derive(Drop)]
+pub struct Terms {
+    pub final_cap: bool,
+    pub tick: u64,
+    pub supply: Pair,
+    pub points: Pair,
+    pub reserves: Pair,
+    pub steps: Vec<Step>,
+    pub bidders: Vec<Entrant>,
+    pub caps: Vec<SpectrumCap>,
+    /// Every package within the supply, in order.
+    pub packages: Vec<Pair>,
+}
+
+impl Terms {
+    /// How many bidders there are, which is the number of the last one.
+    pub fn last_bidder(&self) -> u64 {
+        self.bidders.len() as u64
+    }
+
+    /// The bidder of this number; a stranger is none.
+    pub fn entrant(&self, bidder: u64) -> Option<Entrant> {
+        let place = bidder.checked_sub(1)?;
+        self.bidders.get(place as usize).copied()
+    }
+
+    /// What the price becomes behind a round with this excess demand, which isn't 0.
+    pub fn raised(&self, price: u64, excess: u64) -> u64 {
+        let part = self.tick.saturating_mul(1000).max(1);
+        let ticks = price.saturating_mul(self.permille(excess)).div_ceil(part);
+        price.saturating_add(ticks.max(1).saturating_mul(self.tick))
+    }
+
+    /// The thousandths of the last threshold that the excess reaches.
+    fn permille(&self, excess: u64) -> u64 {
+        let mut permille = 0;
+        for step in self.steps.iter() {
+            if step.excess <= excess {
+                permille = step.permille;
+            }
+        }
+        permille
+    }
+}
+
+/// A line of a log.
+#[derive(Clone, Copy)]
+pub enum Line {
+    Bid {
+        bidder: u64,
+        lots: Pair,
+    },
+    Draft {
+        bidder: u64,
+        lots: Pair,
+        amount: u64,
+    },
+    Drop {
+        bidder: u64,
+        lots: Pair,
+    },
+    Submit {
+        bidder: u64,
+    },
+    Close,
+}

@@ -1,0 +1,213 @@
+// The texts of an award, of its log, and of what the log leads to.
+use super::past::Past;
+use super::terms::{Entrant, Line, Pair, SpectrumCap, Step, Terms};
+use auction_rules::{Reply, Stage};
+use std::alloc::{AllocError, Global};
+
+/// What has to come of a log.
+#[derive(Drop)]
+pub struct Wanted {
+    /// A line for each line of the log.
+    pub replies: String,
+    /// The book, or why there is none.
+    pub end: String,
+}
+
+/// The text of an award.
+pub fn award_text(alloc: Global, terms: &Terms) -> Result<String, AllocError> {
+    let version = if terms.final_cap { 2 } else { 1 };
+    let mut text = format!(in alloc; "version = {version}\ntick = {}\n", terms.tick)?;
+    text.push_str(&format!(in alloc;
+        "category = [{{ name = \"a\", supply = {}, points = {}, reserve = {} }}, ",
+        terms.supply.first, terms.points.first, terms.reserves.first
+    )?)?;
+    text.push_str(&format!(in alloc;
+        "{{ name = \"b\", supply = {}, points = {}, reserve = {} }}]\n",
+        terms.supply.second, terms.points.second, terms.reserves.second
+    )?)?;
+    text.push_str(&steps_text(alloc, &terms.steps)?)?;
+    text.push_str(&caps_text(alloc, &terms.caps)?)?;
+    text.push_str(&bidders_text(alloc, &terms.bidders)?)?;
+    Ok(text)
+}
+
+fn steps_text(alloc: Global, steps: &[Step]) -> Result<String, AllocError> {
+    let mut text = String::from_str(alloc, "step = [")?;
+    for step in steps {
+        text.push_str(&format!(in alloc;
+            "{{ excess = {}, permille = {} }}, ",
+            step.excess, step.permille
+        )?)?;
+    }
+    text.push_str("]\n")?;
+    Ok(text)
+}
+
+fn caps_text(alloc: Global, caps: &[SpectrumCap]) -> Result<String, AllocError> {
+    let mut text = String::from_str(alloc, "cap = [")?;
+    for cap in caps {
+        let Pair { first, second } = cap.weights;
+        text.push_str(&format!(in alloc;
+            "{{ weight = [{first}, {second}], limit = {} }}, ",
+            cap.limit
+        )?)?;
+    }
+    text.push_str("]\n")?;
+    Ok(text)
+}
+
+fn bidders_text(alloc: Global, bidders: &[Entrant]) -> Result<String, AllocError> {
+    let mut text = String::new(alloc);
+    for (place, bidder) in bidders.iter().enumerate() {
+        let number = place + 1;
+        let Pair { first, second } = bidder.holding;
+        text.push_str(&format!(in alloc;
+            "[[bidder]]\nname = \"b{number}\"\neligibility = {}\nholding = [{first}, {second}]\n",
+            bidder.eligibility
+        )?)?;
+    }
+    Ok(text)
+}
+
+/// The text of a log.
+pub fn log_text(alloc: Global, log: &[Line]) -> Result<String, AllocError> {
+    let mut text = String::new(alloc);
+    for line in log {
+        text.push_str(&line_text(alloc, *line)?)?;
+    }
+    Ok(text)
+}
+
+fn line_text(alloc: Global, line: Line) -> Result<String, AllocError> {
+    match line {
+        Line::Bid { bidder, lots } => {
+            format!(in alloc; "bid,b{bidder},{} {},\n", lots.first, lots.second)
+        }
+        Line::Draft {
+            bidder,
+            lots,
+            amount,
+        } => format!(in alloc; "draft,b{bidder},{} {},{amount}\n", lots.first, lots.second),
+        Line::Drop { bidder, lots } => {
+            format!(in alloc; "drop,b{bidder},{} {},\n", lots.first, lots.second)
+        }
+        Line::Submit { bidder } => format!(in alloc; "submit,b{bidder},,\n"),
+        Line::Close => format!(in alloc; "close,,,\n"),
+    }
+}
+
+/// The text of a reply that isn't Ok.
+fn refusal_text(alloc: Global, reply: Reply) -> Result<String, AllocError> {
+    match reply {
+        Reply::Ok => format!(in alloc; "ok"),
+        Reply::Stage => format!(in alloc; "stage"),
+        Reply::Unknown => format!(in alloc; "unknown"),
+        Reply::Supply(category) => format!(in alloc; "supply {category}"),
+        Reply::SpectrumCap { number, limit } => format!(in alloc; "spectrum-cap {number} {limit}"),
+        Reply::Points(eligibility) => format!(in alloc; "points {eligibility}"),
+        Reply::Empty => format!(in alloc; "empty"),
+        Reply::BelowReserve(amount) => format!(in alloc; "below-reserve {amount}"),
+        Reply::BelowClock(amount) => format!(in alloc; "below-clock {amount}"),
+        Reply::NoDraft => format!(in alloc; "no-draft"),
+        Reply::RelativeCap { entry, limit } => format!(in alloc; "relative-cap {entry} {limit}"),
+        Reply::Full(most) => format!(in alloc; "full {most}"),
+        Reply::AmountTop(most) => format!(in alloc; "amount-top {most}"),
+        Reply::PriceTop { category, price } => format!(in alloc; "price-top {category} {price}"),
+        Reply::Memory => format!(in alloc; "memory"),
+    }
+}
+
+/// What is told of a line that got this reply and is behind this past.
+fn reply_text(alloc: Global, past: &Past, line: Line, reply: Reply) -> Result<String, AllocError> {
+    if !matches!((line, reply), (Line::Close, Reply::Ok)) {
+        return refusal_text(alloc, reply);
+    }
+    match past.stage() {
+        Stage::Clock => {
+            let round = past.round();
+            let Pair { first, second } = past.prices(round);
+            format!(in alloc; "round {round} {first} {second}")
+        }
+        Stage::Sealed => format!(in alloc; "sealed"),
+        Stage::Closed => format!(in alloc; "closed"),
+    }
+}
+
+/// The limit for which a line was refused, where it is a close.
+fn limit_text(alloc: Global, line: Line, reply: Reply) -> Result<Option<String>, AllocError> {
+    match (line, reply) {
+        (Line::Close, Reply::Full(_)) => Ok(Some(format!(in alloc; "rounds 301")?)),
+        (Line::Close, Reply::PriceTop { price, .. }) => {
+            Ok(Some(format!(in alloc; "price {price}")?))
+        }
+        _ => Ok(None),
+    }
+}
+
+/// What has to come of a log.
+pub fn replay_plainly(alloc: Global, terms: &Terms, log: &[Line]) -> Result<Wanted, AllocError> {
+    let mut admitted = Vec::new(alloc);
+    let mut replies = String::new(alloc);
+    let mut limit = None;
+    for (place, line) in log.iter().enumerate() {
+        let reply = Past {
+            terms,
+            lines: &admitted,
+        }
+        .reply(*line);
+        if reply == Reply::Ok {
+            admitted.push(*line)?;
+        }
+        let past = Past {
+            terms,
+            lines: &admitted,
+        };
+        let told = reply_text(alloc, &past, *line, reply)?;
+        replies.push_str(&format!(in alloc; "{} {told}\n", place + 1)?)?;
+        limit = limit.or(limit_text(alloc, *line, reply)?);
+    }
+    let past = Past {
+        terms,
+        lines: &admitted,
+    };
+    let end = end_text(alloc, &past, limit)?;
+    Ok(Wanted { replies, end })
+}
+
+/// The limit that was met, or else the book, where the auction is closed.
+fn end_text(alloc: Global, past: &Past, limit: Option<String>) -> Result<String, AllocError> {
+    match (limit, past.stage()) {
+        (Some(limit), _) => Ok(limit),
+        (None, Stage::Closed) => book_text(alloc, past),
+        (None, _) => format!(in alloc; "open"),
+    }
+}
+
+/// The book of a log.
+fn book_text(alloc: Global, past: &Past) -> Result<String, AllocError> {
+    let Pair { first, second } = past.terms.supply;
+    let mut text = format!(in alloc; "book 1\nsupply {first} {second}\n")?;
+    let Pair { first, second } = past.terms.reserves;
+    text.push_str(&format!(in alloc; "reserve {first} {second}\n")?)?;
+    for bidder in 1..=past.terms.last_bidder() {
+        text.push_str(&bids_text(alloc, past, bidder)?)?;
+    }
+    text.push_str("end\n")?;
+    Ok(text)
+}
+
+/// The lines of a bidder in the book.
+fn bids_text(alloc: Global, past: &Past, bidder: u64) -> Result<String, AllocError> {
+    let mut text = format!(in alloc; "bidder b{bidder}\n")?;
+    for lots in past.terms.packages.iter() {
+        let amount = past
+            .clock_amount(bidder, *lots)
+            .max(past.submitted(bidder, *lots));
+        if let Some(amount) = amount
+            && *lots != Pair::NONE
+        {
+            text.push_str(&format!(in alloc; "bid {} {} {amount}\n", lots.first, lots.second)?)?;
+        }
+    }
+    Ok(text)
+}
