@@ -121,3 +121,74 @@ fn drawn_logs_are_replayed_by_the_rules(rt: HostRuntime) -> Result<(), Fail> {
     }
     Ok(())
 }
+
+/// An award of two bidders who may hold everything, with the least steps.
+fn plain_terms(alloc: Global, supply: Pair) -> Result<Terms, Fail> {
+    let mut terms = Terms {
+        final_cap: true,
+        tick: 1,
+        supply,
+        points: Pair::NONE,
+        reserves: Pair {
+            first: 10,
+            second: 7,
+        },
+        steps: Vec::new(alloc),
+        bidders: Vec::new(alloc),
+        caps: Vec::new(alloc),
+        packages: packages_within(alloc, supply)?,
+    };
+    terms.steps.push(Step {
+        excess: 1,
+        permille: 1,
+    })?;
+    for _ in 0..2u32 {
+        terms.bidders.push(Entrant {
+            eligibility: 0,
+            holding: Pair::NONE,
+        })?;
+    }
+    Ok(terms)
+}
+
+#[test]
+fn a_draft_list_has_300_entries(rt: HostRuntime) -> Result<(), Fail> {
+    let supply = Pair {
+        first: 17,
+        second: 16,
+    };
+    let terms = plain_terms(rt.alloc(), supply)?;
+    let mut log = vec![in rt.alloc(); Line::Close]?;
+    for lots in terms.packages.iter() {
+        log.push(Line::Draft {
+            bidder: 1,
+            lots: *lots,
+            amount: terms.reserves.times(*lots),
+        })?;
+    }
+    log.push(Line::Submit { bidder: 1 })?;
+    log.push(Line::Close)?;
+    let Wanted { replies, end } = agree(&rt, rt.alloc(), &terms, &log)?;
+    assert!(rt; replies.as_str().contains("303 full 300\n"));
+    assert!(rt; end.as_str().contains("bid 17 11 247\n"));
+    Ok(())
+}
+
+#[test]
+fn there_are_300_rounds(rt: HostRuntime) -> Result<(), Fail> {
+    let lots = Pair {
+        first: 1,
+        second: 1,
+    };
+    let terms = plain_terms(rt.alloc(), lots)?;
+    let mut log = Vec::new(rt.alloc());
+    for _ in 0..300u32 {
+        log.push(Line::Bid { bidder: 1, lots })?;
+        log.push(Line::Bid { bidder: 2, lots })?;
+        log.push(Line::Close)?;
+    }
+    let Wanted { replies, end } = agree(&rt, rt.alloc(), &terms, &log)?;
+    assert!(rt; replies.as_str().contains("900 full 300\n"));
+    assert_eq!(rt; end.as_str(), "rounds 301");
+    Ok(())
+}

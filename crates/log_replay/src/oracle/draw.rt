@@ -1,5 +1,5 @@
 // Awards and logs by a draw.
-use super::past::Past;
+use super::past::{Past, past_of};
 use super::terms::{Entrant, Line, Pair, SpectrumCap, Step, Terms};
 use auction_rules::{Reply, Stage};
 use std::alloc::{AllocError, Global};
@@ -40,6 +40,11 @@ impl Draw {
     fn from_to(&mut self, first: u64, last: u64) -> u64 {
         let numbers = last.saturating_sub(first).saturating_add(1);
         first.saturating_add(self.below(numbers))
+    }
+
+    /// A count up to this one, rather more than half of it than less.
+    fn count(&mut self, most: u64) -> u64 {
+        self.from_to(0, most).max(self.from_to(0, most))
     }
 
     fn pair(&mut self, first: u64, last: u64) -> Pair {
@@ -85,7 +90,7 @@ impl Draw {
         let mut bidders = Vec::new(alloc);
         for _ in 0..self.from_to(2, 3) {
             bidders.push(Entrant {
-                eligibility: self.from_to(3, 12),
+                eligibility: self.from_to(4, 9),
                 holding: self.pair(0, 1),
             })?;
         }
@@ -108,10 +113,7 @@ impl Draw {
         let mut log = Vec::new(alloc);
         let mut admitted = Vec::new(alloc);
         for _ in 0..self.from_to(15, 75) {
-            let past = Past {
-                terms,
-                lines: &admitted,
-            };
+            let past = past_of(terms, &admitted);
             if matches!(past.stage(), Stage::Closed) && self.below(2) == 0 {
                 break;
             }
@@ -131,7 +133,7 @@ impl Draw {
             0 => 0,
             _ => self.from_to(1, past.terms.last_bidder()),
         };
-        match (past.stage(), self.below(16)) {
+        match (past.stage(), self.below(24)) {
             (Stage::Closed, _) | (_, 0) => self.any_line(past, bidder),
             (Stage::Clock, 1..=4) => Line::Close,
             (Stage::Clock, _) => Line::Bid {
@@ -139,7 +141,8 @@ impl Draw {
                 lots: self.lots(past.terms.supply),
             },
             (Stage::Sealed, 1..=3) => Line::Submit { bidder },
-            (Stage::Sealed, 4) => Line::Drop {
+            (Stage::Sealed, 4) => Line::Close,
+            (Stage::Sealed, 5) => Line::Drop {
                 bidder,
                 lots: self.known_lots(past, bidder),
             },
@@ -171,26 +174,28 @@ impl Draw {
     fn lots(&mut self, supply: Pair) -> Pair {
         let over = if self.below(16) == 0 { 1 } else { 0 };
         Pair {
-            first: self.from_to(0, supply.first.saturating_add(over)),
-            second: self.from_to(0, supply.second.saturating_add(over)),
+            first: self.count(supply.first.saturating_add(over)),
+            second: self.count(supply.second.saturating_add(over)),
         }
     }
 
-    /// A package, every other time one that the bidder held in some round.
+    /// A package; every other time it is what the bidder held in some round, where that isn't empty.
     fn known_lots(&mut self, past: &Past, bidder: u64) -> Pair {
-        if self.below(2) == 0 {
+        let held = past.held(self.from_to(1, past.round()), bidder);
+        if held == Pair::NONE || self.below(2) == 0 {
             return self.lots(past.terms.supply);
         }
-        past.held(self.from_to(1, past.round()), bidder)
+        held
     }
 
     /// An amount near one at which the reply changes.
     fn amount(&mut self, past: &Past, bidder: u64, lots: Pair) -> u64 {
+        let reserve = past.terms.reserves.times(lots);
         let near = match self.below(24) {
             0 => 4_398_046_511_104,
-            1..=4 => past.terms.reserves.times(lots),
-            5..=10 => past.clock_amount(bidder, lots).unwrap_or(0),
-            11..=18 => past.cap(bidder, lots).unwrap_or(0),
+            1..=3 => reserve,
+            4..=10 => past.clock_amount(bidder, lots).unwrap_or(reserve),
+            11..=18 => past.cap(bidder, lots).unwrap_or(reserve),
             _ => past
                 .prices(past.round())
                 .times(lots)

@@ -6,7 +6,66 @@ use auction_rules::Stage;
 #[derive(Clone, Copy)]
 pub struct Past<'a> {
     pub terms: &'a Terms,
-    pub lines: &'a [Line],
+    lines: &'a [Line],
+    /// How many closes there are; that of the sealed round is counted too.
+    closes: u64,
+    /// The first closed round without excess demand.
+    final_round: Option<u64>,
+}
+
+/// The past of these lines.
+pub fn past_of<'a>(terms: &'a Terms, lines: &'a [Line]) -> Past<'a> {
+    let closes = closes_in(lines);
+    Past {
+        terms,
+        lines,
+        closes,
+        final_round: final_round(terms, lines, closes),
+    }
+}
+
+fn closes_in(lines: &[Line]) -> u64 {
+    let mut closes = 0u64;
+    for line in lines {
+        if matches!(line, Line::Close) {
+            closes = closes.saturating_add(1);
+        }
+    }
+    closes
+}
+
+/// What the bidder holds in a round: the lots of its last bid in it.
+fn held_in(lines: &[Line], round: u64, of: u64) -> Pair {
+    let mut posted = 1u64;
+    let mut held = Pair::NONE;
+    for line in lines {
+        match *line {
+            Line::Close if posted == round => return held,
+            Line::Close => posted = posted.saturating_add(1),
+            Line::Bid { bidder, lots } if bidder == of && posted == round => held = lots,
+            _ => {}
+        }
+    }
+    held
+}
+
+/// By how much demand is above the supply in a round.
+fn excess_in(terms: &Terms, lines: &[Line], round: u64) -> Pair {
+    let mut demand = Pair::NONE;
+    for bidder in 1..=terms.last_bidder() {
+        demand = demand.plus(held_in(lines, round, bidder));
+    }
+    demand.above(terms.supply)
+}
+
+/// The first of so many closed rounds without excess demand.
+fn final_round(terms: &Terms, lines: &[Line], closes: u64) -> Option<u64> {
+    for round in 1..=closes {
+        if excess_in(terms, lines, round) == Pair::NONE {
+            return Some(round);
+        }
+    }
+    None
 }
 
 /// The amount of the bidder's draft for the lots behind these lines: that of the last one, unless it was dropped since.
@@ -27,38 +86,14 @@ fn draft_in(lines: &[Line], of: u64, package: Pair) -> Option<u64> {
 }
 
 impl Past<'_> {
-    /// How many rounds are closed; the close of the sealed round is counted too.
-    pub fn closes(&self) -> u64 {
-        let mut closes = 0u64;
-        for line in self.lines {
-            if matches!(line, Line::Close) {
-                closes = closes.saturating_add(1);
-            }
-        }
-        closes
-    }
-
-    /// What the bidder holds in a round: the lots of its last bid in it.
-    pub fn held(&self, round: u64, of: u64) -> Pair {
-        let mut posted = 1u64;
-        let mut held = Pair::NONE;
-        for line in self.lines {
-            match *line {
-                Line::Close => posted = posted.saturating_add(1),
-                Line::Bid { bidder, lots } if bidder == of && posted == round => held = lots,
-                _ => {}
-            }
-        }
-        held
+    /// What the bidder holds in a round.
+    pub fn held(&self, round: u64, bidder: u64) -> Pair {
+        held_in(self.lines, round, bidder)
     }
 
     /// By how much demand is above the supply in a round.
     pub fn excess(&self, round: u64) -> Pair {
-        let mut demand = Pair::NONE;
-        for bidder in 1..=self.terms.last_bidder() {
-            demand = demand.plus(self.held(round, bidder));
-        }
-        demand.above(self.terms.supply)
+        excess_in(self.terms, self.lines, round)
     }
 
     /// The prices of a round.
@@ -93,38 +128,28 @@ impl Past<'_> {
         }
     }
 
-    /// The first closed round without excess demand.
-    pub fn final_round(&self) -> Option<u64> {
-        for round in 1..=self.closes() {
-            if self.excess(round) == Pair::NONE {
-                return Some(round);
-            }
-        }
-        None
-    }
-
     /// How far the auction is.
     pub fn stage(&self) -> Stage {
-        match self.final_round() {
+        match self.final_round {
             None => Stage::Clock,
-            Some(last) if last == self.closes() => Stage::Sealed,
+            Some(last) if last == self.closes => Stage::Sealed,
             Some(_) => Stage::Closed,
         }
     }
 
     /// The posted round, and the final round once the clock has ended.
     pub fn round(&self) -> u64 {
-        match self.final_round() {
+        match self.final_round {
             Some(last) => last,
-            None => self.closes().saturating_add(1),
+            None => self.closes.saturating_add(1),
         }
     }
 
     /// The last closed round of the clock, and 0 where there is none.
     fn last_closed(&self) -> u64 {
-        match self.final_round() {
+        match self.final_round {
             Some(last) => last,
-            None => self.closes(),
+            None => self.closes,
         }
     }
 
@@ -203,7 +228,7 @@ impl Past<'_> {
 
     /// The relative cap of the lots over the bidder's drafts. What it held in the final round has none.
     pub fn cap(&self, bidder: u64, lots: Pair) -> Option<u64> {
-        let last = self.final_round()?;
+        let last = self.final_round?;
         if lots == self.held(last, bidder) {
             return None;
         }

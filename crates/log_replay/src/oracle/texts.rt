@@ -1,5 +1,5 @@
 // The texts of an award, of its log, and of what the log leads to.
-use super::past::Past;
+use super::past::{Past, past_of};
 use super::terms::{Entrant, Line, Pair, SpectrumCap, Step, Terms};
 use auction_rules::{Reply, Stage};
 use std::alloc::{AllocError, Global};
@@ -96,7 +96,7 @@ fn line_text(alloc: Global, line: Line) -> Result<String, AllocError> {
     }
 }
 
-/// The text of a reply that isn't Ok.
+/// The text of a reply to a line that is no admitted close.
 fn refusal_text(alloc: Global, reply: Reply) -> Result<String, AllocError> {
     match reply {
         Reply::Ok => format!(in alloc; "ok"),
@@ -117,11 +117,22 @@ fn refusal_text(alloc: Global, reply: Reply) -> Result<String, AllocError> {
     }
 }
 
-/// What is told of a line that got this reply and is behind this past.
-fn reply_text(alloc: Global, past: &Past, line: Line, reply: Reply) -> Result<String, AllocError> {
-    if !matches!((line, reply), (Line::Close, Reply::Ok)) {
-        return refusal_text(alloc, reply);
+/// What is told of a line that got this reply, and behind which these lines are admitted.
+fn reply_text(
+    alloc: Global,
+    terms: &Terms,
+    admitted: &[Line],
+    line: Line,
+    reply: Reply,
+) -> Result<String, AllocError> {
+    match (line, reply) {
+        (Line::Close, Reply::Ok) => close_text(alloc, &past_of(terms, admitted)),
+        _ => refusal_text(alloc, reply),
     }
+}
+
+/// What is told of an admitted close, which is the last line of this past.
+fn close_text(alloc: Global, past: &Past) -> Result<String, AllocError> {
     match past.stage() {
         Stage::Clock => {
             let round = past.round();
@@ -150,27 +161,15 @@ pub fn replay_plainly(alloc: Global, terms: &Terms, log: &[Line]) -> Result<Want
     let mut replies = String::new(alloc);
     let mut limit = None;
     for (place, line) in log.iter().enumerate() {
-        let reply = Past {
-            terms,
-            lines: &admitted,
-        }
-        .reply(*line);
+        let reply = past_of(terms, &admitted).reply(*line);
         if reply == Reply::Ok {
             admitted.push(*line)?;
         }
-        let past = Past {
-            terms,
-            lines: &admitted,
-        };
-        let told = reply_text(alloc, &past, *line, reply)?;
+        let told = reply_text(alloc, terms, &admitted, *line, reply)?;
         replies.push_str(&format!(in alloc; "{} {told}\n", place + 1)?)?;
         limit = limit.or(limit_text(alloc, *line, reply)?);
     }
-    let past = Past {
-        terms,
-        lines: &admitted,
-    };
-    let end = end_text(alloc, &past, limit)?;
+    let end = end_text(alloc, &past_of(terms, &admitted), limit)?;
     Ok(Wanted { replies, end })
 }
 
