@@ -44,8 +44,8 @@ const WORDS: &[&str] = &[
     " price-top 1 ",
     " price-top 2 ",
     "book 1\n",
-    "open\n",
-    "price ",
+    "Open\n",
+    "Price(",
 ];
 
 /// The award of this text.
@@ -69,16 +69,15 @@ fn events_of(rt: &impl Abort, alloc: Global, award: &Award, log: &[Line]) -> Res
     Ok(events)
 }
 
-/// What a replay leads to, as a text.
-fn end_of(rt: &impl Abort, alloc: Global, replay: &Replay) -> Result<String, Fail> {
+/// What a replay leads to, with the text of the book.
+fn end_of(
+    rt: &impl Abort,
+    alloc: Global,
+    replay: &Replay,
+) -> Result<Result<String, ReplayStop>, Fail> {
     match &replay.end {
-        Ok(book) => {
-            let written = write_book(alloc, book)?;
-            Ok(text_of(rt, alloc, written.items())?)
-        }
-        Err(ReplayStop::Open) => Ok(format!(in alloc; "open")?),
-        Err(ReplayStop::Rounds(rounds)) => Ok(format!(in alloc; "rounds {rounds}")?),
-        Err(ReplayStop::Price(price)) => Ok(format!(in alloc; "price {price}")?),
+        Ok(book) => Ok(Ok(text_of(rt, alloc, write_book(alloc, book)?.items())?)),
+        Err(stop) => Ok(Err(*stop)),
     }
 }
 
@@ -103,27 +102,45 @@ fn agree(rt: &impl Abort, alloc: Global, terms: &Terms, log: &[Line]) -> Result<
     Ok(wanted)
 }
 
+/// Asserts that so many drawn logs agree, and gives all their replies and books.
+fn drawn_agree(rt: &impl Abort, alloc: Global, logs: u32) -> Result<String, Fail> {
+    let mut draw = Draw::new(2012);
+    let mut seen = String::new(alloc);
+    for _ in 0..logs {
+        let terms = draw.terms(alloc)?;
+        let log = draw.log(alloc, &terms)?;
+        let Wanted { replies, end } = agree(rt, alloc, &terms, &log)?;
+        seen.push_str(&replies)?;
+        seen.push_str(&end_text(alloc, end)?)?;
+    }
+    Ok(seen)
+}
+
+/// The book, or why there is none.
+fn end_text(alloc: Global, end: Result<String, ReplayStop>) -> Result<String, Fail> {
+    match end {
+        Ok(book) => Ok(book),
+        Err(stop) => Ok(format!(in alloc; "{stop:?}\n")?),
+    }
+}
+
+/// Asserts that a text has these words.
+fn has_words(rt: &impl Abort, text: &str, words: &[&str]) {
+    for word in words {
+        assert!(rt; text.contains(*word), "{word} doesn't occur");
+    }
+}
+
 #[test]
 fn drawn_logs_are_replayed_by_the_rules(rt: HostRuntime) -> Result<(), Fail> {
-    let mut draw = Draw::new(2012);
-    let mut seen = String::new(rt.alloc());
-    for _ in 0..150u32 {
-        let terms = draw.terms(rt.alloc())?;
-        let log = draw.log(rt.alloc(), &terms)?;
-        let Wanted { replies, end } = agree(&rt, rt.alloc(), &terms, &log)?;
-        seen.push_str(&replies)?;
-        seen.push_str(&end)?;
-        seen.push_str("\n")?;
-    }
-    eprintln!(rt; "{seen}")?;
-    for word in WORDS {
-        assert!(rt; seen.as_str().contains(*word), "no log has a reply {word}");
-    }
+    let seen = drawn_agree(&rt, rt.alloc(), 120)?;
+    has_words(&rt, &seen, WORDS);
     Ok(())
 }
 
 /// An award of two bidders who may hold everything, with the least steps.
-fn plain_terms(alloc: Global, supply: Pair) -> Result<Terms, Fail> {
+fn plain_terms(alloc: Global, first: u64, second: u64) -> Result<Terms, Fail> {
+    let supply = Pair { first, second };
     let mut terms = Terms {
         final_cap: true,
         tick: 1,
@@ -151,14 +168,10 @@ fn plain_terms(alloc: Global, supply: Pair) -> Result<Terms, Fail> {
     Ok(terms)
 }
 
-#[test]
-fn a_draft_list_has_300_entries(rt: HostRuntime) -> Result<(), Fail> {
-    let supply = Pair {
-        first: 17,
-        second: 16,
-    };
-    let terms = plain_terms(rt.alloc(), supply)?;
-    let mut log = vec![in rt.alloc(); Line::Close]?;
+/// A log of one bidder who drafts every package at the reserves and submits the list.
+fn drafts_of_all(alloc: Global, terms: &Terms) -> Result<Vec<Line>, Fail> {
+    let mut log = Vec::new(alloc);
+    log.push(Line::Close)?;
     for lots in terms.packages.iter() {
         log.push(Line::Draft {
             bidder: 1,
@@ -168,27 +181,39 @@ fn a_draft_list_has_300_entries(rt: HostRuntime) -> Result<(), Fail> {
     }
     log.push(Line::Submit { bidder: 1 })?;
     log.push(Line::Close)?;
-    let Wanted { replies, end } = agree(&rt, rt.alloc(), &terms, &log)?;
-    assert!(rt; replies.as_str().contains("303 full 300\n"));
-    assert!(rt; end.as_str().contains("bid 17 11 247\n"));
+    Ok(log)
+}
+
+/// A log of so many rounds in which both bidders ask for all there is.
+fn crowded_rounds(alloc: Global, terms: &Terms, rounds: u32) -> Result<Vec<Line>, Fail> {
+    let lots = terms.supply;
+    let mut log = Vec::new(alloc);
+    for _ in 0..rounds {
+        log.push(Line::Bid { bidder: 1, lots })?;
+        log.push(Line::Bid { bidder: 2, lots })?;
+        log.push(Line::Close)?;
+    }
+    Ok(log)
+}
+
+#[test]
+fn a_draft_list_has_300_entries(rt: HostRuntime) -> Result<(), Fail> {
+    let terms = plain_terms(rt.alloc(), 17, 16)?;
+    let log = drafts_of_all(rt.alloc(), &terms)?;
+    let wanted = agree(&rt, rt.alloc(), &terms, &log)?;
+    has_words(&rt, &wanted.replies, &["\n302 ok\n303 full 300\n"]);
     Ok(())
 }
 
 #[test]
 fn there_are_300_rounds(rt: HostRuntime) -> Result<(), Fail> {
-    let lots = Pair {
-        first: 1,
-        second: 1,
-    };
-    let terms = plain_terms(rt.alloc(), lots)?;
-    let mut log = Vec::new(rt.alloc());
-    for _ in 0..300u32 {
-        log.push(Line::Bid { bidder: 1, lots })?;
-        log.push(Line::Bid { bidder: 2, lots })?;
-        log.push(Line::Close)?;
-    }
-    let Wanted { replies, end } = agree(&rt, rt.alloc(), &terms, &log)?;
-    assert!(rt; replies.as_str().contains("900 full 300\n"));
-    assert_eq!(rt; end.as_str(), "rounds 301");
+    let terms = plain_terms(rt.alloc(), 1, 1)?;
+    let log = crowded_rounds(rt.alloc(), &terms, 300)?;
+    let wanted = agree(&rt, rt.alloc(), &terms, &log)?;
+    has_words(
+        &rt,
+        &wanted.replies,
+        &["\n897 round 300 309 306\n", "\n900 full 300\n"],
+    );
     Ok(())
 }

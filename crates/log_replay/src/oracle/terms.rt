@@ -1,7 +1,7 @@
 // Awards of two categories and the lines of their logs, as plain numbers.
 
 /// A number for each of the two categories: lots, points or prices.
-#[derive(Clone, Copy, Debug, PartialEq, Eq, PartialOrd, Ord)]
+#[derive(Clone, Copy, PartialEq, Eq)]
 pub struct Pair {
     pub first: u64,
     pub second: u64,

@@ -1,6 +1,7 @@
 // The texts of an award, of its log, and of what the log leads to.
 use super::past::{Past, past_of};
 use super::terms::{Entrant, Line, Pair, SpectrumCap, Step, Terms};
+use crate::ReplayStop;
 use auction_rules::{Reply, Stage};
 use std::alloc::{AllocError, Global};
 
@@ -9,8 +10,8 @@ use std::alloc::{AllocError, Global};
 pub struct Wanted {
     /// A line for each line of the log.
     pub replies: String,
-    /// The book, or why there is none.
-    pub end: String,
+    /// The text of the book, or why there is none.
+    pub end: Result<String, ReplayStop>,
 }
 
 /// The text of an award.
@@ -80,40 +81,46 @@ pub fn log_text(alloc: Global, log: &[Line]) -> Result<String, AllocError> {
 
 fn line_text(alloc: Global, line: Line) -> Result<String, AllocError> {
     match line {
-        Line::Bid { bidder, lots } => {
-            format!(in alloc; "bid,b{bidder},{} {},\n", lots.first, lots.second)
-        }
+        Line::Bid { bidder, lots } => package_text(alloc, "bid", bidder, lots),
         Line::Draft {
             bidder,
             lots,
             amount,
-        } => format!(in alloc; "draft,b{bidder},{} {},{amount}\n", lots.first, lots.second),
-        Line::Drop { bidder, lots } => {
-            format!(in alloc; "drop,b{bidder},{} {},\n", lots.first, lots.second)
-        }
+        } => draft_text(alloc, bidder, lots, amount),
+        Line::Drop { bidder, lots } => package_text(alloc, "drop", bidder, lots),
         Line::Submit { bidder } => format!(in alloc; "submit,b{bidder},,\n"),
-        Line::Close => format!(in alloc; "close,,,\n"),
+        Line::Close => String::from_str(alloc, "close,,,\n"),
     }
+}
+
+fn package_text(alloc: Global, kind: &str, bidder: u64, lots: Pair) -> Result<String, AllocError> {
+    let Pair { first, second } = lots;
+    format!(in alloc; "{kind},b{bidder},{first} {second},\n")
+}
+
+fn draft_text(alloc: Global, bidder: u64, lots: Pair, amount: u64) -> Result<String, AllocError> {
+    let Pair { first, second } = lots;
+    format!(in alloc; "draft,b{bidder},{first} {second},{amount}\n")
 }
 
 /// The text of a reply to a line that is no admitted close.
 fn refusal_text(alloc: Global, reply: Reply) -> Result<String, AllocError> {
     match reply {
-        Reply::Ok => format!(in alloc; "ok"),
-        Reply::Stage => format!(in alloc; "stage"),
-        Reply::Unknown => format!(in alloc; "unknown"),
+        Reply::Ok => String::from_str(alloc, "ok"),
+        Reply::Stage => String::from_str(alloc, "stage"),
+        Reply::Unknown => String::from_str(alloc, "unknown"),
         Reply::Supply(category) => format!(in alloc; "supply {category}"),
         Reply::SpectrumCap { number, limit } => format!(in alloc; "spectrum-cap {number} {limit}"),
         Reply::Points(eligibility) => format!(in alloc; "points {eligibility}"),
-        Reply::Empty => format!(in alloc; "empty"),
+        Reply::Empty => String::from_str(alloc, "empty"),
         Reply::BelowReserve(amount) => format!(in alloc; "below-reserve {amount}"),
         Reply::BelowClock(amount) => format!(in alloc; "below-clock {amount}"),
-        Reply::NoDraft => format!(in alloc; "no-draft"),
+        Reply::NoDraft => String::from_str(alloc, "no-draft"),
         Reply::RelativeCap { entry, limit } => format!(in alloc; "relative-cap {entry} {limit}"),
         Reply::Full(most) => format!(in alloc; "full {most}"),
         Reply::AmountTop(most) => format!(in alloc; "amount-top {most}"),
         Reply::PriceTop { category, price } => format!(in alloc; "price-top {category} {price}"),
-        Reply::Memory => format!(in alloc; "memory"),
+        Reply::Memory => String::from_str(alloc, "memory"),
     }
 }
 
@@ -139,19 +146,17 @@ fn close_text(alloc: Global, past: &Past) -> Result<String, AllocError> {
             let Pair { first, second } = past.prices(round);
             format!(in alloc; "round {round} {first} {second}")
         }
-        Stage::Sealed => format!(in alloc; "sealed"),
-        Stage::Closed => format!(in alloc; "closed"),
+        Stage::Sealed => String::from_str(alloc, "sealed"),
+        Stage::Closed => String::from_str(alloc, "closed"),
     }
 }
 
 /// The limit for which a line was refused, where it is a close.
-fn limit_text(alloc: Global, line: Line, reply: Reply) -> Result<Option<String>, AllocError> {
+fn limit_of(line: Line, reply: Reply) -> Option<ReplayStop> {
     match (line, reply) {
-        (Line::Close, Reply::Full(_)) => Ok(Some(format!(in alloc; "rounds 301")?)),
-        (Line::Close, Reply::PriceTop { price, .. }) => {
-            Ok(Some(format!(in alloc; "price {price}")?))
-        }
-        _ => Ok(None),
+        (Line::Close, Reply::Full(_)) => Some(ReplayStop::Rounds(301)),
+        (Line::Close, Reply::PriceTop { price, .. }) => Some(ReplayStop::Price(price)),
+        _ => None,
     }
 }
 
@@ -167,18 +172,22 @@ pub fn replay_plainly(alloc: Global, terms: &Terms, log: &[Line]) -> Result<Want
         }
         let told = reply_text(alloc, terms, &admitted, *line, reply)?;
         replies.push_str(&format!(in alloc; "{} {told}\n", place + 1)?)?;
-        limit = limit.or(limit_text(alloc, *line, reply)?);
+        limit = limit.or(limit_of(*line, reply));
     }
-    let end = end_text(alloc, &past_of(terms, &admitted), limit)?;
+    let end = end_of(alloc, &past_of(terms, &admitted), limit)?;
     Ok(Wanted { replies, end })
 }
 
 /// The limit that was met, or else the book, where the auction is closed.
-fn end_text(alloc: Global, past: &Past, limit: Option<String>) -> Result<String, AllocError> {
+fn end_of(
+    alloc: Global,
+    past: &Past,
+    limit: Option<ReplayStop>,
+) -> Result<Result<String, ReplayStop>, AllocError> {
     match (limit, past.stage()) {
-        (Some(limit), _) => Ok(limit),
-        (None, Stage::Closed) => book_text(alloc, past),
-        (None, _) => format!(in alloc; "open"),
+        (Some(limit), _) => Ok(Err(limit)),
+        (None, Stage::Closed) => Ok(Ok(book_text(alloc, past)?)),
+        (None, _) => Ok(Err(ReplayStop::Open)),
     }
 }
 
