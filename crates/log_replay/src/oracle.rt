@@ -1,5 +1,5 @@
 // Logs by a draw, and two long ones: what a replay gives is what the rules give that look through the whole list of the admitted
-// lines for each answer anew. Nothing here calls the code that is tested.
+// lines for each answer anew. The rules here call none of the code that is tested.
 ghost use Rattle.std.specs.Prelude.{IfOk};
 ghost use Rattle.std.specs.List.{AllByRecursion};
 ghost use Rattle.auction_rules.specs.Lawful.{HasCategories};
