@@ -1,0 +1,6 @@
+pub mod Draws
+pub mod MadeAward
+pub mod AwardText
+pub mod LogText
+pub mod MadeLog
+pub mod Answered
