@@ -71,6 +71,10 @@ abbrev pub drawn_draft : ℕ → List ℕ → ℕ → List ℕ → List ℕ → 
 drawn_draft state prices k own final =
     Draft k (drawn_package state own) (amount_of prices own final (drawn_package state own) (500 + drawn state 5 501))
 
+-- so many of them, one behind the other
+unfoldable pub drawn_drafts : ℕ → List ℕ → ℕ → List ℕ → List ℕ → ℕ → List Event
+drawn_drafts state prices k own final n = listing (λ i. drawn_draft (behind state (5 * (i - 1))) prices k own final) n
+
 -- how many such drafts a bidder has
 abbrev pub draft_count : ℕ
 draft_count = 100
@@ -82,7 +86,7 @@ last_draft state prices k final = if nat_le k staying then Draft k final (cost_o
 -- bidder k's lines by the draws from a state on
 abbrev pub lines_from : ℕ → List ℕ → ℕ → List ℕ → List ℕ → List Event
 lines_from state prices k own final =
-    listing (λ i. drawn_draft (behind state (5 * (i - 1))) prices k own final) draft_count
+    drawn_drafts state prices k own final draft_count
     ++ (last_draft (behind state (5 * draft_count)) prices k final ++ Submit k ∷ [])
 
 -- how many draws stand before bidder k's lines: four for each package, 500 for each bidder before, and one more for each that stays
