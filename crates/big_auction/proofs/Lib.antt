@@ -3,3 +3,5 @@ pub mod Drawing
 pub mod PriceBounds
 pub mod AwardLaw
 pub mod ClockRounds
+pub mod Caps
+pub mod SealedRound
