@@ -48,20 +48,20 @@ bid-ok : (eligibility k : ℕ) (lots : List ℕ) → (nat_lt 0 k && nat_le k 12)
 bid-ok eligibility k lots known may = rw (known, may.within, le-ltb eligibility (cost_of made_terms.points lots) may.points) refl
 
 -- all bidders bid
-pub twelve-bids : (rounds : List Round) (prices : List ℕ) (eligibility : ℕ → ℕ) (p : ℕ → List ℕ) → ((k : ℕ) → MayBid (eligibility k) (p k))
+pub twelve-bids : (rounds : List Round) (prices : List ℕ) (eligibility : ℕ → ℕ) (p : ℕ → List ℕ) → ((k : ℕ) → 1 ≤ k → k ≤ 12 → MayBid (eligibility k) (p k))
     → Goes (clock_state rounds prices (listing eligibility 12) none_held) (listing (λ k. Bid k (p k)) 12) (λ s. s ≡ clock_state rounds prices (listing eligibility 12) (listing p 12))
 twelve-bids rounds prices eligibility p may = record {
-  pass = (bid-ok (eligibility 1) 1 (p 1) refl (may 1), (bid-ok (eligibility 2) 2 (p 2) refl (may 2), (bid-ok (eligibility 3) 3 (p 3) refl (may 3), (bid-ok (eligibility 4) 4 (p 4) refl (may 4),
-    (bid-ok (eligibility 5) 5 (p 5) refl (may 5), (bid-ok (eligibility 6) 6 (p 6) refl (may 6), (bid-ok (eligibility 7) 7 (p 7) refl (may 7), (bid-ok (eligibility 8) 8 (p 8) refl (may 8),
-    (bid-ok (eligibility 9) 9 (p 9) refl (may 9), (bid-ok (eligibility 10) 10 (p 10) refl (may 10), (bid-ok (eligibility 11) 11 (p 11) refl (may 11), (bid-ok (eligibility 12) 12 (p 12) refl (may 12), tt))))))))))));
+  pass = (bid-ok (eligibility 1) 1 (p 1) refl (may 1 (omega arith) (omega arith)), (bid-ok (eligibility 2) 2 (p 2) refl (may 2 (omega arith) (omega arith)), (bid-ok (eligibility 3) 3 (p 3) refl (may 3 (omega arith) (omega arith)), (bid-ok (eligibility 4) 4 (p 4) refl (may 4 (omega arith) (omega arith)),
+    (bid-ok (eligibility 5) 5 (p 5) refl (may 5 (omega arith) (omega arith)), (bid-ok (eligibility 6) 6 (p 6) refl (may 6 (omega arith) (omega arith)), (bid-ok (eligibility 7) 7 (p 7) refl (may 7 (omega arith) (omega arith)), (bid-ok (eligibility 8) 8 (p 8) refl (may 8 (omega arith) (omega arith)),
+    (bid-ok (eligibility 9) 9 (p 9) refl (may 9 (omega arith) (omega arith)), (bid-ok (eligibility 10) 10 (p 10) refl (may 10 (omega arith) (omega arith)), (bid-ok (eligibility 11) 11 (p 11) refl (may 11 (omega arith) (omega arith)), (bid-ok (eligibility 12) 12 (p 12) refl (may 12 (omega arith) (omega arith)), tt))))))))))));
   to = refl;
 }
 
 -- four bidders bid
-pub four-bids : (rounds : List Round) (prices : List ℕ) (eligibility : ℕ → ℕ) (p : ℕ → List ℕ) → ((k : ℕ) → MayBid (eligibility k) (p k)) → ((k : ℕ) → 4 < k → p k ≡ no_lots made_terms)
+pub four-bids : (rounds : List Round) (prices : List ℕ) (eligibility : ℕ → ℕ) (p : ℕ → List ℕ) → ((k : ℕ) → 1 ≤ k → k ≤ 12 → MayBid (eligibility k) (p k)) → ((k : ℕ) → 4 < k → p k ≡ no_lots made_terms)
     → Goes (clock_state rounds prices (listing eligibility 12) none_held) (listing (λ k. Bid k (p k)) 4) (λ s. s ≡ clock_state rounds prices (listing eligibility 12) (listing p 12))
 four-bids rounds prices eligibility p may others = record {
-  pass = (bid-ok (eligibility 1) 1 (p 1) refl (may 1), (bid-ok (eligibility 2) 2 (p 2) refl (may 2), (bid-ok (eligibility 3) 3 (p 3) refl (may 3), (bid-ok (eligibility 4) 4 (p 4) refl (may 4), tt))));
+  pass = (bid-ok (eligibility 1) 1 (p 1) refl (may 1 (omega arith) (omega arith)), (bid-ok (eligibility 2) 2 (p 2) refl (may 2 (omega arith) (omega arith)), (bid-ok (eligibility 3) 3 (p 3) refl (may 3 (omega arith) (omega arith)), (bid-ok (eligibility 4) 4 (p 4) refl (may 4 (omega arith) (omega arith)), tt))));
   to = rw (others 5 (omega arith), others 6 (omega arith), others 7 (omega arith), others 8 (omega arith), others 9 (omega arith), others 10 (omega arith), others 11 (omega arith), others 12 (omega arith)) refl;
 }
 
@@ -100,7 +100,7 @@ close-goes held n few over =
     (cond-false (is_within asks made_terms.supply) (clock_stopped (asked_for held n)) (next_round (asked_for held n)) over_now ∙ kept-round held n)
 
 -- one of the first rounds
-pub round-goes : (held : ℕ → ℕ → List ℕ) (n : ℕ) → n < 9 → ((k : ℕ) → MayBid (eligibility_after made_terms held k n) (held (suc n) k))
+pub round-goes : (held : ℕ → ℕ → List ℕ) (n : ℕ) → n < 9 → ((k : ℕ) → 1 ≤ k → k ≤ 12 → MayBid (eligibility_after made_terms held k n) (held (suc n) k))
     → is_within (demand made_terms held (suc n)) made_terms.supply ≡ false
     → Goes (posted held n) (listing (λ k. Bid k (held (suc n) k)) 12 ++ Close ∷ []) (λ s. s ≡ posted held (suc n))
 unfolding posted asked_for
@@ -138,7 +138,7 @@ stop-goes held n within =
     (cond-true (is_within asks made_terms.supply) (clock_stopped (asked_for held n)) (next_round (asked_for held n)) within_now ∙ (rw e refl))
 
 -- the last round
-pub last_round-goes : (held : ℕ → ℕ → List ℕ) (n : ℕ) → ((k : ℕ) → MayBid (eligibility_after made_terms held k n) (held (suc n) k)) → ((k : ℕ) → 4 < k → held (suc n) k ≡ no_lots made_terms)
+pub last_round-goes : (held : ℕ → ℕ → List ℕ) (n : ℕ) → ((k : ℕ) → 1 ≤ k → k ≤ 12 → MayBid (eligibility_after made_terms held k n) (held (suc n) k)) → ((k : ℕ) → 4 < k → held (suc n) k ≡ no_lots made_terms)
     → is_within (demand made_terms held (suc n)) made_terms.supply ≡ true
     → Goes (posted held n) (listing (λ k. Bid k (held (suc n) k)) 4 ++ Close ∷ [])
     (λ s. s ≡ sealed_state (rounds_to held (suc n)) (prices_after made_terms held n) (listing (λ j. eligibility_after made_terms held j n) 12) (listing (held (suc n)) 12) no_lists no_lists)

@@ -5,3 +5,5 @@ pub mod AwardLaw
 pub mod ClockRounds
 pub mod Caps
 pub mod SealedRound
+pub mod Offers
+pub mod MadeClock
