@@ -74,11 +74,11 @@ no_excess-ok : (within : Bool) (round : ℕ) (prices : List ℕ) → within ≡ 
 no_excess-ok within round prices is = rw is refl
 
 -- the state in which the round behind n others is posted
-pub posted : (ℕ → ℕ → List ℕ) → ℕ → DeskState
+unfoldable pub posted : (ℕ → ℕ → List ℕ) → ℕ → DeskState
 posted held n = clock_state (listing (round_of made_terms held) n) (prices_after made_terms held n) (listing (λ j. eligibility_after made_terms held j n) 12) none_held
 
 -- the same with what is held in it
-pub asked_for : (ℕ → ℕ → List ℕ) → ℕ → DeskState
+unfoldable pub asked_for : (ℕ → ℕ → List ℕ) → ℕ → DeskState
 asked_for held n = clock_state (listing (round_of made_terms held) n) (prices_after made_terms held n) (listing (λ j. eligibility_after made_terms held j n) 12) (listing (held (suc n)) 12)
 
 -- the rounds with one more

@@ -7,3 +7,4 @@ pub mod Caps
 pub mod SealedRound
 pub mod Offers
 pub mod MadeClock
+pub mod WholeLog
