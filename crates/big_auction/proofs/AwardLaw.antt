@@ -1,13 +1,55 @@
 -- The made award keeps the rules of an award.
-use Rattle.std.proofs.Common.{◌≡◌, ℕ, zero, suc, ◌+◌, ◌*◌, ◌^◌, ◌<◌, ◌≤◌, Bool, true, false, List, [], ◌∷◌, None, length, refl, sym, ◌∙◌, ap, subst, inl, inr, arith}
+use Rattle.std.proofs.Common.{◌≡◌, ℕ, zero, suc, ◌+◌, ◌*◌, ◌/◌, ◌%◌, ◌^◌, ◌<◌, ◌≤◌, Bool, true, false, List, [], ◌∷◌, None, length, refl, sym, ◌∙◌, ap, subst, inl, inr, arith}
 use Rattle.std.specs.Prelude.{All, replicate}
 use Rattle.std.specs.Fmt.{decimal}
 use Rattle.std.specs.List.{AllByRecursion, IsDistinct}
 use Rattle.std.specs.Str.{bytes_eq}
 use Rattle.std.proofs.lemmas.List.Elements.{All-from_recursion}
+use Rattle.std.proofs.lemmas.Bool.{cases_lt}
+use Rattle.std.proofs.lemmas.Fmt.{decimal_digit, decimal_step}
+use Rattle.book_form.specs.BookForm.{IsName}
 use Rattle.limits.specs.declared.TheConstants.{MOST_COUNT, MOST_POINTS, MOST_PRICE}
 use Rattle.auction_rules.specs.Terms.{Entrant}
 use Rattle.auction_rules.specs.Rounds.{listing}
-use Rattle.award_file.specs.Award.{IsAward, IsEntrant, names_of}
+use Rattle.award_file.specs.Award.{IsAward, IsEntrant, IsCap, names_of}
 use Rattle.big_auction.specs.MadeAward.{made_name, made_entrant, made_bidders, made_terms}
 
+-- a number of two digits at most, behind a letter
+IsName-digit : (n : ℕ) → n < 10 → IsName (98 ∷ decimal n)
+IsName-digit n few = rw (decimal_digit n few) ((omega arith, omega arith), ((inr (inl (omega arith, omega arith)), tt), omega arith))
+
+IsName-digits : (n : ℕ) → 10 ≤ n → n < 100 → IsName (98 ∷ decimal n)
+IsName-digits n more few =
+    let tens : n / 10 < 10 = omega arith in
+    let ones : n % 10 < 10 = omega arith in
+    rw (decimal_step n more (omega arith), decimal_digit (n / 10) tens) ((omega arith, omega arith), ((inr (inl (omega arith, omega arith)), (inr (inl (omega arith, omega arith)), tt)), omega arith))
+
+entrant-lawful : (k : ℕ) → k < 100 → IsEntrant 4 (made_entrant k)
+entrant-lawful k few = record {
+  name = elim (cases_lt k 10) [ inl low ↦ IsName-digit k low | inr more ↦ IsName-digits k more few ];
+  eligibility = omega arith;
+  holding = refl;
+  most_held = All-from_recursion (λ n. n ≤ MOST_COUNT) _ (omega arith, (omega arith, (omega arith, (omega arith, tt))));
+}
+
+pub IsAward-made_terms : IsAward made_terms
+IsAward-made_terms = record {
+  version = (omega arith, omega arith);
+  supply = record { allowed = refl; some = omega arith; categories = omega arith; lots = omega arith; states = omega arith };
+  points = refl;
+  most_points = All-from_recursion (λ p. p ≤ MOST_POINTS) _ (omega arith, (omega arith, (omega arith, (omega arith, tt))));
+  reserves = refl;
+  most_reserve = All-from_recursion (λ p. p ≤ MOST_PRICE) _ (omega arith, (omega arith, (omega arith, (omega arith, tt))));
+  steps = record {
+    some_tick = omega arith;
+    tick_top = omega arith;
+    few = omega arith;
+    thresholds = (refl, (omega arith, omega arith, omega arith, omega arith, (omega arith, omega arith, omega arith, omega arith, tt)));
+  };
+  few_bidders = omega arith;
+  bidders = All-from_recursion (IsEntrant 4) _ (entrant-lawful 1 (omega arith), (entrant-lawful 2 (omega arith), (entrant-lawful 3 (omega arith), (entrant-lawful 4 (omega arith), (entrant-lawful 5 (omega arith), (entrant-lawful 6 (omega arith),
+    (entrant-lawful 7 (omega arith), (entrant-lawful 8 (omega arith), (entrant-lawful 9 (omega arith), (entrant-lawful 10 (omega arith), (entrant-lawful 11 (omega arith), (entrant-lawful 12 (omega arith), tt))))))))))));
+  apart = ?;
+  few_caps = omega arith;
+  caps = All-from_recursion (IsCap 4) _ tt;
+}

@@ -8,3 +8,4 @@ pub mod SealedRound
 pub mod Offers
 pub mod MadeClock
 pub mod WholeLog
+pub mod FewWinners

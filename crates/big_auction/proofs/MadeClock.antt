@@ -107,7 +107,7 @@ may-last number n is k some few =
 
 -- ---- what is asked for
 
-head-together : (p q : List ℕ) → slice_index (together p q) 0 ≡ slice_index p 0 + slice_index q 0
+pub head-together : (p q : List ℕ) → slice_index (together p q) 0 ≡ slice_index p 0 + slice_index q 0
 head-together [] q = omega arith
 head-together (a ∷ p) [] = omega arith
 head-together (a ∷ p) (b ∷ q) = omega arith
@@ -171,15 +171,15 @@ own_of-round held k n some few =
     rw (e, eligibility, lots) refl
 
 -- the rounds of a bidder
-own-rounds : (held : ℕ → ℕ → List ℕ) (k n : ℕ) → map (own_of k) (rounds_to held (suc n)) ≡ map (own_of k) (rounds_to held n) ++ own_of k (round_of made_terms held (suc n)) ∷ []
+pub own-rounds : (held : ℕ → ℕ → List ℕ) (k n : ℕ) → map (own_of k) (rounds_to held (suc n)) ≡ map (own_of k) (rounds_to held n) ++ own_of k (round_of made_terms held (suc n)) ∷ []
 unfolding rounds_to
 own-rounds held k n = map-append (own_of k) (listing (round_of made_terms held) n) (round_of made_terms held (suc n) ∷ [])
 
-each-push : (P : OwnRound → Type 0) (xs : List OwnRound) (x : OwnRound) → AllByRecursion P xs → P x → AllByRecursion P (xs ++ x ∷ [])
+pub each-push : (P : OwnRound → Type 0) (xs : List OwnRound) (x : OwnRound) → AllByRecursion P xs → P x → AllByRecursion P (xs ++ x ∷ [])
 each-push P [] x each last = (last, tt)
 each-push P (y ∷ xs) x each last = (each.0, each-push P xs x each.1 last)
 
-none-yet : (held : ℕ → ℕ → List ℕ) (k : ℕ) → map (own_of k) (rounds_to held 0) ≡ []
+pub none-yet : (held : ℕ → ℕ → List ℕ) (k : ℕ) → map (own_of k) (rounds_to held 0) ≡ []
 unfolding rounds_to
 none-yet held k = refl
 

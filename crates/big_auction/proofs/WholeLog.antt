@@ -84,7 +84,7 @@ log-goes number =
         (goes-flat (lines_of number) 12 _ (Parts number) (none-yet number) (λ k s low parts. lines-go number k s low parts))
         (end-goes number))))
 
-abbrev end_state : ℕ → DeskState
+abbrev pub end_state : ℕ → DeskState
 end_state number = after (state_of made_terms []) (made_log number)
 
 log-stands : (number : ℕ) → Stands made_terms (reverse (made_log number)) (end_state number)
@@ -96,3 +96,9 @@ log-answered number = (log-stands number).answered
 pub log-complete : (number : ℕ) → is_complete made_terms (reverse (made_log number)) ≡ true
 log-complete number =
     ap (λ (s : DeskState). is_closed s.stage) (log-stands number).state ∙ ap is_closed (log-goes number).to.closed
+
+pub log-state : (number : ℕ) → state_of made_terms (reverse (made_log number)) ≡ end_state number
+log-state number = (log-stands number).state
+
+pub end-of-log : (number : ℕ) → IsEnd number (end_state number)
+end-of-log number = (log-goes number).to
