@@ -1,11 +1,11 @@
 -- The made award keeps the rules of an award.
-use Rattle.std.proofs.Common.{◌≡◌, ℕ, zero, suc, ◌+◌, ◌*◌, ◌/◌, ◌%◌, ◌^◌, ◌<◌, ◌≤◌, Bool, true, false, List, [], ◌∷◌, None, length, refl, sym, ◌∙◌, ap, subst, inl, inr, arith}
+use Rattle.std.proofs.Common.{◌≡◌, ℕ, zero, suc, ◌+◌, ◌*◌, ◌/◌, ◌%◌, ◌^◌, ◌<◌, ◌≤◌, Bool, true, false, not, ◌&&◌, List, [], ◌∷◌, ◌++◌, None, length, refl, sym, ◌∙◌, ap, subst, inl, inr, arith}
 use Rattle.std.specs.Prelude.{All, replicate}
 use Rattle.std.specs.Fmt.{decimal}
 use Rattle.std.specs.List.{AllByRecursion, IsDistinct}
 use Rattle.std.specs.Str.{bytes_eq}
 use Rattle.std.proofs.lemmas.List.Elements.{All-from_recursion}
-use Rattle.std.proofs.lemmas.Bool.{cases_lt}
+use Rattle.std.proofs.lemmas.Bool.{cases_lt, and_parts, not-true}
 use Rattle.std.proofs.lemmas.Fmt.{decimal_digit, decimal_step}
 use Rattle.book_form.specs.BookForm.{IsName}
 use Rattle.limits.specs.declared.TheConstants.{MOST_COUNT, MOST_POINTS, MOST_PRICE}
@@ -32,6 +32,40 @@ entrant-lawful k few = record {
   most_held = All-from_recursion (λ n. n ≤ MOST_COUNT) _ (omega arith, (omega arith, (omega arith, (omega arith, tt))));
 }
 
+-- the names, digit by digit
+abbrev names : List (List ℕ)
+names =
+    (98 ∷ 49 ∷ []) ∷ (98 ∷ 50 ∷ []) ∷ (98 ∷ 51 ∷ []) ∷ (98 ∷ 52 ∷ []) ∷ (98 ∷ 53 ∷ []) ∷ (98 ∷ 54 ∷ []) ∷ (98 ∷ 55 ∷ []) ∷ (98 ∷ 56 ∷ []) ∷ (98 ∷ 57 ∷ [])
+    ∷ (98 ∷ 49 ∷ 48 ∷ []) ∷ (98 ∷ 49 ∷ 49 ∷ []) ∷ (98 ∷ 49 ∷ 50 ∷ []) ∷ []
+
+two-digits : (n : ℕ) → 10 ≤ n → n < 100 → decimal n ≡ (48 + n / 10) ∷ (48 + n % 10) ∷ []
+two-digits n more few = let tens : n / 10 < 10 = omega arith in decimal_step n more (omega arith) ∙ ap (λ (ds : List ℕ). ds ++ (48 + n % 10) ∷ []) (decimal_digit (n / 10) tens)
+
+names-are : names_of (listing made_entrant 12) ≡ names
+names-are = rw (decimal_digit 1 (omega arith), decimal_digit 2 (omega arith), decimal_digit 3 (omega arith), decimal_digit 4 (omega arith), decimal_digit 5 (omega arith), decimal_digit 6 (omega arith), decimal_digit 7 (omega arith),
+    decimal_digit 8 (omega arith), decimal_digit 9 (omega arith), two-digits 10 (omega arith) (omega arith), two-digits 11 (omega arith) (omega arith), two-digits 12 (omega arith) (omega arith)) refl
+
+abbrev apart_from : List ℕ → List (List ℕ) → Bool
+apart_from x [] = true
+apart_from x (y ∷ ys) = not (bytes_eq x y) && apart_from x ys
+
+abbrev are_apart : List (List ℕ) → Bool
+are_apart [] = true
+are_apart (x ∷ xs) = apart_from x xs && are_apart xs
+
+each-apart : (x : List ℕ) (ys : List (List ℕ)) → apart_from x ys ≡ true → AllByRecursion (λ y. bytes_eq x y ≡ false) ys
+each-apart x [] apart = tt
+each-apart x (y ∷ ys) apart =
+    let both : (not (bytes_eq x y) ≡ true) × (apart_from x ys ≡ true) = and_parts (not (bytes_eq x y)) (apart_from x ys) apart in
+    (not-true (bytes_eq x y) both.0, each-apart x ys both.1)
+
+all-apart : (xs : List (List ℕ)) → are_apart xs ≡ true → IsDistinct bytes_eq xs
+unfolding IsDistinct
+all-apart [] apart = tt
+all-apart (x ∷ xs) apart =
+    let both : (apart_from x xs ≡ true) × (are_apart xs ≡ true) = and_parts (apart_from x xs) (are_apart xs) apart in
+    (each-apart x xs both.0, all-apart xs both.1)
+
 pub IsAward-made_terms : IsAward made_terms
 IsAward-made_terms = record {
   version = (omega arith, omega arith);
@@ -49,7 +83,7 @@ IsAward-made_terms = record {
   few_bidders = omega arith;
   bidders = All-from_recursion (IsEntrant 4) _ (entrant-lawful 1 (omega arith), (entrant-lawful 2 (omega arith), (entrant-lawful 3 (omega arith), (entrant-lawful 4 (omega arith), (entrant-lawful 5 (omega arith), (entrant-lawful 6 (omega arith),
     (entrant-lawful 7 (omega arith), (entrant-lawful 8 (omega arith), (entrant-lawful 9 (omega arith), (entrant-lawful 10 (omega arith), (entrant-lawful 11 (omega arith), (entrant-lawful 12 (omega arith), tt))))))))))));
-  apart = ?;
+  apart = subst (IsDistinct bytes_eq) (sym names-are) (all-apart names refl);
   few_caps = omega arith;
   caps = All-from_recursion (IsCap 4) _ tt;
 }

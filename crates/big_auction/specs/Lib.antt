@@ -4,3 +4,4 @@ pub mod AwardText
 pub mod LogText
 pub mod MadeLog
 pub mod Answered
+pub mod Parts

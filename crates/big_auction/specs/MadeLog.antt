@@ -27,9 +27,13 @@ reduced lots = 1 ∷ 0 ∷ min 3 (slice_index lots 2) ∷ min 2 (slice_index lot
 abbrev pub staying : ℕ
 staying = 4
 
+-- what bidder k with this package of its own asks for in round 10
+abbrev pub last_of : ℕ → List ℕ → List ℕ
+last_of k own = if nat_le k staying then reduced own else no_lots made_terms
+
 -- the package of bidder k in round 10
 abbrev pub final_package_of : ℕ → ℕ → List ℕ
-final_package_of number k = if nat_le k staying then reduced (package_of number k) else no_lots made_terms
+final_package_of number k = last_of k (package_of number k)
 
 -- the rounds in which all bidders bid
 abbrev pub full_rounds : ℕ

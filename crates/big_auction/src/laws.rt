@@ -1,5 +1,5 @@
 // What holds of each made auction.
-ghost use Rattle.std.specs.Prelude.{◌≡◌, ◌≤◌, ℕ, List, true, reverse};
+ghost use Rattle.std.specs.Prelude.{◌≡◌, ◌≤◌, ℕ, IsTrue, List, reverse, true};
 ghost use Rattle.auction_model.specs.Book.{market_of};
 ghost use Rattle.auction_rules.specs.BookOfLog.{book_of_log, is_complete};
 ghost use Rattle.award_file.specs.Award.{IsAward};
@@ -11,4 +11,15 @@ ghost use Rattle.big_auction.specs.MadeLog.{made_log};
 /// The made award keeps all rules and limits of an award.
 pub fn lawful_award()
     ensures { IsAward made_terms }
+{}
+
+/// Each line of the log of any number is answered Ok, and the log is complete.
+pub fn answered_log()
+    ensures answered { (number : ℕ) → AreAnsweredOk made_terms (reverse (made_log number)) }
+    ensures complete { (number : ℕ) → is_complete made_terms (reverse (made_log number)) ≡ true }
+{}
+
+/// No choice that fits the supply of a made auction has more than four winners.
+pub fn few_winners()
+    ensures { (number : ℕ) (choice : List ℕ) → IsTrue ((market_of (book_of_log made_terms (reverse (made_log number)))).allowed choice) → winners_in choice ≤ 4 }
 {}

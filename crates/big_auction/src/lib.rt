@@ -1,7 +1,10 @@
 //! A large valid auction from a number: an award, and a complete log of it.
 #![tactic(auto)]
 
+mod draws;
 mod laws;
 mod made;
+mod prices;
+mod values;
 
 pub use made::{Made, make};

@@ -1,0 +1,30 @@
+-- What the parts of the program stand for: the same lines over any packages.
+use Rattle.std.specs.Prelude.{ℕ, ◌+◌, ◌-◌, ◌*◌, min, List, [], ◌∷◌, flat_map, length, slice_index_or}
+use Rattle.auction_rules.specs.declared.Event.{Event}
+use Rattle.auction_rules.specs.declared.Event.TheVariants.{Bid}
+use Rattle.auction_rules.specs.Rounds.{listing}
+use Rattle.big_auction.specs.Draws.{behind}
+use Rattle.big_auction.specs.MadeLog.{draft_count, last_of, lines_from, staying}
+use Rattle.big_auction.specs.declared.values.Lots.{Lots}
+use Rattle.big_auction.specs.declared.values.Figures.{Figures}
+
+-- the counts of a package
+abbrev pub counts_of : Lots → List ℕ
+counts_of p = p.a ∷ p.b ∷ p.c ∷ p.e ∷ []
+
+-- a number for each category
+abbrev pub figures_of : Figures → List ℕ
+figures_of f = f.a ∷ f.b ∷ f.c ∷ f.e ∷ []
+
+-- what the bidders have in each round, where each always has the same
+abbrev pub held_from : List (List ℕ) → ℕ → ℕ → List ℕ
+held_from packages r k = slice_index_or packages (k - 1) []
+
+-- bidders 1 to n bid these packages, one each
+abbrev pub bids_for : List (List ℕ) → ℕ → List Event
+bids_for packages n = listing (λ k. Bid k (slice_index_or packages (k - 1) [])) n
+
+-- bidder k's lines, where the draws of all bidders' lines begin at a state
+abbrev pub lines_for : ℕ → List ℕ → List (List ℕ) → ℕ → List Event
+lines_for state prices packages k =
+    lines_from (behind state (5 * draft_count * (k - 1) + min staying (k - 1))) prices k (slice_index_or packages (k - 1) []) (last_of k (slice_index_or packages (k - 1) []))
