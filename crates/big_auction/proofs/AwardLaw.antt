@@ -16,20 +16,20 @@ use Rattle.big_auction.specs.MadeAward.{made_name, made_entrant, made_bidders, m
 
 -- a number of two digits at most, behind a letter
 IsName-digit : (n : ℕ) → n < 10 → IsName (98 ∷ decimal n)
-IsName-digit n few = rw (decimal_digit n few) ((omega arith, omega arith), ((inr (inl (omega arith, omega arith)), tt), omega arith))
+IsName-digit n few = rw (decimal_digit n few) ((omega arith, omega arith), (inr (inl (omega arith, omega arith)), tt), omega arith)
 
 IsName-digits : (n : ℕ) → 10 ≤ n → n < 100 → IsName (98 ∷ decimal n)
 IsName-digits n more few =
     let tens : n / 10 < 10 = omega arith in
     let ones : n % 10 < 10 = omega arith in
-    rw (decimal_step n more (omega arith), decimal_digit (n / 10) tens) ((omega arith, omega arith), ((inr (inl (omega arith, omega arith)), (inr (inl (omega arith, omega arith)), tt)), omega arith))
+    rw (decimal_step n more (omega arith), decimal_digit (n / 10) tens) ((omega arith, omega arith), (inr (inl (omega arith, omega arith)), (inr (inl (omega arith, omega arith)), tt)), omega arith)
 
 entrant-lawful : (k : ℕ) → k < 100 → IsEntrant 4 (made_entrant k)
 entrant-lawful k few = record {
   name = elim (cases_lt k 10) [ inl low ↦ IsName-digit k low | inr more ↦ IsName-digits k more few ];
   eligibility = omega arith;
   holding = refl;
-  most_held = All-from_recursion (λ n. n ≤ MOST_COUNT) _ (omega arith, (omega arith, (omega arith, (omega arith, tt))));
+  most_held = All-from_recursion (λ n. n ≤ MOST_COUNT) (0 ∷ 0 ∷ 0 ∷ 0 ∷ []) (omega arith, (omega arith, (omega arith, (omega arith, tt))));
 }
 
 -- the names, digit by digit
@@ -71,9 +71,9 @@ IsAward-made_terms = record {
   version = (omega arith, omega arith);
   supply = record { allowed = refl; some = omega arith; categories = omega arith; lots = omega arith; states = omega arith };
   points = refl;
-  most_points = All-from_recursion (λ p. p ≤ MOST_POINTS) _ (omega arith, (omega arith, (omega arith, (omega arith, tt))));
+  most_points = All-from_recursion (λ p. p ≤ MOST_POINTS) (10 ∷ 10 ∷ 1 ∷ 1 ∷ []) (omega arith, (omega arith, (omega arith, (omega arith, tt))));
   reserves = refl;
-  most_reserve = All-from_recursion (λ p. p ≤ MOST_PRICE) _ (omega arith, (omega arith, (omega arith, (omega arith, tt))));
+  most_reserve = All-from_recursion (λ p. p ≤ MOST_PRICE) (1000 ∷ 1500 ∷ 100 ∷ 10 ∷ []) (omega arith, (omega arith, (omega arith, (omega arith, tt))));
   steps = record {
     some_tick = omega arith;
     tick_top = omega arith;
@@ -81,9 +81,9 @@ IsAward-made_terms = record {
     thresholds = (refl, (omega arith, omega arith, omega arith, omega arith, (omega arith, omega arith, omega arith, omega arith, tt)));
   };
   few_bidders = omega arith;
-  bidders = All-from_recursion (IsEntrant 4) _ (entrant-lawful 1 (omega arith), (entrant-lawful 2 (omega arith), (entrant-lawful 3 (omega arith), (entrant-lawful 4 (omega arith), (entrant-lawful 5 (omega arith), (entrant-lawful 6 (omega arith),
+  bidders = All-from_recursion (IsEntrant 4) (listing made_entrant 12) (entrant-lawful 1 (omega arith), (entrant-lawful 2 (omega arith), (entrant-lawful 3 (omega arith), (entrant-lawful 4 (omega arith), (entrant-lawful 5 (omega arith), (entrant-lawful 6 (omega arith),
     (entrant-lawful 7 (omega arith), (entrant-lawful 8 (omega arith), (entrant-lawful 9 (omega arith), (entrant-lawful 10 (omega arith), (entrant-lawful 11 (omega arith), (entrant-lawful 12 (omega arith), tt))))))))))));
   apart = subst (IsDistinct bytes_eq) (sym names-are) (all-apart names refl);
   few_caps = omega arith;
-  caps = All-from_recursion (IsCap 4) _ tt;
+  caps = All-from_recursion (IsCap 4) [] tt;
 }

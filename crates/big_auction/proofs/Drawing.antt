@@ -56,3 +56,31 @@ IsOwn-drawn state a b c e some few_a few_b few_c few_e = record {
 pub IsOwn-package_of : (number k : ℕ) → IsOwn (package_of number k)
 unfolding package_of
 IsOwn-package_of number k = IsOwn-drawn _ 2 1 7 4 (omega arith) (omega arith) (omega arith) (omega arith) (omega arith)
+
+-- ---- one draw behind the other
+
+abbrev pub IsNext : ℕ → ℕ → Type 0
+IsNext state next = next ≡ behind state 1
+
+pub next-next : (state first next n : ℕ) → first ≡ behind state n → IsNext first next → next ≡ behind state (n + 1)
+next-next state first next n is then = then ∙ ap (λ (s : ℕ). behind s 1) is ∙ behind-behind state n 1
+
+pub drawn-next : (state first n x bound : ℕ) → first ≡ behind state n → x ≡ drawn first 1 bound → x ≡ drawn state (n + 1) bound
+drawn-next state first n x bound is drew = drew ∙ ap (λ (s : ℕ). drawn s 1 bound) is ∙ drawn-behind state n 1 bound
+
+pub four-states : (s0 s1 s2 s3 s4 : ℕ) → IsNext s0 s1 → IsNext s1 s2 → IsNext s2 s3 → IsNext s3 s4 → s4 ≡ behind s0 4
+four-states s0 s1 s2 s3 s4 a b c d = next-next s0 s3 s4 3 (next-next s0 s2 s3 2 (next-next s0 s1 s2 1 a b) c) d
+
+-- the four draws of a package
+pub four-drawn : (s0 s1 s2 s3 a b c e ma mb mc me : ℕ) → IsNext s0 s1 → IsNext s1 s2 → IsNext s2 s3
+    → a ≡ drawn s0 1 ma → b ≡ drawn s1 1 (mb + 1) → c ≡ drawn s2 1 (mc + 1) → e ≡ drawn s3 1 (me + 1)
+    → (1 + a) ∷ b ∷ c ∷ e ∷ [] ≡ drawn_package s0 (ma ∷ mb ∷ mc ∷ me ∷ [])
+four-drawn s0 s1 s2 s3 a b c e ma mb mc me n1 n2 n3 da db dc de =
+    let first : 1 + a ≡ suc (drawn s0 1 ma) = omega (arith, da) in
+    let eb : mb + 1 ≡ suc mb = omega arith in
+    let ec : mc + 1 ≡ suc mc = omega arith in
+    let ee : me + 1 ≡ suc me = omega arith in
+    let second : b ≡ drawn s0 2 (suc mb) = drawn-next s0 s1 1 b (mb + 1) n1 db ∙ ap (drawn s0 2) eb in
+    let third : c ≡ drawn s0 3 (suc mc) = drawn-next s0 s2 2 c (mc + 1) (next-next s0 s1 s2 1 n1 n2) dc ∙ ap (drawn s0 3) ec in
+    let fourth : e ≡ drawn s0 4 (suc me) = drawn-next s0 s3 3 e (me + 1) (next-next s0 s2 s3 2 (next-next s0 s1 s2 1 n1 n2) n3) de ∙ ap (drawn s0 4) ee in
+    rw (first, second, third, fourth) refl

@@ -9,3 +9,4 @@ pub mod Offers
 pub mod MadeClock
 pub mod WholeLog
 pub mod FewWinners
+pub mod Asking

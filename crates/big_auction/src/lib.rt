@@ -3,6 +3,7 @@
 
 mod draws;
 mod laws;
+mod lines;
 mod made;
 mod prices;
 mod values;
