@@ -10,3 +10,4 @@ pub mod MadeClock
 pub mod WholeLog
 pub mod FewWinners
 pub mod Asking
+pub mod LinesAdded

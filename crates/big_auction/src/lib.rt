@@ -1,6 +1,7 @@
 //! A large valid auction from a number: an award, and a complete log of it.
 #![tactic(auto)]
 
+mod award;
 mod draws;
 mod laws;
 mod lines;

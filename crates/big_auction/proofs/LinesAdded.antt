@@ -1,0 +1,97 @@
+-- Lines that are added to a text, one behind the other.
+use Rattle.std.proofs.Common.{◌≡◌, ℕ, zero, suc, ◌+◌, ◌-◌, ◌*◌, ◌<◌, ◌≤◌, Bool, true, false, List, [], ◌∷◌, ◌++◌, length, map, get_or, refl, sym, ◌∙◌, ap, subst, arith}
+use Rattle.std.specs.Prelude.{flat_map, nat_le, if◌then◌else◌, slice_index_or}
+use Rattle.std.proofs.lemmas.List.{append-nil, append_assoc}
+use Rattle.std.proofs.lemmas.List.Concat.{flat_map-append}
+use Rattle.auction_rules.specs.declared.Event.{Event}
+use Rattle.auction_rules.specs.declared.Event.TheVariants.{Bid, Draft, Submit, Close}
+use Rattle.big_auction.specs.declared.values.Lots.{Lots}
+use Rattle.big_auction.specs.Draws.{behind, drawn, drawn_package}
+use Rattle.big_auction.specs.LogText.{event_text, log_text}
+use Rattle.big_auction.specs.MadeLog.{amount_of, drawn_draft, drawn_drafts, last_draft, lines_from}
+use Rattle.big_auction.specs.Parts.{counts_of, bids_for}
+use Rattle.big_auction.proofs.Asking.{package_at, package-is}
+use Rattle.big_auction.proofs.Drawing.{behind-none, behind-behind, drawn-behind, drawn-next}
+
+pub log_text-append : (xs ys : List Event) → log_text (xs ++ ys) ≡ log_text xs ++ log_text ys
+log_text-append xs ys = flat_map-append event_text xs ys
+
+pub log_text-more : (xs : List Event) (e : Event) → log_text (xs ++ e ∷ []) ≡ log_text xs ++ event_text e
+log_text-more xs e = flat_map-append event_text xs (e ∷ []) ∙ ap (λ (t : List ℕ). log_text xs ++ t) (append-nil (event_text e))
+
+-- one line more
+pub added : (old now new : List ℕ) (xs : List Event) (e : Event) → now ≡ old ++ log_text xs → new ≡ now ++ event_text e → new ≡ old ++ log_text (xs ++ e ∷ [])
+added old now new xs e was is =
+    is ∙ ap (λ (t : List ℕ). t ++ event_text e) was ∙ append_assoc old (log_text xs) (event_text e) ∙ ap (λ (t : List ℕ). old ++ t) (sym (log_text-more xs e))
+
+-- more lines
+pub added-more : (old now new : List ℕ) (xs ys : List Event) → now ≡ old ++ log_text xs → new ≡ now ++ log_text ys → new ≡ old ++ log_text (xs ++ ys)
+added-more old now new xs ys was is =
+    is ∙ ap (λ (t : List ℕ). t ++ log_text ys) was ∙ append_assoc old (log_text xs) (log_text ys) ∙ ap (λ (t : List ℕ). old ++ t) (sym (log_text-append xs ys))
+
+pub added-none : (text : List ℕ) → text ≡ text ++ log_text []
+added-none text = sym (append-nil text)
+
+-- ---- clock bids
+
+pub bids-more : (xs : List Lots) (i : ℕ) (p : Lots) (old now new : List ℕ) → i < length xs → p ≡ get_or xs i p → now ≡ old ++ log_text (bids_for (map counts_of xs) i)
+    → new ≡ now ++ event_text (Bid (i + 1) (counts_of p)) → new ≡ old ++ log_text (bids_for (map counts_of xs) (i + 1))
+bids-more xs i p old now new low is was added_one =
+    let next : i + 1 ≡ suc i = omega arith in
+    let one : counts_of p ≡ package_at xs (suc i) = ap counts_of is ∙ sym (package-is xs i p low) in
+    let line : Bid (i + 1) (counts_of p) ≡ Bid (suc i) (package_at xs (suc i)) = ap (λ (k : ℕ). Bid k (counts_of p)) next ∙ ap (Bid (suc i)) one in
+    added old now new (bids_for (map counts_of xs) i) (Bid (suc i) (package_at xs (suc i))) was (added_one ∙ ap (λ (e : Event). now ++ event_text e) line)
+    ∙ ap (λ (n : ℕ). old ++ log_text (bids_for (map counts_of xs) n)) (sym next)
+
+-- ---- drafts
+
+pub draft-same : (s s4 k : ℕ) (prices own final lots : List ℕ) (d a : ℕ) → s4 ≡ behind s 4 → lots ≡ drawn_package s own → d ≡ drawn s4 1 501 → a ≡ amount_of prices own final lots (500 + d)
+    → Draft k lots a ≡ drawn_draft s prices k own final
+draft-same s s4 k prices own final lots d a fourth are drew is =
+    let fifth : d ≡ drawn s 5 501 = drawn-next s s4 4 d 501 fourth drew in
+    ap (Draft k lots) (is ∙ ap (λ (d : ℕ). amount_of prices own final lots (500 + d)) fifth)
+    ∙ ap (λ (lots : List ℕ). Draft k lots (amount_of prices own final lots (500 + drawn s 5 501))) are
+
+pub no-drafts : (s k : ℕ) (prices own final : List ℕ) → drawn_drafts s prices k own final 0 ≡ []
+unfolding drawn_drafts
+no-drafts s k prices own final = refl
+
+pub drafts-more : (s k i : ℕ) (prices own final : List ℕ) → drawn_drafts s prices k own final (i + 1) ≡ drawn_drafts s prices k own final i ++ drawn_draft (behind s (5 * i)) prices k own final ∷ []
+unfolding drawn_drafts
+drafts-more s k i prices own final =
+    let next : i + 1 ≡ suc i = omega arith in
+    let e : suc i - 1 ≡ i = omega arith in
+    ap (drawn_drafts s prices k own final) next ∙ ap (λ (j : ℕ). drawn_drafts s prices k own final i ++ drawn_draft (behind s (5 * j)) prices k own final ∷ []) e
+
+-- so many drafts were added, and drawn
+pub record IsDrafted (s k : ℕ) (prices own final : List ℕ) (i state : ℕ) (old now : List ℕ) : Type 0 where
+  pub text : now ≡ old ++ log_text (drawn_drafts s prices k own final i)
+  pub drew : state ≡ behind s (5 * i)
+
+pub drafted-none : (s k : ℕ) (prices own final old : List ℕ) → IsDrafted s k prices own final 0 s old old
+drafted-none s k prices own final old = record {
+  text = added-none old ∙ ap (λ (es : List Event). old ++ log_text es) (sym (no-drafts s k prices own final));
+  drew = sym (behind-none s);
+}
+
+pub drafted-more : (s k : ℕ) (prices own final : List ℕ) (i state next : ℕ) (old now new : List ℕ) → IsDrafted s k prices own final i state old now
+    → new ≡ now ++ event_text (drawn_draft state prices k own final) → next ≡ behind state 5 → IsDrafted s k prices own final (i + 1) next old new
+drafted-more s k prices own final i state next old now new d is then =
+    let e : 5 * i + 5 ≡ 5 * (i + 1) = omega arith in
+    record {
+      text = added old now new (drawn_drafts s prices k own final i) (drawn_draft (behind s (5 * i)) prices k own final) d.text
+          (is ∙ ap (λ (x : ℕ). now ++ event_text (drawn_draft x prices k own final)) d.drew)
+          ∙ ap (λ (es : List Event). old ++ log_text es) (sym (drafts-more s k i prices own final));
+      drew = then ∙ ap (λ (x : ℕ). behind x 5) d.drew ∙ behind-behind s (5 * i) 5 ∙ ap (behind s) e;
+    }
+
+-- the lines of a bidder
+pub lines-added : (s k state : ℕ) (prices own final old now last new : List ℕ) → IsDrafted s k prices own final 100 state old now
+    → last ≡ now ++ log_text (last_draft state prices k final) → new ≡ last ++ event_text (Submit k) → new ≡ old ++ log_text (lines_from s prices k own final)
+lines-added s k state prices own final old now last new d one end =
+    let more : last ≡ now ++ log_text (last_draft (behind s 500) prices k final) = one ∙ ap (λ (x : ℕ). now ++ log_text (last_draft x prices k final)) d.drew in
+    added-more old now new (drawn_drafts s prices k own final 100) (last_draft (behind s 500) prices k final ++ Submit k ∷ []) d.text
+    (added now last new (last_draft (behind s 500) prices k final) (Submit k) more end)
+
+pub state-behind : (s k state next more : ℕ) (prices own final old now : List ℕ) → IsDrafted s k prices own final 100 state old now → next ≡ behind state more → next ≡ behind s (500 + more)
+state-behind s k state next more prices own final old now d then = then ∙ ap (λ (x : ℕ). behind x more) d.drew ∙ behind-behind s 500 more
