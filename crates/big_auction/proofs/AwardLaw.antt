@@ -42,8 +42,20 @@ two-digits : (n : ℕ) → 10 ≤ n → n < 100 → decimal n ≡ (48 + n / 10) 
 two-digits n more few = let tens : n / 10 < 10 = omega arith in decimal_step n more (omega arith) ∙ ap (λ (ds : List ℕ). ds ++ (48 + n % 10) ∷ []) (decimal_digit (n / 10) tens)
 
 names-are : names_of (listing made_entrant 12) ≡ names
-names-are = rw (decimal_digit 1 (omega arith), decimal_digit 2 (omega arith), decimal_digit 3 (omega arith), decimal_digit 4 (omega arith), decimal_digit 5 (omega arith), decimal_digit 6 (omega arith), decimal_digit 7 (omega arith),
-    decimal_digit 8 (omega arith), decimal_digit 9 (omega arith), two-digits 10 (omega arith) (omega arith), two-digits 11 (omega arith) (omega arith), two-digits 12 (omega arith) (omega arith)) refl
+names-are = rw (
+  decimal_digit 1 (omega arith),
+  decimal_digit 2 (omega arith),
+  decimal_digit 3 (omega arith),
+  decimal_digit 4 (omega arith),
+  decimal_digit 5 (omega arith),
+  decimal_digit 6 (omega arith),
+  decimal_digit 7 (omega arith),
+  decimal_digit 8 (omega arith),
+  decimal_digit 9 (omega arith),
+  two-digits 10 (omega arith) (omega arith),
+  two-digits 11 (omega arith) (omega arith),
+  two-digits 12 (omega arith) (omega arith),
+) refl
 
 abbrev apart_from : List ℕ → List (List ℕ) → Bool
 apart_from x [] = true
@@ -81,8 +93,25 @@ IsAward-made_terms = record {
     thresholds = (refl, (omega arith, omega arith, omega arith, omega arith, (omega arith, omega arith, omega arith, omega arith, tt)));
   };
   few_bidders = omega arith;
-  bidders = All-from_recursion (IsEntrant 4) (listing made_entrant 12) (entrant-lawful 1 (omega arith), (entrant-lawful 2 (omega arith), (entrant-lawful 3 (omega arith), (entrant-lawful 4 (omega arith), (entrant-lawful 5 (omega arith), (entrant-lawful 6 (omega arith),
-    (entrant-lawful 7 (omega arith), (entrant-lawful 8 (omega arith), (entrant-lawful 9 (omega arith), (entrant-lawful 10 (omega arith), (entrant-lawful 11 (omega arith), (entrant-lawful 12 (omega arith), tt))))))))))));
+  bidders = All-from_recursion (IsEntrant 4) (listing made_entrant 12) (
+    entrant-lawful 1 (omega arith),
+    (
+      entrant-lawful 2 (omega arith),
+      (
+        entrant-lawful 3 (omega arith),
+        (
+          entrant-lawful 4 (omega arith),
+          (
+            entrant-lawful 5 (omega arith),
+            (
+              entrant-lawful 6 (omega arith),
+              (entrant-lawful 7 (omega arith), (entrant-lawful 8 (omega arith), (entrant-lawful 9 (omega arith), (entrant-lawful 10 (omega arith), (entrant-lawful 11 (omega arith), (entrant-lawful 12 (omega arith), tt)))))),
+            ),
+          ),
+        ),
+      ),
+    ),
+  );
   apart = subst (IsDistinct bytes_eq) (sym names-are) (all-apart names refl);
   few_caps = omega arith;
   caps = All-from_recursion (IsCap 4) [] tt;

@@ -103,9 +103,9 @@ each-with_entry P lots amount (b ∷ list) each new =
     elim (cases_Bool (is_same lots b.lots)) [
       | inl same ↦ rw same (new, each.1)
       | inr other ↦ elim (cases_Bool (is_before lots b.lots)) [
-          | inl first ↦ rw (other, first) (new, each)
-          | inr later ↦ rw (other, later) (each.0, each-with_entry P lots amount list each.1 new)
-        ]
+        | inl first ↦ rw (other, first) (new, each)
+        | inr later ↦ rw (other, later) (each.0, each-with_entry P lots amount list each.1 new)
+      ]
     ]
 
 pub length-with_entry : (lots : List ℕ) (amount : ℕ) (list : List BookBid) → length (with_entry lots amount list) ≤ suc (length list)
@@ -114,7 +114,7 @@ length-with_entry lots amount (b ∷ list) =
     elim (cases_Bool (is_same lots b.lots)) [
       | inl same ↦ rw same (omega arith)
       | inr other ↦ elim (cases_Bool (is_before lots b.lots)) [
-          | inl first ↦ rw (other, first) (omega arith)
-          | inr later ↦ rw (other, later) (omega (arith, length-with_entry lots amount list))
-        ]
+        | inl first ↦ rw (other, first) (omega arith)
+        | inr later ↦ rw (other, later) (omega (arith, length-with_entry lots amount list))
+      ]
     ]

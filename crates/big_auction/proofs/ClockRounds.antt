@@ -51,9 +51,31 @@ bid-ok eligibility k lots known may = rw (known, may.within, le-ltb eligibility 
 pub twelve-bids : (rounds : List Round) (prices : List ℕ) (eligibility : ℕ → ℕ) (p : ℕ → List ℕ) → ((k : ℕ) → 1 ≤ k → k ≤ 12 → MayBid (eligibility k) (p k))
     → Goes (clock_state rounds prices (listing eligibility 12) none_held) (listing (λ k. Bid k (p k)) 12) (λ s. s ≡ clock_state rounds prices (listing eligibility 12) (listing p 12))
 twelve-bids rounds prices eligibility p may = record {
-  pass = (bid-ok (eligibility 1) 1 (p 1) refl (may 1 (omega arith) (omega arith)), (bid-ok (eligibility 2) 2 (p 2) refl (may 2 (omega arith) (omega arith)), (bid-ok (eligibility 3) 3 (p 3) refl (may 3 (omega arith) (omega arith)), (bid-ok (eligibility 4) 4 (p 4) refl (may 4 (omega arith) (omega arith)),
-    (bid-ok (eligibility 5) 5 (p 5) refl (may 5 (omega arith) (omega arith)), (bid-ok (eligibility 6) 6 (p 6) refl (may 6 (omega arith) (omega arith)), (bid-ok (eligibility 7) 7 (p 7) refl (may 7 (omega arith) (omega arith)), (bid-ok (eligibility 8) 8 (p 8) refl (may 8 (omega arith) (omega arith)),
-    (bid-ok (eligibility 9) 9 (p 9) refl (may 9 (omega arith) (omega arith)), (bid-ok (eligibility 10) 10 (p 10) refl (may 10 (omega arith) (omega arith)), (bid-ok (eligibility 11) 11 (p 11) refl (may 11 (omega arith) (omega arith)), (bid-ok (eligibility 12) 12 (p 12) refl (may 12 (omega arith) (omega arith)), tt))))))))))));
+  pass = (
+    bid-ok (eligibility 1) 1 (p 1) refl (may 1 (omega arith) (omega arith)),
+    (
+      bid-ok (eligibility 2) 2 (p 2) refl (may 2 (omega arith) (omega arith)),
+      (
+        bid-ok (eligibility 3) 3 (p 3) refl (may 3 (omega arith) (omega arith)),
+        (
+          bid-ok (eligibility 4) 4 (p 4) refl (may 4 (omega arith) (omega arith)),
+          (
+            bid-ok (eligibility 5) 5 (p 5) refl (may 5 (omega arith) (omega arith)),
+            (
+              bid-ok (eligibility 6) 6 (p 6) refl (may 6 (omega arith) (omega arith)),
+              (
+                bid-ok (eligibility 7) 7 (p 7) refl (may 7 (omega arith) (omega arith)),
+                (
+                  bid-ok (eligibility 8) 8 (p 8) refl (may 8 (omega arith) (omega arith)),
+                  (bid-ok (eligibility 9) 9 (p 9) refl (may 9 (omega arith) (omega arith)), (bid-ok (eligibility 10) 10 (p 10) refl (may 10 (omega arith) (omega arith)), (bid-ok (eligibility 11) 11 (p 11) refl (may 11 (omega arith) (omega arith)), (bid-ok (eligibility 12) 12 (p 12) refl (may 12 (omega arith) (omega arith)), tt)))),
+                ),
+              ),
+            ),
+          ),
+        ),
+      ),
+    ),
+  );
   to = refl;
 }
 

@@ -37,9 +37,9 @@ some-held number r k some =
     elim (cases_lt 9 r) [
       | inr early ↦ rw (held-early number r k early) (own-lot (package_of number k) (IsOwn-package_of number k))
       | inl late ↦ elim (cases_lt 4 k) [
-          | inl more ↦ let empty : is_empty (held_by number r k) ≡ true = rw (held-last number r k late, leaves number k more) refl in absurd (false≢true (sym some ∙ empty))
-          | inr few ↦ rw (held-last number r k late, stays number k few) (own-lot (reduced (package_of number k)) (reduced-own (package_of number k) (IsOwn-package_of number k)))
-        ]
+        | inl more ↦ let empty : is_empty (held_by number r k) ≡ true = rw (held-last number r k late, leaves number k more) refl in absurd (false≢true (sym some ∙ empty))
+        | inr few ↦ rw (held-last number r k late, stays number k few) (own-lot (reduced (package_of number k)) (reduced-own (package_of number k) (IsOwn-package_of number k)))
+      ]
     ]
 
 -- what a listing has at a place, or the default
@@ -81,7 +81,7 @@ bids-have bids each =
 book-has : (number : ℕ) (st : DeskState) → IsEnd number st → (j : ℕ) → AllByRecursion HasLot (book_bids (standing_in st j))
 book-has number st is j =
     let clock : AllByRecursion (λ (r : OwnRound). IsEmptyOrHasLot r.held) (map (own_of j) st.rounds) =
-        subst (λ (rs : List Round). AllByRecursion (λ (r : OwnRound). IsEmptyOrHasLot r.held) (map (own_of j) rs)) (sym is.rounds) (each-held number j 10) in
+    subst (λ (rs : List Round). AllByRecursion (λ (r : OwnRound). IsEmptyOrHasLot r.held) (map (own_of j) rs)) (sym is.rounds) (each-held number j 10) in
     bids-have (pairs_of (standing_in st j)) (each-clock (map (own_of j) st.rounds) (get_or st.submitted (j - 1) []) clock (is.lots (j - 1)))
 
 each-at : {A : Type 0} (P : A → Type 0) (xs : List A) (i : ℕ) (d : A) → i < length xs → AllByRecursion P xs → P (get_or xs i d)
@@ -111,7 +111,7 @@ book-lots : (number : ℕ) (st : DeskState) → IsEnd number st → HaveLots (me
 book-lots number st is j i few =
     let bidders : List Bidder = listing (book_bidder st.terms (λ j. book_bids (standing_in st j))) (length st.terms.bidders) in
     let own : AllByRecursion HasLot (get_or bidders (j - 1) no_bidder).bids =
-        at-listing (λ (b : Bidder). AllByRecursion HasLot b.bids) (book_bidder st.terms (λ j. book_bids (standing_in st j))) (length st.terms.bidders) (j - 1) no_bidder tt (book-has number st is) in
+    at-listing (λ (b : Bidder). AllByRecursion HasLot b.bids) (book_bidder st.terms (λ j. book_bids (standing_in st j))) (length st.terms.bidders) (j - 1) no_bidder tt (book-has number st is) in
     each-at HasLot (get_or bidders (j - 1) no_bidder).bids i no_bid (omega (arith, few)) own
 
 few-in : (number : ℕ) (st : DeskState) (c : List ℕ) → IsEnd number st → IsTrue ((market_of (book_in st)).allowed c) → winners_in c ≤ 4
@@ -124,5 +124,5 @@ few-in number st c is allowed =
 pub few-win : (number : ℕ) (c : List ℕ) → IsTrue ((market_of (book_of_log made_terms (reverse (made_log number)))).allowed c) → winners_in c ≤ 4
 few-win number c allowed =
     let same : book_of_log made_terms (reverse (made_log number)) ≡ book_in (end_state number) =
-        sym (book_in-state_of made_terms (reverse (made_log number))) ∙ ap book_in (log-state number) in
+    sym (book_in-state_of made_terms (reverse (made_log number))) ∙ ap book_in (log-state number) in
     few-in number (end_state number) c (end-of-log number) (subst (λ (b : Book). IsTrue ((market_of b).allowed c)) same allowed)

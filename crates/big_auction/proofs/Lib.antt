@@ -11,3 +11,5 @@ pub mod WholeLog
 pub mod FewWinners
 pub mod Asking
 pub mod LinesAdded
+pub mod Pieces
+pub mod MadeLines

@@ -76,13 +76,13 @@ drafted-none s k prices own final old = record {
 
 pub drafted-more : (s k : ℕ) (prices own final : List ℕ) (i state next : ℕ) (old now new : List ℕ) → IsDrafted s k prices own final i state old now
     → new ≡ now ++ event_text (drawn_draft state prices k own final) → next ≡ behind state 5 → IsDrafted s k prices own final (i + 1) next old new
-drafted-more s k prices own final i state next old now new d is then =
+drafted-more s k prices own final i state next old now new d is after =
     let e : 5 * i + 5 ≡ 5 * (i + 1) = omega arith in
     record {
       text = added old now new (drawn_drafts s prices k own final i) (drawn_draft (behind s (5 * i)) prices k own final) d.text
           (is ∙ ap (λ (x : ℕ). now ++ event_text (drawn_draft x prices k own final)) d.drew)
           ∙ ap (λ (es : List Event). old ++ log_text es) (sym (drafts-more s k i prices own final));
-      drew = then ∙ ap (λ (x : ℕ). behind x 5) d.drew ∙ behind-behind s (5 * i) 5 ∙ ap (behind s) e;
+      drew = after ∙ ap (λ (x : ℕ). behind x 5) d.drew ∙ behind-behind s (5 * i) 5 ∙ ap (behind s) e;
     }
 
 -- the lines of a bidder
@@ -94,4 +94,4 @@ lines-added s k state prices own final old now last new d one end =
     (added now last new (last_draft (behind s 500) prices k final) (Submit k) more end)
 
 pub state-behind : (s k state next more : ℕ) (prices own final old now : List ℕ) → IsDrafted s k prices own final 100 state old now → next ≡ behind state more → next ≡ behind s (500 + more)
-state-behind s k state next more prices own final old now d then = then ∙ ap (λ (x : ℕ). behind x more) d.drew ∙ behind-behind s 500 more
+state-behind s k state next more prices own final old now d after = after ∙ ap (λ (x : ℕ). behind x more) d.drew ∙ behind-behind s 500 more

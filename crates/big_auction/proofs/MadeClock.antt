@@ -31,7 +31,7 @@ goes-flat f zero st At start step = record { pass = tt; to = start }
 goes-flat f (suc n) st At start step =
     let before : Goes st (flat_map f (listing (λ k. k) n)) (At n) = goes-flat f n st At start (λ i s low at. step i s (omega arith) at) in
     let split : flat_map f (listing (λ k. k) n ++ suc n ∷ []) ≡ flat_map f (listing (λ k. k) n) ++ f (suc n) =
-        flat_map-append f (listing (λ k. k) n) (suc n ∷ []) ∙ ap (λ (es : List Event). flat_map f (listing (λ k. k) n) ++ es) (append-nil (f (suc n))) in
+    flat_map-append f (listing (λ k. k) n) (suc n ∷ []) ∙ ap (λ (es : List Event). flat_map f (listing (λ k. k) n) ++ es) (append-nil (f (suc n))) in
     subst (λ (es : List Event). Goes st es (At (suc n))) (sym split)
     (goes-on st (flat_map f (listing (λ k. k) n)) (f (suc n)) (At n) (At (suc n)) before (λ s at. step n s (omega arith) at))
 
@@ -151,11 +151,11 @@ pub clock-goes : (number : ℕ) → Goes (posted (held_by number) 0) (clock_line
 clock-goes number =
     let To : DeskState → Type 0 = λ s. s ≡ sealed_state (rounds_to (held_by number) 10) (prices_after made_terms (held_by number) 9) (last_eligibility number) (last_held number) no_lists no_lists in
     let last : Goes (posted (held_by number) 9) (bids_of number 10 4 ++ Close ∷ []) To =
-        last_round-goes (held_by number) 9 (may-last number 9 refl) (λ k more. held-last number 10 k (omega arith) ∙ leaves number k more) (within-last number) in
+    last_round-goes (held_by number) 9 (may-last number 9 refl) (λ k more. held-last number 10 k (omega arith) ∙ leaves number k more) (within-last number) in
     goes-on (posted (held_by number) 0) (flat_map (round_lines number) (listing (λ r. r) 9)) (bids_of number 10 4 ++ Close ∷ []) (λ s. s ≡ posted (held_by number) 9) To
     (goes-flat (round_lines number) 9 (posted (held_by number) 0) (λ n s. s ≡ posted (held_by number) n) refl
     (λ n s low is. subst (λ (s : DeskState). Goes s (round_lines number (suc n)) (λ t. t ≡ posted (held_by number) (suc n))) (sym is)
-      (round-goes (held_by number) n low (may-early number n low) (over-early number n low))))
+    (round-goes (held_by number) n low (may-early number n low) (over-early number n low))))
     (λ s is. subst (λ (s : DeskState). Goes s (bids_of number 10 4 ++ Close ∷ []) To) (sym is) last)
 
 -- ---- what the clock leaves to a bidder
@@ -166,7 +166,7 @@ own_of-round held k n some few =
     let e : suc n - 1 ≡ n = omega arith in
     let at : suc (k - 1) ≡ k = omega arith in
     let eligibility : get_or (listing (λ j. eligibility_after made_terms held j n) 12) (k - 1) 0 ≡ eligibility_after made_terms held k n =
-        get_or-listing (λ j. eligibility_after made_terms held j n) 12 (k - 1) 0 (omega arith) ∙ ap (λ (j : ℕ). eligibility_after made_terms held j n) at in
+    get_or-listing (λ j. eligibility_after made_terms held j n) 12 (k - 1) 0 (omega arith) ∙ ap (λ (j : ℕ). eligibility_after made_terms held j n) at in
     let lots : get_or (listing (held (suc n)) 12) (k - 1) [] ≡ held (suc n) k = get_or-listing (held (suc n)) 12 (k - 1) [] (omega arith) ∙ ap (held (suc n)) at in
     rw (e, eligibility, lots) refl
 
@@ -190,7 +190,7 @@ clock-rounds held own final k most (suc n) some few low each =
     let P : OwnRound → Type 0 = IsClockRound (prices_after made_terms held most) own final in
     let e : (most - n) + n ≡ most = omega arith in
     let up : cost_of (prices_after made_terms held n) (held (suc n) k) ≤ cost_of (prices_after made_terms held most) (held (suc n) k) =
-        subst (λ (m : ℕ). cost_of (prices_after made_terms held n) (held (suc n) k) ≤ cost_of (prices_after made_terms held m) (held (suc n) k)) e (cost-rises held n (most - n) (held (suc n) k)) in
+    subst (λ (m : ℕ). cost_of (prices_after made_terms held n) (held (suc n) k) ≤ cost_of (prices_after made_terms held m) (held (suc n) k)) e (cost-rises held n (most - n) (held (suc n) k)) in
     let last : P (own_of k (round_of made_terms held (suc n))) = subst P (sym (own_of-round held k n some few)) (record { held = each (suc n); cost = up }) in
     subst (AllByRecursion P) (sym (own-rounds held k n)) (each-push P (map (own_of k) (rounds_to held n)) (own_of k (round_of made_terms held (suc n))) (clock-rounds held own final k most n some few (omega arith) each) last)
 
@@ -215,8 +215,8 @@ bidding-by number k n some few is =
     let own : List ℕ = package_of number k in
     let final : List ℕ = final_package_of number k in
     let last : own_of k (round_of made_terms (held_by number) (suc n)) ≡ last_with (prices_after made_terms (held_by number) n) own final =
-        own_of-round (held_by number) k n some few
-        ∙ last-parts (prices_after made_terms (held_by number) n) _ _ _ _ (last-eligibility number k n is) (held-last number (suc n) k (omega arith)) in
+    own_of-round (held_by number) k n some few
+    ∙ last-parts (prices_after made_terms (held_by number) n) _ _ _ _ (last-eligibility number k n is) (held-last number (suc n) k (omega arith)) in
     record {
       kind = IsOwn-package_of number k;
       small = prices-small (held_by number) n (omega arith);

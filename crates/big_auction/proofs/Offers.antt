@@ -112,15 +112,16 @@ clock-low : (prices own final lots : List ℕ) (amount : ℕ) (rounds : List Own
     → (is_same lots own ≡ true → cost_of prices lots ≤ amount) → (is_same lots final ≡ true → cost_of prices lots ≤ amount)
     → AllByRecursion (λ b. is_same b.lots lots ≡ true → b.amount ≤ amount) (map clock_bid rounds)
 clock-low prices own final lots amount [] are of_own of_final = tt
-clock-low prices own final lots amount (r ∷ rounds) are of_own of_final =
-    ((λ same.
-        let is : r.held ≡ lots = is_same-true r.held lots same in
-        let cost : cost_of r.prices r.held ≤ cost_of prices lots = subst (λ (p : List ℕ). cost_of r.prices r.held ≤ cost_of prices p) is are.0.cost in
-        elim are.0.held [
-          | inl held ↦ let mine : is_same lots own ≡ true = subst (λ (p : List ℕ). is_same p own ≡ true) is (rw held (is_same-refl own)) in omega (arith, cost, of_own mine)
-          | inr held ↦ let mine : is_same lots final ≡ true = subst (λ (p : List ℕ). is_same p final ≡ true) is (rw held (is_same-refl final)) in omega (arith, cost, of_final mine)
-        ]),
-      clock-low prices own final lots amount rounds are.1 of_own of_final)
+clock-low prices own final lots amount (r ∷ rounds) are of_own of_final = (
+  (λ same.
+      let is : r.held ≡ lots = is_same-true r.held lots same in
+      let cost : cost_of r.prices r.held ≤ cost_of prices lots = subst (λ (p : List ℕ). cost_of r.prices r.held ≤ cost_of prices p) is are.0.cost in
+      elim are.0.held [
+        | inl held ↦ let mine : is_same lots own ≡ true = subst (λ (p : List ℕ). is_same p own ≡ true) is (rw held (is_same-refl own)) in omega (arith, cost, of_own mine)
+        | inr held ↦ let mine : is_same lots final ≡ true = subst (λ (p : List ℕ). is_same p final ≡ true) is (rw held (is_same-refl final)) in omega (arith, cost, of_final mine)
+      ]),
+  clock-low prices own final lots amount rounds are.1 of_own of_final,
+)
 
 -- the last round of a bidder
 abbrev pub last_with : List ℕ → List ℕ → List ℕ → OwnRound
@@ -181,11 +182,11 @@ unfolding drawn_drafts
 drafts-go rounds prices eligibility held state q own final k n s few known bidding start =
     goes-listing (λ i. drawn_draft (behind state (5 * (i - 1))) q k own final) n s (λ i. Within rounds prices eligibility held (last_with q own final) k i) start
     (λ i t low within.
-      let x : ℕ = behind state (5 * (suc i - 1)) in
-      let f : ℕ = 500 + drawn x 5 501 in
-      let permille : f ≤ 1000 = omega (arith, drawn-below x 5 501 (omega arith)) in
-      draft-goes rounds prices eligibility held (last_with q own final) k i (drawn_package x own) (amount_of q own final (drawn_package x own) f) t known (omega arith)
-      (due-drawn (map (own_of k) rounds) q own final k x f permille bidding) within)
+    let x : ℕ = behind state (5 * (suc i - 1)) in
+    let f : ℕ = 500 + drawn x 5 501 in
+    let permille : f ≤ 1000 = omega (arith, drawn-below x 5 501 (omega arith)) in
+    draft-goes rounds prices eligibility held (last_with q own final) k i (drawn_package x own) (amount_of q own final (drawn_package x own) f) t known (omega arith)
+    (due-drawn (map (own_of k) rounds) q own final k x f permille bidding) within)
 
 last-goes : (rounds : List Round) (prices eligibility : List ℕ) (held : List (List ℕ)) (state : ℕ) (q own final : List ℕ) (k n : ℕ) (s : DeskState) → n < 300 → IsKnown k
     → IsBidding (map (own_of k) rounds) q own final k → Within rounds prices eligibility held (last_with q own final) k n s

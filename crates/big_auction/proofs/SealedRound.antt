@@ -120,13 +120,13 @@ draft-goes rounds prices eligibility held last k n lots amount s known few due w
     let low : k - 1 < length w.drafts = omega (arith, known.few, w.long) in
     let st : DeskState = sealed_state rounds prices eligibility held w.drafts w.submitted in
     let ok : reply_in st (Draft k lots amount) ≡ reply.Ok =
-        none-holds false (not (nat_lt 0 k && nat_le k 12)) (first_over 1 lots made_terms.supply) None
-        (nat_lt (entrant made_terms k).eligibility (cost_of made_terms.points lots)) (entrant made_terms k).eligibility (is_empty lots)
-        (nat_lt amount (cost_of made_terms.reserves lots)) (cost_of made_terms.reserves lots)
-        (nat_lt amount (greatest lots (map clock_bid (map (own_of k) rounds)))) (greatest lots (map clock_bid (map (own_of k) rounds)))
-        (not (has_entry lots own) && nat_le 300 (length own)) (nat_lt MOST_AMOUNT amount) MOST_AMOUNT
-        refl known.known due.within refl (le-ltb _ _ (omega (arith, due.points, known.eligible))) due.some (le-ltb _ _ due.reserve) (le-ltb _ _ due.clock)
-        (and_right (not (has_entry lots own)) (nat_le 300 (length own)) (lt-leb _ _ (omega (arith, w.few, few)))) (le-ltb _ _ due.top) in
+    none-holds false (not (nat_lt 0 k && nat_le k 12)) (first_over 1 lots made_terms.supply) None
+    (nat_lt (entrant made_terms k).eligibility (cost_of made_terms.points lots)) (entrant made_terms k).eligibility (is_empty lots)
+    (nat_lt amount (cost_of made_terms.reserves lots)) (cost_of made_terms.reserves lots)
+    (nat_lt amount (greatest lots (map clock_bid (map (own_of k) rounds)))) (greatest lots (map clock_bid (map (own_of k) rounds)))
+    (not (has_entry lots own) && nat_le 300 (length own)) (nat_lt MOST_AMOUNT amount) MOST_AMOUNT
+    refl known.known due.within refl (le-ltb _ _ (omega (arith, due.points, known.eligible))) due.some (le-ltb _ _ due.reserve) (le-ltb _ _ due.clock)
+    (and_right (not (has_entry lots own)) (nat_le 300 (length own)) (lt-leb _ _ (omega (arith, w.few, few)))) (le-ltb _ _ due.top) in
     let here : get_or (set w.drafts (k - 1) (with_entry lots amount own)) (k - 1) [] ≡ with_entry lots amount own = get_or-set_same w.drafts (k - 1) (with_entry lots amount own) [] low in
     let next : Within rounds prices eligibility held last k (suc n) (taken st (Draft k lots amount)) = record {
       drafts = set w.drafts (k - 1) (with_entry lots amount own);
@@ -152,9 +152,9 @@ submit-goes rounds prices eligibility held last k n s known rounds_are w =
     let low : k - 1 < length w.submitted = omega (arith, known.few, w.long_submitted) in
     let st : DeskState = sealed_state rounds prices eligibility held w.drafts w.submitted in
     let none : list_fault false made_terms.points (map (own_of k) rounds) own ≡ None =
-        ap (λ (rs : List OwnRound). list_fault false made_terms.points rs own) rounds_are.are ∙ no-fault rounds_are.before last own w.fair in
+    ap (λ (rs : List OwnRound). list_fault false made_terms.points rs own) rounds_are.are ∙ no-fault rounds_are.before last own w.fair in
     let ok : reply_in st (Submit k) ≡ reply.Ok =
-        none-submits false (not (nat_lt 0 k && nat_le k 12)) (list_fault false made_terms.points (map (own_of k) rounds) own) refl known.known none in
+    none-submits false (not (nat_lt 0 k && nat_le k 12)) (list_fault false made_terms.points (map (own_of k) rounds) own) refl known.known none in
     let next : Between rounds prices eligibility held k (taken st (Submit k)) = record {
       drafts = w.drafts;
       submitted = set w.submitted (k - 1) own;

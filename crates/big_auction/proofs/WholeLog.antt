@@ -80,9 +80,9 @@ log-goes number =
     (λ s. s ≡ sealed_state (rounds_to (held_by number) 10) (prices_after made_terms (held_by number) 9) (last_eligibility number) (last_held number) no_lists no_lists) (IsEnd number)
     (clock-goes number)
     (λ s is. subst (λ (s : DeskState). Goes s (flat_map (lines_of number) (listing (λ k. k) 12) ++ Close ∷ []) (IsEnd number)) (sym is)
-      (goes-on _ (flat_map (lines_of number) (listing (λ k. k) 12)) (Close ∷ []) (Parts number 12) (IsEnd number)
-        (goes-flat (lines_of number) 12 _ (Parts number) (none-yet number) (λ k s low parts. lines-go number k s low parts))
-        (end-goes number))))
+    (goes-on _ (flat_map (lines_of number) (listing (λ k. k) 12)) (Close ∷ []) (Parts number 12) (IsEnd number)
+    (goes-flat (lines_of number) 12 _ (Parts number) (none-yet number) (λ k s low parts. lines-go number k s low parts))
+    (end-goes number))))
 
 abbrev pub end_state : ℕ → DeskState
 end_state number = after (state_of made_terms []) (made_log number)

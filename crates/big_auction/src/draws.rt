@@ -9,6 +9,7 @@ use crate::values::Lots;
 const PERIOD: u64 = 1 << 31;
 
 /// A generator by its state.
+#[derive(Drop)]
 pub struct Draws {
     pub state: u32,
 }

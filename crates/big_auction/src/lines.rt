@@ -48,7 +48,7 @@ fn add_counts(text: &mut Text, lots: Lots) -> Result<(), AllocError>
 }
 
 /// Adds the line of a clock bid.
-fn add_bid(text: &mut Text, bidder: u16, lots: Lots) -> Result<(), AllocError>
+pub fn add_bid(text: &mut Text, bidder: u16, lots: Lots) -> Result<(), AllocError>
     ensures { OnOk result (text.new ≡ text.old ++ event_text (Bid bidder (counts_of lots))) }
 {
     add_opening(text, b"bid", bidder)?;

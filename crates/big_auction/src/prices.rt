@@ -113,7 +113,8 @@ fn raised(prices: &Figures, asked: &Figures, table: &StepTable) -> Figures
 /// The prices of the last round, where these packages are asked for in each round before it.
 pub fn final_prices(alloc: Global, packages: &[Lots]) -> Result<Figures, AllocError>
     requires { length packages.now ≡ 12 }
-    ensures { IfOk result (λ p. figures_of p ≡ prices_after made_terms (held_from (map counts_of packages.now)) full_rounds) }
+    ensures prices { IfOk result (λ p. figures_of p ≡ prices_after made_terms (held_from (map counts_of packages.now)) full_rounds) }
+    ensures low { IfOk result (λ p. AllByRecursion (λ p. p ≤ MOST_PRICE) (figures_of p)) }
 {
     let table = StepTable::new(alloc, 1, &[(1, 100), (5, 200)])?;
     let asked = demand(packages);

@@ -4,5 +4,5 @@ use Rattle.big_auction.specs.MadeAward.{made_terms}
 use Rattle.big_auction.specs.Parts.{counts_of, figures_of, held_from}
 use Rattle.big_auction.proofs.prices.final_prices.Given as goal
 
-abbrev pub invariant-loop-round : goal.invariant-loop-_round
-invariant-loop-round l = figures_of l.prices ≡ prices_after made_terms (held_from (map counts_of l.packages)) l.round
+abbrev pub invariant-loop-round : goal.invariant-loop-round
+invariant-loop-round l = figures_of l.prices ≡ prices_after made_terms (held_from (map counts_of l.packages)) l._round
