@@ -14,7 +14,7 @@ use Rattle.big_auction.specs.declared.values.Lots.{Lots}
 use Rattle.big_auction.specs.Draws.{behind, drawn, drawn_package, first_state}
 use Rattle.big_auction.specs.LogText.{event_text, log_text}
 use Rattle.big_auction.specs.MadeAward.{made_terms}
-use Rattle.big_auction.specs.MadeLog.{widest, package_of, last_of, held_by, final_prices, draws_before, drawn_drafts, last_draft, lines_from, lines_of, clock_lines, made_log}
+use Rattle.big_auction.specs.MadeLog.{widest, package_of, last_of, held_by, final_prices, draws_before, drawn_draft, drawn_drafts, last_draft, lines_from, lines_of, clock_lines, made_log}
 use Rattle.big_auction.specs.Parts.{counts_of, held_from, bids_for, last_bids_for, full_round_for, full_rounds_for, lines_for, sealed_for, packages_from}
 use Rattle.big_auction.proofs.Asking.{package_at, package-is}
 use Rattle.big_auction.proofs.Drawing.{behind-none, behind-behind}
@@ -41,8 +41,8 @@ pub record ArePacked (s i state : ℕ) (items : List Lots) : Type 0 where
   pub some : AllByRecursion (λ p. 0 < p.a) items
   pub drew : state ≡ behind s (4 * i)
 
-pub packed-none : (s : ℕ) → ArePacked s 0 s []
-packed-none s = record { are = refl; some = tt; drew = sym (behind-none s) }
+pub packed-none : (s : ℕ) (items : List Lots) → items ≡ [] → ArePacked s 0 s items
+packed-none s items none = subst (ArePacked s 0 s) (sym none) (record { are = refl; some = tt; drew = sym (behind-none s) })
 
 each-push : (P : Lots → Type 0) (xs : List Lots) (x : Lots) → AllByRecursion P xs → P x → AllByRecursion P (xs ++ x ∷ [])
 each-push P [] x each last = (last, tt)
@@ -63,6 +63,10 @@ packed-more s i state next items more p so_far is after pushed =
       some = subst (AllByRecursion (λ (p : Lots). 0 < p.a)) (sym pushed) (each-push (λ (p : Lots). 0 < p.a) items p so_far.some lot);
       drew = after ∙ ap (λ (x : ℕ). behind x 4) so_far.drew ∙ behind-behind s (4 * i) 4 ∙ ap (behind s) far;
     }
+
+-- all of them
+pub packed-all : (s i state : ℕ) (items : List Lots) → i ≡ 12 → ArePacked s i state items → ArePacked s 12 state items
+packed-all s i state items is packed = subst (λ (n : ℕ). ArePacked s n state items) is packed
 
 -- ---- the clock
 
@@ -198,7 +202,7 @@ log-made number s0 s n packages prices t0 t1 t2 t3 t4 t5 first pack price state 
 
 drafts-length : (s k n : ℕ) (prices own final : List ℕ) → length (drawn_drafts s prices k own final n) ≡ n
 unfolding drawn_drafts
-drafts-length s k n prices own final = length-listing _ n
+drafts-length s k n prices own final = length-listing (λ i. drawn_draft (behind s (5 * (i - 1))) prices k own final) n
 
 lines-by : (s k : ℕ) (prices own final : List ℕ) → length (lines_from s prices k own final) ≡ 101 + (if nat_le k 4 then 1 else 0)
 lines-by s k prices own final =
