@@ -10,3 +10,6 @@ mod prices;
 mod values;
 
 pub use made::{Made, make};
+
+#[cfg(test)]
+mod tests;
