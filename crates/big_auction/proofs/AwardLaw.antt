@@ -1,6 +1,5 @@
 -- The made award keeps the rules of an award.
-use Rattle.std.proofs.Common.{◌≡◌, ℕ, zero, suc, ◌+◌, ◌*◌, ◌/◌, ◌%◌, ◌^◌, ◌<◌, ◌≤◌, Bool, true, false, not, ◌&&◌, List, [], ◌∷◌, ◌++◌, None, length, refl, sym, ◌∙◌, ap, subst, inl, inr, arith}
-use Rattle.std.specs.Prelude.{All, replicate}
+use Rattle.std.proofs.Common.{◌≡◌, ℕ, ◌+◌, ◌/◌, ◌%◌, ◌<◌, ◌≤◌, Bool, true, false, not, ◌&&◌, List, [], ◌∷◌, ◌++◌, refl, sym, ◌∙◌, ap, subst, inl, inr, arith}
 use Rattle.std.specs.Fmt.{decimal}
 use Rattle.std.specs.List.{AllByRecursion, IsDistinct}
 use Rattle.std.specs.Str.{bytes_eq}
@@ -9,10 +8,9 @@ use Rattle.std.proofs.lemmas.Bool.{cases_lt, and_parts, not-true}
 use Rattle.std.proofs.lemmas.Fmt.{decimal_digit, decimal_step}
 use Rattle.book_form.specs.BookForm.{IsName}
 use Rattle.limits.specs.declared.TheConstants.{MOST_COUNT, MOST_POINTS, MOST_PRICE}
-use Rattle.auction_rules.specs.Terms.{Entrant}
 use Rattle.auction_rules.specs.Rounds.{listing}
 use Rattle.award_file.specs.Award.{IsAward, IsEntrant, IsCap, names_of}
-use Rattle.big_auction.specs.MadeAward.{made_name, made_entrant, made_bidders, made_terms}
+use Rattle.big_auction.specs.MadeAward.{made_entrant, made_terms}
 
 -- a number of two digits at most, behind a letter
 IsName-digit : (n : ℕ) → n < 10 → IsName (98 ∷ decimal n)

@@ -1,23 +1,20 @@
 -- The rounds of the clock in a made auction, over what each bidder holds.
-use Rattle.std.proofs.Common.{◌≡◌, ℕ, zero, suc, ◌+◌, ◌-◌, ◌*◌, ◌<◌, ◌≤◌, Bool, true, false, not, ◌&&◌, List, [], ◌∷◌, ◌++◌, None, length, map, replicate, refl, sym, ◌∙◌, ap, subst, inl, inr, arith}
+use Rattle.std.proofs.Common.{◌≡◌, ℕ, suc, ◌-◌, ◌<◌, ◌≤◌, Bool, true, false, not, ◌&&◌, List, [], ◌∷◌, ◌++◌, None, length, replicate, refl, sym, ◌∙◌, subst, arith}
 use Rattle.std.specs.Prelude.{nat_le, nat_lt}
-use Rattle.std.proofs.lemmas.Bool.{le-leb, le-ltb, lt-leb, cond-true, cond-false}
+use Rattle.std.proofs.lemmas.Bool.{le-ltb, lt-leb, cond-true, cond-false}
 use Rattle.auction_model.specs.Book.{BookBid}
 use Rattle.auction_model.specs.Package.{is_within, cost_of}
-use Rattle.auction_rules.specs.declared.Event.{Event}
 use Rattle.auction_rules.specs.declared.Event.TheVariants.{Bid, Close}
-use Rattle.auction_rules.specs.declared.Reply.{Reply}
 use Rattle.auction_rules.specs.declared.Reply.TheVariants as reply
 use Rattle.auction_rules.specs.declared.Stage.TheVariants.{Clock, Sealed}
 use Rattle.auction_rules.specs.PackageTests.{first_over}
-use Rattle.auction_rules.specs.Terms.{Terms, no_lots}
-use Rattle.auction_rules.specs.Rounds.{listing, sum_of, demand, prices_after, eligibility_after, raised_prices}
+use Rattle.auction_rules.specs.Terms.{no_lots}
+use Rattle.auction_rules.specs.Rounds.{listing, demand, prices_after, eligibility_after}
 use Rattle.auction_rules.specs.Replies.{bid_reply, closing_reply, price_top}
-use Rattle.auction_rules.specs.State.{Round, DeskState, round_of, asked, round_now, reply_in, taken, next_round, clock_stopped}
-use Rattle.auction_rules.proofs.Closing.{asked-listing}
+use Rattle.auction_rules.specs.State.{Round, DeskState, round_of, asked, round_now, next_round, clock_stopped}
 use Rattle.auction_rules.proofs.States.{length-listing}
 use Rattle.big_auction.specs.MadeAward.{made_terms}
-use Rattle.big_auction.proofs.Forward.{after, AllPass, Goes, goes-on, goes-one}
+use Rattle.big_auction.proofs.Forward.{Goes, goes-on, goes-one}
 use Rattle.big_auction.proofs.PriceBounds.{prices-small, no_price_top}
 
 abbrev pub no_lists : List (List BookBid)

@@ -1,8 +1,8 @@
 -- What is drawn, and the packages that come of it.
-use Rattle.std.proofs.Common.{◌≡◌, ℕ, zero, suc, ◌+◌, ◌*◌, ◌/◌, ◌%◌, ◌^◌, ◌<◌, ◌≤◌, min, Bool, true, false, List, [], ◌∷◌, refl, sym, ◌∙◌, ap, arith}
+use Rattle.std.proofs.Common.{◌≡◌, ℕ, zero, suc, ◌+◌, ◌/◌, ◌%◌, ◌^◌, ◌<◌, ◌≤◌, List, [], ◌∷◌, refl, ◌∙◌, ap, arith}
 use Rattle.std.proofs.lemmas.Nat.{mod_below}
-use Rattle.big_auction.specs.Draws.{first_state, turned, behind, drawn, drawn_counts, drawn_package}
-use Rattle.big_auction.specs.MadeLog.{widest, package_of, reduced}
+use Rattle.big_auction.specs.Draws.{turned, behind, drawn, drawn_package}
+use Rattle.big_auction.specs.MadeLog.{package_of}
 
 pub drawn-below : (state n bound : ℕ) → 0 < bound → drawn state n bound < bound
 unfolding drawn

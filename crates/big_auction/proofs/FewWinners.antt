@@ -1,26 +1,24 @@
 -- At most four bidders win a made auction.
-use Rattle.std.proofs.Common.{◌≡◌, ℕ, zero, suc, ◌+◌, ◌-◌, ◌*◌, ◌<◌, ◌≤◌, Bool, true, false, not, ◌&&◌, ◌||◌, List, [], ◌∷◌, ◌++◌, Option, Some, None, length, map, reverse, get_or, refl, sym, ◌∙◌, ap, subst, inl, inr, arith}
-use Rattle.std.specs.Prelude.{◌⊎◌, IsTrue, nat_le, nat_lt, slice_index, slice_index_or, filter, if◌then◌else◌}
+use Rattle.std.proofs.Common.{◌≡◌, ℕ, zero, suc, ◌-◌, ◌<◌, ◌≤◌, true, false, not, List, [], ◌∷◌, ◌++◌, length, map, reverse, get_or, refl, sym, ◌∙◌, ap, subst, inl, inr, arith}
+use Rattle.std.specs.Prelude.{IsTrue, nat_le, slice_index, filter}
 use Rattle.std.specs.List.{AllByRecursion}
 use Rattle.std.proofs.lemmas.Bool.{cases_Bool, cases_lt, and_parts, leb-true, false≢true}
 use Rattle.std.proofs.lemmas.List.{get_or_past}
-use Rattle.auction_model.specs.Book.{BookBid, Bidder, Book, bids_of, lots_of, menu_of, market_of, bidder_of, no_bid, no_bidder}
-use Rattle.auction_model.specs.Menu.{Menu, is_known_after, packages_after, fits_after}
-use Rattle.auction_model.specs.Package.{is_within, together}
-use Rattle.auction_rules.specs.declared.Event.{Event}
+use Rattle.auction_model.specs.Book.{BookBid, Bidder, Book, menu_of, market_of, no_bid, no_bidder}
+use Rattle.auction_model.specs.Menu.{Menu, is_known_after, packages_after}
+use Rattle.auction_model.specs.Package.{is_within}
 use Rattle.auction_rules.specs.PackageTests.{is_empty}
-use Rattle.auction_rules.specs.Terms.{no_lots}
 use Rattle.auction_rules.specs.Rounds.{OwnRound, listing}
 use Rattle.auction_rules.specs.Caps.{clock_bid, greatest}
 use Rattle.auction_rules.specs.Lines.{in_order}
-use Rattle.auction_rules.specs.BookOfLog.{bid_lots, best_bids, pairs_of, book_bids, book_bidder, book_by, book_of_log, book_in}
-use Rattle.auction_rules.specs.State.{Round, DeskState, round_of, own_of, state_of, standing_in}
+use Rattle.auction_rules.specs.BookOfLog.{bid_lots, best_bids, pairs_of, book_bids, book_bidder, book_of_log, book_in}
+use Rattle.auction_rules.specs.State.{Round, DeskState, round_of, own_of, standing_in}
 use Rattle.auction_rules.proofs.LawfulBids.{each-in_order, each-priced}
 use Rattle.auction_rules.proofs.BookLaws.{book_in-state_of}
 use Rattle.auction_rules.proofs.States.{get_or-listing, length-listing}
 use Rattle.row_laws.specs.Winners.{winners_in}
 use Rattle.big_auction.specs.MadeAward.{made_terms}
-use Rattle.big_auction.specs.MadeLog.{package_of, reduced, final_package_of, held_by, made_log}
+use Rattle.big_auction.specs.MadeLog.{package_of, reduced, held_by, made_log}
 use Rattle.big_auction.proofs.ClockRounds.{rounds_to}
 use Rattle.big_auction.proofs.Drawing.{IsOwn-package_of}
 use Rattle.big_auction.proofs.MadeClock.{held-early, held-last, stays, leaves, own-rounds, none-yet, each-push, head-together}

@@ -1,17 +1,16 @@
 -- Lines that are added to a text, one behind the other.
-use Rattle.std.proofs.Common.{◌≡◌, ℕ, zero, suc, ◌+◌, ◌-◌, ◌*◌, ◌<◌, ◌≤◌, Bool, true, false, List, [], ◌∷◌, ◌++◌, length, map, get_or, refl, sym, ◌∙◌, ap, subst, arith}
-use Rattle.std.specs.Prelude.{flat_map, nat_le, if◌then◌else◌, slice_index_or}
+use Rattle.std.proofs.Common.{◌≡◌, ℕ, suc, ◌+◌, ◌-◌, ◌*◌, ◌<◌, List, [], ◌∷◌, ◌++◌, length, map, get_or, refl, sym, ◌∙◌, ap, arith}
 use Rattle.std.proofs.lemmas.List.{append-nil, append_assoc}
 use Rattle.std.proofs.lemmas.List.Concat.{flat_map-append}
 use Rattle.auction_rules.specs.declared.Event.{Event}
-use Rattle.auction_rules.specs.declared.Event.TheVariants.{Bid, Draft, Submit, Close}
+use Rattle.auction_rules.specs.declared.Event.TheVariants.{Bid, Draft, Submit}
 use Rattle.big_auction.specs.declared.values.Lots.{Lots}
 use Rattle.big_auction.specs.Draws.{behind, drawn, drawn_package}
 use Rattle.big_auction.specs.LogText.{event_text, log_text}
 use Rattle.big_auction.specs.MadeLog.{amount_of, drawn_draft, drawn_drafts, last_draft, lines_from}
 use Rattle.big_auction.specs.Parts.{counts_of, bids_for}
 use Rattle.big_auction.proofs.Asking.{package_at, package-is}
-use Rattle.big_auction.proofs.Drawing.{behind-none, behind-behind, drawn-behind, drawn-next}
+use Rattle.big_auction.proofs.Drawing.{behind-none, behind-behind, drawn-next}
 
 pub log_text-append : (xs ys : List Event) → log_text (xs ++ ys) ≡ log_text xs ++ log_text ys
 log_text-append xs ys = flat_map-append event_text xs ys

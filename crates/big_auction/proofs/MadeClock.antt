@@ -1,28 +1,26 @@
 -- The clock of a made auction, and what it leaves to each bidder.
-use Rattle.std.proofs.Common.{◌≡◌, ℕ, zero, suc, ◌+◌, ◌-◌, ◌*◌, ◌/◌, ◌^◌, ◌<◌, ◌≤◌, max, min, Bool, true, false, not, ◌&&◌, ◌||◌, List, [], ◌∷◌, ◌++◌, Option, Some, None, length, map, get_or, refl, sym, ◌∙◌, ap, subst, inl, inr, arith}
-use Rattle.std.specs.Prelude.{◌⊎◌, nat_le, nat_lt, slice_index, slice_index_or, sum, flat_map}
+use Rattle.std.proofs.Common.{◌≡◌, ℕ, zero, suc, ◌+◌, ◌-◌, ◌<◌, ◌≤◌, true, false, ◌&&◌, List, [], ◌∷◌, ◌++◌, map, get_or, refl, sym, ◌∙◌, ap, subst, inl, inr, arith}
+use Rattle.std.specs.Prelude.{◌⊎◌, nat_le, slice_index, flat_map}
 use Rattle.std.specs.List.{AllByRecursion}
-use Rattle.std.proofs.lemmas.Bool.{cases_Bool, cases_lt, leb-true, le-leb, lt-leb, lt-ltb, and_from, cond-true, cond-false}
+use Rattle.std.proofs.lemmas.Bool.{cases_lt, leb-true, le-leb, lt-leb, lt-ltb, and_from, cond-true, cond-false}
 use Rattle.std.proofs.lemmas.List.{append-nil, map-append}
 use Rattle.std.proofs.lemmas.List.Concat.{flat_map-append}
 use Rattle.auction_model.specs.Package.{is_within, cost_of, together}
 use Rattle.auction_rules.specs.declared.Event.{Event}
-use Rattle.auction_rules.specs.declared.Event.TheVariants.{Bid, Close}
-use Rattle.auction_rules.specs.PackageTests.{is_empty, first_over}
+use Rattle.auction_rules.specs.declared.Event.TheVariants.{Close}
 use Rattle.auction_rules.specs.Terms.{entrant, no_lots}
 use Rattle.auction_rules.specs.Rounds.{OwnRound, listing, sum_of, demand, prices_after, eligibility_after}
-use Rattle.auction_rules.specs.Caps.{clock_bid}
-use Rattle.auction_rules.specs.State.{Round, DeskState, round_of, own_of, state_of}
+use Rattle.auction_rules.specs.State.{DeskState, round_of, own_of, state_of}
 use Rattle.auction_rules.proofs.PackageLaws.{within-first_over}
 use Rattle.auction_rules.proofs.States.{get_or-listing}
 use Rattle.big_auction.specs.MadeAward.{made_entrant, made_terms}
 use Rattle.big_auction.specs.MadeLog.{package_of, reduced, final_package_of, held_by, final_prices, round_lines, bids_of, clock_lines}
 use Rattle.big_auction.proofs.ClockRounds.{MayBid, no_lists, posted, rounds_to, round-goes, last_round-goes, sealed_state}
-use Rattle.big_auction.proofs.Drawing.{IsOwn, IsOwn-package_of}
-use Rattle.big_auction.proofs.Forward.{after, AllPass, Goes, goes-on}
+use Rattle.big_auction.proofs.Drawing.{IsOwn-package_of}
+use Rattle.big_auction.proofs.Forward.{Goes, goes-on}
 use Rattle.big_auction.proofs.Offers.{IsClockRound, IsBidding, last_with, own-within, own-points, own-lot, reduced-own, reduced-points}
-use Rattle.big_auction.proofs.PriceBounds.{IsBetween, cost-rises, prices-small}
-use Rattle.big_auction.proofs.SealedRound.{IsKnown, HasRounds}
+use Rattle.big_auction.proofs.PriceBounds.{cost-rises, prices-small}
+use Rattle.big_auction.proofs.SealedRound.{IsKnown}
 
 -- what f gives at 1 to n, one behind the other
 pub goes-flat : (f : ℕ → List Event) (n : ℕ) (st : DeskState) (At : ℕ → DeskState → Type 0) → At 0 st

@@ -1,9 +1,9 @@
 -- The lines that the program adds are those of the made log.
-use Rattle.std.proofs.Common.{◌≡◌, ℕ, zero, suc, ◌+◌, ◌-◌, ◌*◌, ◌<◌, ◌≤◌, min, Bool, true, false, List, [], ◌∷◌, ◌++◌, length, map, get_or, refl, sym, ◌∙◌, ap, subst, inl, inr, arith, length-append}
+use Rattle.std.proofs.Common.{◌≡◌, ℕ, zero, suc, ◌+◌, ◌-◌, ◌*◌, ◌<◌, ◌≤◌, min, List, [], ◌∷◌, ◌++◌, length, map, get_or, refl, sym, ◌∙◌, ap, subst, inl, inr, arith, length-append}
 use Rattle.std.specs.Prelude.{flat_map, nat_le, if◌then◌else◌, slice_index, slice_index_or}
 use Rattle.std.specs.List.{AllByRecursion}
 use Rattle.std.proofs.lemmas.Bool.{cases_Bool, cases_lt, le-leb, lt-leb}
-use Rattle.std.proofs.lemmas.List.{append-nil, append_assoc, map-append}
+use Rattle.std.proofs.lemmas.List.{append-nil, map-append}
 use Rattle.std.proofs.lemmas.List.Concat.{flat_map-append}
 use Rattle.auction_rules.specs.declared.Event.{Event}
 use Rattle.auction_rules.specs.declared.Event.TheVariants.{Bid, Submit, Close}
@@ -11,14 +11,14 @@ use Rattle.auction_rules.specs.Rounds.{listing, sum_of, demand, prices_after, ra
 use Rattle.auction_rules.specs.Terms.{no_lots}
 use Rattle.auction_rules.proofs.States.{get_or-listing, length-listing}
 use Rattle.big_auction.specs.declared.values.Lots.{Lots}
-use Rattle.big_auction.specs.Draws.{behind, drawn, drawn_package, first_state}
+use Rattle.big_auction.specs.Draws.{behind, drawn_package, first_state}
 use Rattle.big_auction.specs.LogText.{event_text, log_text}
 use Rattle.big_auction.specs.MadeAward.{made_terms}
 use Rattle.big_auction.specs.MadeLog.{widest, package_of, last_of, held_by, final_prices, draws_before, drawn_draft, drawn_drafts, last_draft, lines_from, lines_of, clock_lines, made_log}
 use Rattle.big_auction.specs.Parts.{counts_of, held_from, bids_for, last_bids_for, full_round_for, full_rounds_for, lines_for, sealed_for, packages_from}
 use Rattle.big_auction.proofs.Asking.{package_at, package-is}
 use Rattle.big_auction.proofs.Drawing.{behind-none, behind-behind}
-use Rattle.big_auction.proofs.LinesAdded.{added, added-more, log_text-append, log_text-more}
+use Rattle.big_auction.proofs.LinesAdded.{added, added-more}
 use Rattle.big_auction.proofs.MadeClock.{held-early}
 
 -- one more of what f gives
@@ -55,7 +55,7 @@ packed-more s i state next items more p so_far is after pushed =
     let at : suc i - 1 ≡ i = omega arith in
     let far : 4 * i + 4 ≡ 4 * (i + 1) = omega arith in
     let one : counts_of p ≡ drawn_package (behind s (4 * (suc i - 1))) widest =
-        is ∙ ap (λ (x : ℕ). drawn_package x widest) so_far.drew ∙ ap (λ (j : ℕ). drawn_package (behind s (4 * j)) widest) (sym at) in
+    is ∙ ap (λ (x : ℕ). drawn_package x widest) so_far.drew ∙ ap (λ (j : ℕ). drawn_package (behind s (4 * j)) widest) (sym at) in
     let lot : 0 < p.a = omega (arith, ap (λ (c : List ℕ). slice_index c 0) is) in
     record {
       are = ap (map counts_of) pushed ∙ map-append counts_of items (p ∷ []) ∙ ap (λ (ps : List (List ℕ)). ps ++ counts_of p ∷ []) so_far.are
@@ -81,7 +81,7 @@ last-more xs i p lots old now new low is last was added_one =
     let next : i + 1 ≡ suc i = omega arith in
     let one : counts_of p ≡ package_at xs (suc i) = ap counts_of is ∙ sym (package-is xs i p low) in
     let line : Bid (i + 1) lots ≡ Bid (suc i) (last_of (suc i) (package_at xs (suc i))) =
-        ap (Bid (i + 1)) last ∙ ap (λ (k : ℕ). Bid k (last_of k (counts_of p))) next ∙ ap (λ (c : List ℕ). Bid (suc i) (last_of (suc i) c)) one in
+    ap (Bid (i + 1)) last ∙ ap (λ (k : ℕ). Bid k (last_of k (counts_of p))) next ∙ ap (λ (c : List ℕ). Bid (suc i) (last_of (suc i) c)) one in
     added old now new (last_bids_for (map counts_of xs) i) (Bid (suc i) (last_of (suc i) (package_at xs (suc i)))) was (added_one ∙ ap (λ (e : Event). now ++ event_text e) line)
     ∙ ap (λ (n : ℕ). old ++ log_text (last_bids_for (map counts_of xs) n)) (sym next)
 
@@ -108,7 +108,7 @@ prices-by : (number n : ℕ) → n ≤ 9 → prices_after made_terms (held_from 
 prices-by number zero few = refl
 prices-by number (suc n) few =
     let asks : demand made_terms (held_from (made_packages number)) (suc n) ≡ demand made_terms (held_by number) (suc n) =
-        sum-same (no_lots made_terms) (held_from (made_packages number) (suc n)) (held_by number (suc n)) 12 (λ j low high. at-package number j low high ∙ sym (held-early number (suc n) j few)) in
+    sum-same (no_lots made_terms) (held_from (made_packages number) (suc n)) (held_by number (suc n)) 12 (λ j low high. at-package number j low high ∙ sym (held-early number (suc n) j few)) in
     ap (λ (p : List ℕ). raised_prices 1 ((1, 100) ∷ (5, 200) ∷ []) p (demand made_terms (held_from (made_packages number)) (suc n)) made_terms.supply) (prices-by number n (omega arith))
     ∙ ap (λ (d : List ℕ). raised_prices 1 ((1, 100) ∷ (5, 200) ∷ []) (prices_after made_terms (held_by number) n) d made_terms.supply) asks
 
@@ -142,11 +142,11 @@ sealed-more s prices xs i state next p last old now new low is last_is so_far mo
     let at : i ≡ suc i - 1 = omega arith in
     let one : counts_of p ≡ package_at xs (suc i) = ap counts_of is ∙ sym (package-is xs i p low) in
     let lines : lines_from state prices (i + 1) (counts_of p) last ≡ lines_for s prices (map counts_of xs) (suc i) =
-        ap (lines_from state prices (i + 1) (counts_of p)) last_is
-        ∙ ap (λ (x : ℕ). lines_from x prices (i + 1) (counts_of p) (last_of (i + 1) (counts_of p))) so_far.drew
-        ∙ ap (λ (k : ℕ). lines_from (behind s (500 * i + min 4 i)) prices k (counts_of p) (last_of k (counts_of p))) e
-        ∙ ap (λ (c : List ℕ). lines_from (behind s (500 * i + min 4 i)) prices (suc i) c (last_of (suc i) c)) one
-        ∙ ap (λ (j : ℕ). lines_from (behind s (500 * j + min 4 j)) prices (suc i) (package_at xs (suc i)) (last_of (suc i) (package_at xs (suc i)))) at in
+    ap (lines_from state prices (i + 1) (counts_of p)) last_is
+    ∙ ap (λ (x : ℕ). lines_from x prices (i + 1) (counts_of p) (last_of (i + 1) (counts_of p))) so_far.drew
+    ∙ ap (λ (k : ℕ). lines_from (behind s (500 * i + min 4 i)) prices k (counts_of p) (last_of k (counts_of p))) e
+    ∙ ap (λ (c : List ℕ). lines_from (behind s (500 * i + min 4 i)) prices (suc i) c (last_of (suc i) c)) one
+    ∙ ap (λ (j : ℕ). lines_from (behind s (500 * j + min 4 j)) prices (suc i) (package_at xs (suc i)) (last_of (suc i) (package_at xs (suc i)))) at in
     record {
       text = flat-added (lines_for s prices (map counts_of xs)) i old now new so_far.text (more ∙ ap (λ (es : List Event). now ++ log_text es) lines);
       drew = after ∙ ap (λ (x : ℕ). behind x (500 + (if nat_le (i + 1) 4 then 1 else 0))) so_far.drew
@@ -176,17 +176,17 @@ log-by : (number s n : ℕ) (packages : List (List ℕ)) (prices t0 t1 t2 t3 t4 
 unfolding made_log
 log-by number s n packages prices t0 t1 t2 t3 t4 t5 pack price state twelve none full last closed sealed end =
     let lines : sealed_for s prices packages n ≡ flat_map (lines_of number) (listing (λ k. k) 12) =
-        ap (λ (x : ℕ). sealed_for x prices packages n) state ∙ ap (λ (q : List ℕ). sealed_for (behind (first_state number) 48) q packages n) price
-        ∙ ap (λ (ps : List (List ℕ)). sealed_for (behind (first_state number) 48) (final_prices number) ps n) pack
-        ∙ ap (sealed_for (behind (first_state number) 48) (final_prices number) (made_packages number)) twelve
-        ∙ flat-same (lines_for (behind (first_state number) 48) (final_prices number) (made_packages number)) (lines_of number) 12 (lines-same number) in
+    ap (λ (x : ℕ). sealed_for x prices packages n) state ∙ ap (λ (q : List ℕ). sealed_for (behind (first_state number) 48) q packages n) price
+    ∙ ap (λ (ps : List (List ℕ)). sealed_for (behind (first_state number) 48) (final_prices number) ps n) pack
+    ∙ ap (sealed_for (behind (first_state number) 48) (final_prices number) (made_packages number)) twelve
+    ∙ flat-same (lines_for (behind (first_state number) 48) (final_prices number) (made_packages number)) (lines_of number) 12 (lines-same number) in
     let clock : full_rounds_for packages 9 ++ (last_bids_for packages 4 ++ Close ∷ []) ≡ clock_lines number =
-        ap (λ (ps : List (List ℕ)). full_rounds_for ps 9 ++ (last_bids_for ps 4 ++ Close ∷ [])) pack ∙ clock-same number in
+    ap (λ (ps : List (List ℕ)). full_rounds_for ps 9 ++ (last_bids_for ps 4 ++ Close ∷ [])) pack ∙ clock-same number in
     let first : t1 ≡ [] ++ log_text (full_rounds_for packages 9) = full ∙ ap (λ (t : List ℕ). t ++ log_text (full_rounds_for packages 9)) none in
     let third : t3 ≡ [] ++ log_text (full_rounds_for packages 9 ++ (last_bids_for packages 4 ++ Close ∷ [])) =
-        added-more [] t1 t3 (full_rounds_for packages 9) (last_bids_for packages 4 ++ Close ∷ []) first (added t1 t2 t3 (last_bids_for packages 4) Close last closed) in
+    added-more [] t1 t3 (full_rounds_for packages 9) (last_bids_for packages 4 ++ Close ∷ []) first (added t1 t2 t3 (last_bids_for packages 4) Close last closed) in
     let fifth : t5 ≡ t3 ++ log_text (flat_map (lines_of number) (listing (λ k. k) 12) ++ Close ∷ []) =
-        added t3 t4 t5 (flat_map (lines_of number) (listing (λ k. k) 12)) Close (sealed ∙ ap (λ (es : List Event). t3 ++ log_text es) lines) end in
+    added t3 t4 t5 (flat_map (lines_of number) (listing (λ k. k) 12)) Close (sealed ∙ ap (λ (es : List Event). t3 ++ log_text es) lines) end in
     added-more [] t3 t5 (clock_lines number) (flat_map (lines_of number) (listing (λ k. k) 12) ++ Close ∷ []) (third ∙ ap (λ (es : List Event). [] ++ log_text es) clock) fifth
 
 -- the same as the program has it
@@ -221,7 +221,7 @@ sealed-length number (suc n) =
     let one : length (lines_of number (suc n)) ≡ 101 + (if nat_le (suc n) 4 then 1 else 0) = lines-length number (suc n) in
     let split : length (flat_map (lines_of number) (listing (λ k. k) (suc n))) ≡ length (flat_map (lines_of number) (listing (λ k. k) n) ++ lines_of number (suc n)) = ap (λ (es : List Event). length es) (flat-more (lines_of number) n) in
     let more : (if nat_le (suc n) 4 then 1 else 0) + min 4 n ≡ min 4 (suc n) =
-        elim (cases_lt n 4) [ inl low ↦ rw (le-leb (suc n) 4 (omega arith)) (omega arith) | inr high ↦ rw (lt-leb (suc n) 4 (omega arith)) (omega arith) ] in
+    elim (cases_lt n 4) [ inl low ↦ rw (le-leb (suc n) 4 (omega arith)) (omega arith) | inr high ↦ rw (lt-leb (suc n) 4 (omega arith)) (omega arith) ] in
     omega (arith, split, length-append (flat_map (lines_of number) (listing (λ k. k) n)) (lines_of number (suc n)), one, sealed-length number n, more)
 
 pub log-length : (number : ℕ) → 1339 ≡ length (made_log number)

@@ -1,25 +1,22 @@
 -- The drafts of a made auction are answered Ok.
-use Rattle.std.proofs.Common.{◌≡◌, ℕ, zero, suc, ◌+◌, ◌-◌, ◌*◌, ◌/◌, ◌^◌, ◌<◌, ◌≤◌, max, min, Bool, true, false, not, ◌&&◌, ◌||◌, List, [], ◌∷◌, ◌++◌, Option, Some, None, length, map, refl, sym, ◌∙◌, ap, subst, inl, inr, arith}
-use Rattle.std.specs.Prelude.{◌⊎◌, nat_le, nat_lt, nat_eq, slice_index, sum, flat_map}
+use Rattle.std.proofs.Common.{◌≡◌, ℕ, suc, ◌+◌, ◌-◌, ◌*◌, ◌/◌, ◌<◌, ◌≤◌, min, true, false, ◌||◌, List, [], ◌∷◌, ◌++◌, map, refl, sym, ◌∙◌, subst, inl, inr, arith}
+use Rattle.std.specs.Prelude.{◌⊎◌, nat_le, slice_index, sum}
 use Rattle.std.specs.List.{AllByRecursion}
-use Rattle.std.proofs.lemmas.Bool.{cases_Bool, le-leb, ne_eqb, or_left, or_right, or_parts, cond-true, cond-false, false≢true}
+use Rattle.std.proofs.lemmas.Bool.{cases_Bool, le-leb, ne_eqb, or_parts, false≢true}
 use Rattle.std.proofs.Math.Nat.{mul-le-mul_left}
-use Rattle.limits.specs.declared.TheConstants.{MOST_AMOUNT}
-use Rattle.auction_model.specs.Book.{BookBid}
 use Rattle.auction_model.specs.Package.{is_within, cost_of}
-use Rattle.auction_rules.specs.declared.Event.{Event}
 use Rattle.auction_rules.specs.declared.Event.TheVariants.{Draft, Submit}
-use Rattle.auction_rules.specs.PackageTests.{first_over, is_empty, is_same}
-use Rattle.auction_rules.specs.Rounds.{OwnRound, listing}
-use Rattle.auction_rules.specs.Caps.{clock_bid, greatest}
+use Rattle.auction_rules.specs.PackageTests.{is_empty, is_same}
+use Rattle.auction_rules.specs.Rounds.{OwnRound}
+use Rattle.auction_rules.specs.Caps.{clock_bid}
 use Rattle.auction_rules.specs.State.{Round, DeskState, own_of}
 use Rattle.auction_rules.proofs.PackageLaws.{within-first_over, is_same-true, is_same-refl}
 use Rattle.big_auction.specs.Draws.{behind, drawn, drawn_package}
 use Rattle.big_auction.specs.MadeAward.{made_terms}
 use Rattle.big_auction.specs.MadeLog.{reduced, staying, amount_of, drawn_draft, drawn_drafts, last_draft, lines_from}
-use Rattle.big_auction.proofs.Caps.{IsFair, greatest-few}
+use Rattle.big_auction.proofs.Caps.{greatest-few}
 use Rattle.big_auction.proofs.Drawing.{IsOwn, IsOwn-drawn, drawn-below}
-use Rattle.big_auction.proofs.Forward.{after, AllPass, Goes, goes-on, goes-one, goes-listing}
+use Rattle.big_auction.proofs.Forward.{Goes, goes-on, goes-listing}
 use Rattle.big_auction.proofs.PriceBounds.{IsBetween, cost-small}
 use Rattle.big_auction.proofs.SealedRound.{IsKnown, HasRounds, IsDue, Between, Within, begins, draft-goes, submit-goes}
 

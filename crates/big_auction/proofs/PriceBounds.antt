@@ -1,19 +1,17 @@
 -- How far the made prices rise.
-use Rattle.std.proofs.Common.{◌≡◌, ℕ, zero, suc, ◌+◌, ◌-◌, ◌*◌, ◌^◌, ◌<◌, ◌≤◌, Bool, true, false, List, [], ◌∷◌, None, length, refl, sym, ◌∙◌, ap, subst, inl, inr, arith}
+use Rattle.std.proofs.Common.{◌≡◌, ℕ, zero, suc, ◌+◌, ◌-◌, ◌*◌, ◌^◌, ◌≤◌, List, [], ◌∷◌, None, length, refl, subst, inl, inr, arith}
 use Rattle.std.specs.Prelude.{nat_le, sum}
 use Rattle.std.specs.List.{AllByRecursion}
 use Rattle.std.proofs.lemmas.Bool.{cases_Bool, le-leb}
 use Rattle.std.proofs.lemmas.List.Sums.{sum_by-cons}
-use Rattle.std.proofs.Math.Nat.{mul-le-mul_left, mul-le-mul, pow-le-pow_right}
+use Rattle.std.proofs.Math.Nat.{mul-le-mul_left, pow-le-pow_right}
 use Rattle.auction_model.specs.Package.{cost_of}
-use Rattle.auction_rules.specs.Terms.{Terms}
 use Rattle.auction_rules.specs.Step.{permille_at, ticks_of, stepped, IsRaise}
 use Rattle.auction_rules.specs.Rounds.{raised_prices, prices_after, demand}
 use Rattle.auction_rules.specs.Replies.{price_top}
 use Rattle.auction_rules.proofs.Steps.{IsRaise-ticks_of}
 use Rattle.auction_rules.proofs.Sound.{prices_after-rises}
 use Rattle.big_auction.specs.MadeAward.{made_terms}
-use Rattle.big_auction.specs.MadeLog.{held_by, final_prices}
 
 abbrev thresholds : List (ℕ × ℕ)
 thresholds = (1, 100) ∷ (5, 200) ∷ []

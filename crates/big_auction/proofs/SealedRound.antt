@@ -1,28 +1,25 @@
 -- The lines of one bidder in the sealed round of a made auction.
-use Rattle.std.proofs.Common.{◌≡◌, ℕ, zero, suc, ◌+◌, ◌-◌, ◌*◌, ◌/◌, ◌<◌, ◌≤◌, ◌≢◌, max, Bool, true, false, not, ◌&&◌, ◌||◌, List, [], ◌∷◌, ◌++◌, Option, Some, None, length, map, get_or, set, refl, sym, ◌∙◌, ap, subst, inl, inr, arith}
-use Rattle.std.specs.Prelude.{◌⊎◌, nat_le, nat_lt, slice_index, sum, flat_map}
+use Rattle.std.proofs.Common.{◌≡◌, ℕ, suc, ◌-◌, ◌<◌, ◌≤◌, Bool, false, not, ◌&&◌, List, [], ◌∷◌, ◌++◌, Option, None, length, map, get_or, set, refl, sym, ◌∙◌, ap, subst, inl, inr, arith}
+use Rattle.std.specs.Prelude.{nat_le, nat_lt, slice_index}
 use Rattle.std.specs.List.{AllByRecursion}
-use Rattle.std.proofs.lemmas.Bool.{cases_Bool, cases_eq, le-leb, le-ltb, lt-leb, and_right, or_left, or_right, cond-true, cond-false}
+use Rattle.std.proofs.lemmas.Bool.{cases_eq, le-ltb, lt-leb, and_right}
 use Rattle.std.proofs.lemmas.List.{get_or-set_same, get_or-set_other, length-set}
 use Rattle.limits.specs.declared.TheConstants.{MOST_AMOUNT}
 use Rattle.auction_model.specs.Book.{BookBid}
-use Rattle.auction_model.specs.Package.{is_within, cost_of}
-use Rattle.auction_rules.specs.declared.Event.{Event}
+use Rattle.auction_model.specs.Package.{cost_of}
 use Rattle.auction_rules.specs.declared.Event.TheVariants.{Draft, Submit}
-use Rattle.auction_rules.specs.declared.Reply.{Reply}
 use Rattle.auction_rules.specs.declared.Reply.TheVariants as reply
-use Rattle.auction_rules.specs.PackageTests.{first_over, is_empty, is_same}
+use Rattle.auction_rules.specs.PackageTests.{first_over, is_empty}
 use Rattle.auction_rules.specs.Terms.{entrant}
-use Rattle.auction_rules.specs.Rounds.{OwnRound, listing}
+use Rattle.auction_rules.specs.Rounds.{OwnRound}
 use Rattle.auction_rules.specs.Caps.{clock_bid, greatest, list_fault}
 use Rattle.auction_rules.specs.Lines.{with_entry}
 use Rattle.auction_rules.specs.Replies.{first_reply, when, supply_reply, spectrum_reply, cap_reply, has_entry}
 use Rattle.auction_rules.specs.State.{Round, DeskState, own_of, reply_in, taken}
-use Rattle.auction_rules.proofs.LawfulBids.{each-weaker}
 use Rattle.big_auction.specs.MadeAward.{made_terms}
-use Rattle.big_auction.proofs.Caps.{IsFair, greatest-few, no-fault, each-with_entry, length-with_entry}
+use Rattle.big_auction.proofs.Caps.{IsFair, no-fault, each-with_entry, length-with_entry}
 use Rattle.big_auction.proofs.ClockRounds.{sealed_state}
-use Rattle.big_auction.proofs.Forward.{after, AllPass, Goes, goes-on, goes-one, goes-listing}
+use Rattle.big_auction.proofs.Forward.{Goes, goes-one}
 
 -- where no condition holds, a draft is answered Ok
 none-holds : (out strange : Bool) (over : Option ℕ) (rule : Option (ℕ × ℕ)) (short : Bool) (e : ℕ) (empty low : Bool) (r : ℕ) (below : Bool) (c : ℕ) (full above : Bool) (t : ℕ)

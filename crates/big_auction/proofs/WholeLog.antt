@@ -1,33 +1,21 @@
 -- The whole log of a made auction: answered, complete, and few winners.
-use Rattle.std.proofs.Common.{◌≡◌, ℕ, zero, suc, ◌+◌, ◌-◌, ◌*◌, ◌<◌, ◌≤◌, Bool, true, false, not, ◌&&◌, ◌||◌, List, [], ◌∷◌, ◌++◌, Option, Some, None, length, map, filter, reverse, get_or, refl, sym, ◌∙◌, ap, subst, inl, inr, arith}
-use Rattle.std.specs.Prelude.{◌⊎◌, IsTrue, nat_le, nat_lt, slice_index, slice_index_or, flat_map}
+use Rattle.std.proofs.Common.{◌≡◌, ℕ, suc, ◌-◌, ◌<◌, true, [], ◌∷◌, ◌++◌, reverse, get_or, refl, sym, ◌∙◌, ap, subst, inl, inr, arith}
+use Rattle.std.specs.Prelude.{flat_map}
 use Rattle.std.specs.List.{AllByRecursion}
-use Rattle.std.proofs.lemmas.Bool.{cases_Bool, cases_lt, and_parts, leb-true, cond-true, cond-false}
+use Rattle.std.proofs.lemmas.Bool.{cases_lt}
 use Rattle.std.proofs.lemmas.List.{get_or_past, get_or-replicate}
-use Rattle.auction_model.specs.Book.{BookBid, Book, bid_of, bids_of, lots_of, menu_of, market_of, bidder_of, no_bid, no_bidder}
-use Rattle.auction_model.specs.Menu.{Menu, is_known_after, packages_after, fits_after}
-use Rattle.auction_model.specs.Package.{is_within, cost_of, together}
-use Rattle.auction_rules.specs.declared.Event.{Event}
 use Rattle.auction_rules.specs.declared.Event.TheVariants.{Close}
-use Rattle.auction_rules.specs.declared.Reply.TheVariants as reply
 use Rattle.auction_rules.specs.declared.Stage.TheVariants.{Closed}
-use Rattle.auction_rules.specs.PackageTests.{is_empty}
-use Rattle.auction_rules.specs.Rounds.{OwnRound, listing, prices_after}
-use Rattle.auction_rules.specs.Caps.{clock_bid, greatest}
-use Rattle.auction_rules.specs.Lines.{in_order, priced}
+use Rattle.auction_rules.specs.Rounds.{listing, prices_after}
 use Rattle.auction_rules.specs.Replies.{is_closed}
-use Rattle.auction_rules.specs.BookOfLog.{bid_lots, best_bids, pairs_of, book_bids, book_bidder, book_by, book_of_log, book_in, is_complete}
-use Rattle.auction_rules.specs.State.{Round, DeskState, own_of, state_of, reply_in, taken, standing_in}
-use Rattle.auction_rules.proofs.LawfulBids.{each-some, each-in_order, each-priced}
-use Rattle.auction_rules.proofs.BookLaws.{book_in-state_of}
-use Rattle.auction_rules.proofs.States.{get_or-listing, length-listing}
-use Rattle.row_laws.specs.Winners.{winners_in}
+use Rattle.auction_rules.specs.BookOfLog.{is_complete}
+use Rattle.auction_rules.specs.State.{DeskState, state_of}
 use Rattle.big_auction.specs.Answered.{AreAnsweredOk}
 use Rattle.big_auction.specs.Draws.{behind, first_state}
 use Rattle.big_auction.specs.MadeAward.{made_terms}
 use Rattle.big_auction.specs.MadeLog.{package_of, final_package_of, held_by, final_prices, draws_before, lines_of, clock_lines, made_log}
 use Rattle.big_auction.proofs.ClockRounds.{no_lists, posted, rounds_to, sealed_state}
-use Rattle.big_auction.proofs.Forward.{after, AllPass, Goes, goes-on, goes-one, Stands, stands-all}
+use Rattle.big_auction.proofs.Forward.{after, Goes, goes-on, goes-one, Stands, stands-all}
 use Rattle.big_auction.proofs.MadeClock.{goes-flat, starts, last_eligibility, last_held, clock-goes, known, bidding}
 use Rattle.big_auction.proofs.Offers.{part-goes}
 use Rattle.big_auction.proofs.SealedRound.{HasLot, Between}

@@ -1,5 +1,5 @@
 -- The log that is made from a number.
-use Rattle.std.specs.Prelude.{ℕ, suc, ◌+◌, ◌-◌, ◌*◌, ◌/◌, min, max, Bool, ◌||◌, nat_le, List, [], ◌∷◌, ◌++◌, flat_map, slice_index, if◌then◌else◌}
+use Rattle.std.specs.Prelude.{ℕ, suc, ◌+◌, ◌-◌, ◌*◌, ◌/◌, min, max, ◌||◌, nat_le, List, [], ◌∷◌, ◌++◌, flat_map, slice_index, if◌then◌else◌}
 use Rattle.auction_model.specs.Package.{cost_of}
 use Rattle.auction_rules.specs.declared.Event.{Event}
 use Rattle.auction_rules.specs.declared.Event.TheVariants.{Bid, Draft, Submit, Close}

@@ -2,7 +2,7 @@ use Rattle.std.proofs.Common.{◌≡◌, ◌+◌, arith, rules, ℕ, subst}
 use Rattle.std.specs.Prelude.{if◌then◌else◌, nat_le}
 use Rattle.big_auction.specs.Draws.{behind}
 use Rattle.big_auction.specs.Parts.{counts_of, figures_of}
-use Rattle.big_auction.proofs.LinesAdded.{IsDrafted, drafted-none, drafted-more, state-behind, lines-added}
+use Rattle.big_auction.proofs.LinesAdded.{IsDrafted, drafted-none, drafted-more, state-behind}
 use Rattle.big_auction.proofs.lines.add_bidder.Goals as goal
 
 pub loop-draft-init : goal.loop-draft-init

@@ -1,4 +1,4 @@
-use Rattle.std.proofs.Common.{◌≡◌, ◌<◌, arith, length, get_or, map}
+use Rattle.std.proofs.Common.{◌<◌, arith, length, get_or, map}
 use Rattle.std.proofs.lemmas.List.{get_or_default}
 use Rattle.big_auction.specs.declared.values.Lots.{Lots}
 use Rattle.big_auction.specs.Parts.{counts_of, figures_of}

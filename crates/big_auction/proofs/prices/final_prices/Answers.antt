@@ -1,4 +1,4 @@
-use Rattle.std.proofs.Common.{ℕ, map, arith, ◌∙◌, ◌≤◌, ap}
+use Rattle.std.proofs.Common.{map, arith, ◌∙◌, ◌≤◌, ap}
 use Rattle.award_file.specs.Award.{Steps}
 use Rattle.auction_rules.specs.Rounds.{raised_prices}
 use Rattle.big_auction.specs.MadeAward.{made_terms}
