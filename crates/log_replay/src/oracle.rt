@@ -1,4 +1,4 @@
-// Logs by a draw, and two long ones: what a replay gives is what the rules give that look through the whole list of the admitted
+// Logs by a draw, and a long one: what a replay gives is what the rules give that look through the whole list of the admitted
 // lines for each answer anew. The rules here call none of the code that is tested.
 ghost use Rattle.std.specs.Prelude.{IfOk};
 ghost use Rattle.std.specs.List.{AllByRecursion};
@@ -102,18 +102,62 @@ fn agree(rt: &impl Abort, alloc: Global, terms: &Terms, log: &[Line]) -> Result<
     Ok(wanted)
 }
 
-/// Asserts that so many drawn logs agree, and gives all their replies and books.
-fn drawn_agree(rt: &impl Abort, alloc: Global, logs: u32) -> Result<String, Fail> {
-    let mut draw = Draw::new(2012);
-    let mut seen = String::new(alloc);
-    for _ in 0..logs {
+/// Whether the award's other version, with the final cap or without, gives other replies than these to a log.
+fn version_matters(
+    alloc: Global,
+    mut terms: Terms,
+    log: &[Line],
+    replies: &str,
+) -> Result<bool, Fail> {
+    terms.final_cap = !terms.final_cap;
+    let other = replay_plainly(alloc, &terms, log)?;
+    Ok(other.replies.as_str() != replies)
+}
+
+/// What came of drawn logs.
+#[derive(Drop)]
+struct Drawn {
+    /// All replies and books.
+    text: String,
+    /// How many logs get other replies without the final cap, which their award has.
+    by_final_cap: u32,
+    /// How many logs get other replies with the final cap, which their award hasn't.
+    by_no_final_cap: u32,
+}
+
+impl Drawn {
+    /// Draws a log, asserts that it agrees, and adds what comes of it.
+    fn add(&mut self, rt: &impl Abort, alloc: Global, draw: &mut Draw) -> Result<(), Fail> {
         let terms = draw.terms(alloc)?;
         let log = draw.log(alloc, &terms)?;
         let Wanted { replies, end } = agree(rt, alloc, &terms, &log)?;
-        seen.push_str(&replies)?;
-        seen.push_str(&end_text(alloc, end)?)?;
+        let has_final_cap = terms.final_cap;
+        match (
+            version_matters(alloc, terms, &log, &replies)?,
+            has_final_cap,
+        ) {
+            (false, _) => {}
+            (true, true) => self.by_final_cap = self.by_final_cap.saturating_add(1),
+            (true, false) => self.by_no_final_cap = self.by_no_final_cap.saturating_add(1),
+        }
+        self.text.push_str(&replies)?;
+        self.text.push_str(&end_text(alloc, end)?)?;
+        Ok(())
     }
-    Ok(seen)
+}
+
+/// Asserts that so many drawn logs agree, and gives what came of them.
+fn drawn_agree(rt: &impl Abort, alloc: Global, logs: u32) -> Result<Drawn, Fail> {
+    let mut draw = Draw::new(2008);
+    let mut drawn = Drawn {
+        text: String::new(alloc),
+        by_final_cap: 0,
+        by_no_final_cap: 0,
+    };
+    for _ in 0..logs {
+        drawn.add(rt, alloc, &mut draw)?;
+    }
+    Ok(drawn)
 }
 
 /// The book, or why there is none.
@@ -133,14 +177,15 @@ fn has_words(rt: &impl Abort, text: &str, words: &[&str]) {
 
 #[test]
 fn drawn_logs_are_replayed_by_the_rules(rt: HostRuntime) -> Result<(), Fail> {
-    let seen = drawn_agree(&rt, rt.alloc(), 120)?;
-    has_words(&rt, &seen, WORDS);
+    let drawn = drawn_agree(&rt, rt.alloc(), 120)?;
+    has_words(&rt, &drawn.text, WORDS);
+    assert!(rt; drawn.by_final_cap > 2);
+    assert!(rt; drawn.by_no_final_cap > 2);
     Ok(())
 }
 
 /// An award of two bidders who may hold everything, with the least steps.
-fn plain_terms(alloc: Global, first: u64, second: u64) -> Result<Terms, Fail> {
-    let supply = Pair { first, second };
+fn plain_terms(alloc: Global, supply: Pair) -> Result<Terms, Fail> {
     let mut terms = Terms {
         final_cap: true,
         tick: 1,
@@ -184,36 +229,15 @@ fn drafts_of_all(alloc: Global, terms: &Terms) -> Result<Vec<Line>, Fail> {
     Ok(log)
 }
 
-/// A log of so many rounds in which both bidders ask for all there is.
-fn crowded_rounds(alloc: Global, terms: &Terms, rounds: u32) -> Result<Vec<Line>, Fail> {
-    let lots = terms.supply;
-    let mut log = Vec::new(alloc);
-    for _ in 0..rounds {
-        log.push(Line::Bid { bidder: 1, lots })?;
-        log.push(Line::Bid { bidder: 2, lots })?;
-        log.push(Line::Close)?;
-    }
-    Ok(log)
-}
-
 #[test]
 fn a_draft_list_has_300_entries(rt: HostRuntime) -> Result<(), Fail> {
-    let terms = plain_terms(rt.alloc(), 17, 16)?;
+    let supply = Pair {
+        first: 17,
+        second: 16,
+    };
+    let terms = plain_terms(rt.alloc(), supply)?;
     let log = drafts_of_all(rt.alloc(), &terms)?;
     let wanted = agree(&rt, rt.alloc(), &terms, &log)?;
     has_words(&rt, &wanted.replies, &["\n302 ok\n303 full 300\n"]);
-    Ok(())
-}
-
-#[test]
-fn there_are_300_rounds(rt: HostRuntime) -> Result<(), Fail> {
-    let terms = plain_terms(rt.alloc(), 1, 1)?;
-    let log = crowded_rounds(rt.alloc(), &terms, 300)?;
-    let wanted = agree(&rt, rt.alloc(), &terms, &log)?;
-    has_words(
-        &rt,
-        &wanted.replies,
-        &["\n897 round 300 309 306\n", "\n900 full 300\n"],
-    );
     Ok(())
 }

@@ -68,7 +68,7 @@ impl Draw {
             final_cap: self.below(2) == 1,
             tick: self.from_to(1, 7),
             supply,
-            points: self.pair(0, 2),
+            points: self.pair(0, 3),
             reserves,
             steps: self.steps(alloc)?,
             bidders: self.bidders(alloc)?,
@@ -90,7 +90,7 @@ impl Draw {
         let mut bidders = Vec::new(alloc);
         for _ in 0..self.from_to(2, 3) {
             bidders.push(Entrant {
-                eligibility: self.from_to(4, 9),
+                eligibility: self.from_to(4, 12),
                 holding: self.pair(0, 1),
             })?;
         }
@@ -112,7 +112,7 @@ impl Draw {
     pub fn log(&mut self, alloc: Global, terms: &Terms) -> Result<Vec<Line>, AllocError> {
         let mut log = Vec::new(alloc);
         let mut admitted = Vec::new(alloc);
-        for _ in 0..self.from_to(15, 75) {
+        for _ in 0..self.from_to(25, 90) {
             let past = past_of(terms, &admitted);
             if matches!(past.stage(), Stage::Closed) && self.below(2) == 0 {
                 break;
@@ -135,14 +135,14 @@ impl Draw {
         };
         match (past.stage(), self.below(24)) {
             (Stage::Closed, _) | (_, 0) => self.any_line(past, bidder),
-            (Stage::Clock, 1..=4) => Line::Close,
+            (Stage::Clock, 1..=3) => Line::Close,
             (Stage::Clock, _) => Line::Bid {
                 bidder,
                 lots: self.lots(past.terms.supply),
             },
-            (Stage::Sealed, 1..=3) => Line::Submit { bidder },
-            (Stage::Sealed, 4) => Line::Close,
-            (Stage::Sealed, 5) => Line::Drop {
+            (Stage::Sealed, 1..=7) => Line::Submit { bidder },
+            (Stage::Sealed, 8) => Line::Close,
+            (Stage::Sealed, 9..=10) => Line::Drop {
                 bidder,
                 lots: self.known_lots(past, bidder),
             },
@@ -179,8 +179,13 @@ impl Draw {
         }
     }
 
-    /// A package; every other time it is what the bidder held in some round, where that isn't empty.
+    /// A package of which the final cap tells, or which the bidder held in some round, each where there is one; else any.
     fn known_lots(&mut self, past: &Past, bidder: u64) -> Pair {
+        if let Some(lots) = past.finally_capped(bidder)
+            && self.below(4) > 0
+        {
+            return lots;
+        }
         let held = past.held(self.from_to(1, past.round()), bidder);
         if held == Pair::NONE || self.below(2) == 0 {
             return self.lots(past.terms.supply);
@@ -193,9 +198,13 @@ impl Draw {
         let reserve = past.terms.reserves.times(lots);
         let near = match self.below(24) {
             0 => 4_398_046_511_104,
-            1..=3 => reserve,
-            4..=10 => past.clock_amount(bidder, lots).unwrap_or(reserve),
-            11..=18 => past.cap(bidder, lots).unwrap_or(reserve),
+            1 => reserve,
+            2..=3 => past.clock_amount(bidder, lots).unwrap_or(reserve),
+            4..=14 => past.cap(bidder, lots).unwrap_or(reserve),
+            15..=20 => past
+                .clock_amount(bidder, lots)
+                .unwrap_or(reserve)
+                .saturating_add(self.below(60)),
             _ => past
                 .prices(past.round())
                 .times(lots)

@@ -226,17 +226,38 @@ impl Past<'_> {
         most.saturating_sub(prices.times(held))
     }
 
-    /// The relative cap of the lots over the bidder's drafts. What it held in the final round has none.
-    pub fn cap(&self, bidder: u64, lots: Pair) -> Option<u64> {
+    /// What the lots may cost by the constraining round, and what by the final round. What the bidder held in the final round has
+    /// no cap.
+    fn caps(&self, bidder: u64, lots: Pair) -> Option<(u64, u64)> {
         let last = self.final_round?;
         if lots == self.held(last, bidder) {
             return None;
         }
-        let cap = self.cap_by(self.constraining(last, bidder, lots), bidder, lots);
+        let constraining = self.constraining(last, bidder, lots);
+        let cap = self.cap_by(constraining, bidder, lots);
+        Some((cap, self.cap_by(last, bidder, lots)))
+    }
+
+    /// The relative cap of the lots over the bidder's drafts.
+    pub fn cap(&self, bidder: u64, lots: Pair) -> Option<u64> {
+        let (cap, final_cap) = self.caps(bidder, lots)?;
         if self.terms.final_cap {
-            Some(cap.min(self.cap_by(last, bidder, lots)))
+            Some(cap.min(final_cap))
         } else {
             Some(cap)
         }
+    }
+
+    /// The last package for which the final cap is below that by the constraining round.
+    pub fn finally_capped(&self, bidder: u64) -> Option<Pair> {
+        let mut capped = None;
+        for lots in self.terms.packages.iter() {
+            if let Some((cap, final_cap)) = self.caps(bidder, *lots)
+                && final_cap < cap
+            {
+                capped = Some(*lots);
+            }
+        }
+        capped
     }
 }

@@ -18,17 +18,25 @@ pub struct Wanted {
 pub fn award_text(alloc: Global, terms: &Terms) -> Result<String, AllocError> {
     let version = if terms.final_cap { 2 } else { 1 };
     let mut text = format!(in alloc; "version = {version}\ntick = {}\n", terms.tick)?;
-    text.push_str(&format!(in alloc;
-        "category = [{{ name = \"a\", supply = {}, points = {}, reserve = {} }}, ",
-        terms.supply.first, terms.points.first, terms.reserves.first
-    )?)?;
-    text.push_str(&format!(in alloc;
-        "{{ name = \"b\", supply = {}, points = {}, reserve = {} }}]\n",
-        terms.supply.second, terms.points.second, terms.reserves.second
-    )?)?;
+    text.push_str(&categories_text(alloc, terms)?)?;
     text.push_str(&steps_text(alloc, &terms.steps)?)?;
     text.push_str(&caps_text(alloc, &terms.caps)?)?;
     text.push_str(&bidders_text(alloc, &terms.bidders)?)?;
+    Ok(text)
+}
+
+fn categories_text(alloc: Global, terms: &Terms) -> Result<String, AllocError> {
+    let Pair { first, second } = terms.supply;
+    let mut text = String::from_str(alloc, "category = [")?;
+    for (name, supply, points, reserve) in [
+        ("a", first, terms.points.first, terms.reserves.first),
+        ("b", second, terms.points.second, terms.reserves.second),
+    ] {
+        text.push_str(&format!(in alloc;
+            "{{ name = \"{name}\", supply = {supply}, points = {points}, reserve = {reserve} }}, "
+        )?)?;
+    }
+    text.push_str("]\n")?;
     Ok(text)
 }
 
@@ -103,24 +111,35 @@ fn draft_text(alloc: Global, bidder: u64, lots: Pair, amount: u64) -> Result<Str
     format!(in alloc; "draft,b{bidder},{first} {second},{amount}\n")
 }
 
+/// A word and numbers, each behind a space.
+fn words(alloc: Global, word: &str, numbers: &[u64]) -> Result<String, AllocError> {
+    let mut text = String::from_str(alloc, word)?;
+    for number in numbers {
+        text.push_str(&format!(in alloc; " {number}")?)?;
+    }
+    Ok(text)
+}
+
 /// The text of a reply to a line that is no admitted close.
 fn refusal_text(alloc: Global, reply: Reply) -> Result<String, AllocError> {
     match reply {
-        Reply::Ok => String::from_str(alloc, "ok"),
-        Reply::Stage => String::from_str(alloc, "stage"),
-        Reply::Unknown => String::from_str(alloc, "unknown"),
-        Reply::Supply(category) => format!(in alloc; "supply {category}"),
-        Reply::SpectrumCap { number, limit } => format!(in alloc; "spectrum-cap {number} {limit}"),
-        Reply::Points(eligibility) => format!(in alloc; "points {eligibility}"),
-        Reply::Empty => String::from_str(alloc, "empty"),
-        Reply::BelowReserve(amount) => format!(in alloc; "below-reserve {amount}"),
-        Reply::BelowClock(amount) => format!(in alloc; "below-clock {amount}"),
-        Reply::NoDraft => String::from_str(alloc, "no-draft"),
-        Reply::RelativeCap { entry, limit } => format!(in alloc; "relative-cap {entry} {limit}"),
-        Reply::Full(most) => format!(in alloc; "full {most}"),
-        Reply::AmountTop(most) => format!(in alloc; "amount-top {most}"),
-        Reply::PriceTop { category, price } => format!(in alloc; "price-top {category} {price}"),
-        Reply::Memory => String::from_str(alloc, "memory"),
+        Reply::Ok => words(alloc, "ok", &[]),
+        Reply::Stage => words(alloc, "stage", &[]),
+        Reply::Unknown => words(alloc, "unknown", &[]),
+        Reply::Supply(category) => words(alloc, "supply", &[category as u64]),
+        Reply::SpectrumCap { number, limit } => {
+            words(alloc, "spectrum-cap", &[number as u64, limit])
+        }
+        Reply::Points(eligibility) => words(alloc, "points", &[eligibility]),
+        Reply::Empty => words(alloc, "empty", &[]),
+        Reply::BelowReserve(amount) => words(alloc, "below-reserve", &[amount]),
+        Reply::BelowClock(amount) => words(alloc, "below-clock", &[amount]),
+        Reply::NoDraft => words(alloc, "no-draft", &[]),
+        Reply::RelativeCap { entry, limit } => words(alloc, "relative-cap", &[entry as u64, limit]),
+        Reply::Full(most) => words(alloc, "full", &[most]),
+        Reply::AmountTop(most) => words(alloc, "amount-top", &[most]),
+        Reply::PriceTop { category, price } => words(alloc, "price-top", &[category as u64, price]),
+        Reply::Memory => words(alloc, "memory", &[]),
     }
 }
 
@@ -144,10 +163,10 @@ fn close_text(alloc: Global, past: &Past) -> Result<String, AllocError> {
         Stage::Clock => {
             let round = past.round();
             let Pair { first, second } = past.prices(round);
-            format!(in alloc; "round {round} {first} {second}")
+            words(alloc, "round", &[round, first, second])
         }
-        Stage::Sealed => String::from_str(alloc, "sealed"),
-        Stage::Closed => String::from_str(alloc, "closed"),
+        Stage::Sealed => words(alloc, "sealed", &[]),
+        Stage::Closed => words(alloc, "closed", &[]),
     }
 }
 
