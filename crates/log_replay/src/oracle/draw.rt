@@ -179,7 +179,8 @@ impl Draw {
         }
     }
 
-    /// A package of which the final cap tells, or which the bidder held in some round, each where there is one; else any.
+    /// A package for which the final cap is the lower one, mostly, where there is one. Else every other time what the bidder held in
+    /// some round, where that isn't empty.
     fn known_lots(&mut self, past: &Past, bidder: u64) -> Pair {
         if let Some(lots) = past.finally_capped(bidder)
             && self.below(4) > 0
