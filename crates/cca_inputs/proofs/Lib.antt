@@ -1,3 +1,4 @@
 mod Names
 mod Stopped
 mod FewWords
+mod Numbers

@@ -1,6 +1,8 @@
 -- The plain form of the words that are given to the program, and the files of each command.
-use Rattle.std.specs.Prelude.{ℕ, Bool, true, false, ◌==◌, ◌&&◌, ◌||◌, not, Option, Some, None, option_map, option_and_then, List, [], ◌∷◌, codes, find, filter, map, if◌then◌else◌}
+use Rattle.std.specs.Prelude.{ℕ, ◌^◌, Bool, true, false, ◌==◌, ◌&&◌, ◌||◌, nat_lt, not, Option, Some, None, option_map, option_and_then, List, [], ◌∷◌, codes, find, filter, map, if◌then◌else◌}
+use Rattle.std.specs.Fmt.{decimal}
 use Rattle.std.specs.Str.{bytes_eq}
+use Rattle.std.specs.Str.Parse.{digits_value}
 use Rattle.cca_inputs.specs.declared.price_form.PriceForm.{PriceForm}
 use Rattle.cca_inputs.specs.declared.status.FileKind.{FileKind}
 use Rattle.cca_inputs.specs.declared.status.FileKind.TheVariants.{Award, Log, Book, Cert, Weights, Out}
@@ -23,6 +25,8 @@ pub data CommandValue : Type 0 where
   award : List ℕ → List ℕ → List ℕ → PriceForm → CommandValue
   -- the test of a certificate of the book of a log
   audit : List ℕ → List ℕ → List ℕ → CommandValue
+  -- the auction that is made from a number: its award and its log
+  make : ℕ → List ℕ → List ℕ → CommandValue
 
 -- what a command does with a file
 pub data Use : Type 0 where
@@ -51,6 +55,7 @@ files_of (weigh_check book weights cert) = reading Book book ∷ reading Weights
 files_of (auction terms log book) = reading Award terms ∷ reading Log log ∷ appending Book book ∷ []
 files_of (award terms log cert form) = reading Award terms ∷ reading Log log ∷ appending Cert cert ∷ []
 files_of (audit terms log cert) = reading Award terms ∷ reading Log log ∷ reading Cert cert ∷ []
+files_of (make number terms log) = appending Award terms ∷ appending Log log ∷ []
 
 -- not empty, and not beginning with '-'
 abbrev pub is_file_word : List ℕ → Bool
@@ -150,6 +155,18 @@ audit_words (f ∷ g ∷ []) = None
 audit_words (f ∷ g ∷ h ∷ []) = if are_file_words (f ∷ g ∷ h ∷ []) then Some (audit f g h) else None
 audit_words (f ∷ g ∷ h ∷ i ∷ rest) = None
 
+-- the number below 2^32 that a word spells in decimal digits without a leading zero
+abbrev pub number_said : List ℕ → Option ℕ
+number_said w = if bytes_eq w (decimal (digits_value 10 w)) && nat_lt (digits_value 10 w) (2 ^ 32) then Some (digits_value 10 w) else None
+
+-- the words behind `make`: the number is no file, so it may be the same word as one
+abbrev pub make_words : List (List ℕ) → Option CommandValue
+make_words [] = None
+make_words (n ∷ []) = None
+make_words (n ∷ f ∷ []) = None
+make_words (n ∷ f ∷ g ∷ []) = if are_file_words (f ∷ g ∷ []) then option_map (λ number. make number f g) (number_said n) else None
+make_words (n ∷ f ∷ g ∷ h ∷ rest) = None
+
 -- the command that the words say, if they are of the plain form
 abbrev pub command_of : List (List ℕ) → Option CommandValue
 command_of [] = None
@@ -162,6 +179,7 @@ command_of (w ∷ rest) =
     else if bytes_eq w (codes "auction") then auction_words rest
     else if bytes_eq w (codes "award") then award_words rest
     else if bytes_eq w (codes "audit") then audit_words rest
+    else if bytes_eq w (codes "make") then make_words rest
     else None
 
 -- the number of a kind

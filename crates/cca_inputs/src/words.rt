@@ -1,10 +1,14 @@
 // The plain form of the words.
 ghost use Rattle.std.specs.Prelude.{◌≡◌, map, string_bytes, option_map, Some, None, IfSome};
-ghost use Rattle.cca_inputs.specs.Command.{are_file_words, auction_words, audit_words, award_words, check_words, command_of, is_among, is_file_word, output_as, price_words, weigh_check_words, weigh_words, win_words};
+ghost use Rattle.cca_inputs.specs.Command.{are_file_words, auction_words, audit_words, award_words, check_words, command_of, is_among, is_file_word, make_words, number_said, output_as, price_words, weigh_check_words, weigh_words, win_words};
 ghost use Rattle.cca_inputs.specs.Words.{AreAmong, command_value};
 
 use crate::price_form::asked_form;
 use crate::{FileKind, PriceForm};
+use wide_num::read_natural;
+
+// The greatest number from which an auction is made.
+const MOST_NUMBER: u128 = u32::MAX as u128;
 
 /// A command in its plain form, with the names of its files.
 #[derive(Clone, Copy, Debug)]
@@ -58,6 +62,12 @@ pub enum Command<'a> {
         log: &'a str,
         cert: &'a str,
     },
+    /// An auction is made from a number; its award and its log are appended, and a summary is printed.
+    Make {
+        number: u32,
+        award: &'a str,
+        log: &'a str,
+    },
 }
 
 impl<'a> Command<'a> {
@@ -70,6 +80,8 @@ impl<'a> Command<'a> {
             (Command::Weigh { cert, .. }, FileKind::Cert) => Some(cert),
             (Command::Award { cert, .. }, FileKind::Cert) => Some(cert),
             (Command::Auction { book, .. }, FileKind::Book) => Some(book),
+            (Command::Make { award, .. }, FileKind::Award) => Some(award),
+            (Command::Make { log, .. }, FileKind::Log) => Some(log),
             _ => None,
         }
     }
@@ -243,6 +255,35 @@ fn audit_command(words: &[String]) -> Option<Command<'_>>
     })
 }
 
+// The number that a word says.
+fn number_of(word: &str) -> Option<u32>
+    ensures { result ≡ number_said word.now }
+{
+    let number = read_natural(word.as_bytes())?;
+    if number > MOST_NUMBER {
+        return None;
+    }
+    Some(number as u32)
+}
+
+fn make_command(words: &[String]) -> Option<Command<'_>>
+    ensures among { IfSome result (λ c. AreAmong (map string_bytes words.now) (command_value c)) }
+    ensures command { option_map command_value result ≡ make_words (map string_bytes words.now) }
+{
+    let [number, award, log] = words else {
+        return None;
+    };
+    if !can_be_files(&words[1..]) {
+        return None;
+    }
+    let number = number_of(number.as_str())?;
+    Some(Command::Make {
+        number,
+        award: award.as_str(),
+        log: log.as_str(),
+    })
+}
+
 /// The command that the words say, where they are of the plain form. It takes no memory.
 pub fn read_command(words: &[String]) -> Option<Command<'_>>
     ensures among { IfSome result (λ c. AreAmong (map string_bytes words.now) (command_value c)) }
@@ -260,6 +301,7 @@ pub fn read_command(words: &[String]) -> Option<Command<'_>>
         "auction" => auction_command(rest),
         "award" => award_command(rest),
         "audit" => audit_command(rest),
+        "make" => make_command(rest),
         _ => None,
     }
 }

@@ -33,7 +33,7 @@ use Rattle.weights_file.specs.WeightsForm.{WeightsSay}
 use Rattle.cca_run.proofs.OneLog.{one-award-answer}
 use Rattle.cca_run.proofs.Ones.{not_few_and_many, ones-weigh}
 use Rattle.cca_inputs.specs.Answers.{AwardAnswers, BookAnswers, CertAnswers, LogAnswers, WeightsAnswers, book_answer, cert_answer, weights_answer}
-use Rattle.cca_inputs.specs.Command.{CommandValue, win, price, check, weigh, weigh_check, auction, award, audit, command_of, contents_of}
+use Rattle.cca_inputs.specs.Command.{CommandValue, win, price, check, weigh, weigh_check, auction, award, audit, make, command_of, contents_of}
 use Rattle.cca_inputs.specs.Outcome.{Answer, AnswerGives, FileAnswers, InputGives, Outcome, done, stopped, stops, value}
 use Rattle.cca_inputs.specs.declared.file_text.FileText.{FileText}
 use Rattle.cca_inputs.specs.declared.price_form.PriceForm.{PriceForm}
@@ -255,6 +255,7 @@ module _ (one_book : (bytes : List ℕ) (x y : Said Book Excess) → Says IsBook
       (λ events of says_it a b. one-ended (length events) (end_of t (reverse events)) (λ b. CertGives b (contents Cert) (VerdictGives b (ones b))) o p
       (λ book is x y. one-input Cert CERT_BYTES (CertAnswers book) (VerdictGives book (ones book)) (one-cert-answer book) (contents Cert) o p
       (λ c with_it says_cert g h. one-judged book (ones book) c o p (lawful_log t (log_records of) events book says.1 says_it is) g h) x y) a b) x y) x y
+  one-of (make number terms log) contents o p x y = equal o p _ x y
 
   one-words : (command : Option CommandValue) (file : List ℕ → Option (List ℕ)) (o p : Outcome) → WordsGive command file o → WordsGive command file p → Same o p
   one-words None file o p x y = equal o p _ x y

@@ -4,7 +4,7 @@ use Rattle.std.specs.Prelude.{◌&&◌, ◌||◌, not, codes, if◌then◌else�
 use Rattle.std.specs.Option.{option_map}
 use Rattle.std.specs.Str.{bytes_eq}
 use Rattle.std.proofs.lemmas.Slice.Eq.{bytes_eq-Decides}
-use Rattle.cca_inputs.specs.Command.{CommandValue, win, price, check, weigh, weigh_check, auction, award, audit, are_file_words, auction_words, audit_words, award_words, check_words, command_of, form_asked, is_among, is_file_word, price_words, weigh_check_words, weigh_words, win_words}
+use Rattle.cca_inputs.specs.Command.{CommandValue, win, price, check, weigh, weigh_check, auction, award, audit, make, are_file_words, auction_words, audit_words, award_words, check_words, command_of, form_asked, is_among, is_file_word, make_words, number_said, price_words, weigh_check_words, weigh_words, win_words}
 use Rattle.cca_inputs.specs.declared.price_form.PriceForm.{PriceForm}
 
 -- one of two was chosen
@@ -104,6 +104,21 @@ module _ (terms log cert : List ℕ) (form : PriceForm) where
       ]
   never-audit (f ∷ g ∷ h ∷ i ∷ rest) is = cc
 
+  mapped-make : (f g : List ℕ) (said : Option ℕ) → option_map (λ number. make number f g) said ≡ Some (award terms log cert form) → ⊥
+  mapped-make f g None is = cc
+  mapped-make f g (Some x) is = cc
+
+  never-make : (rest : List (List ℕ)) → make_words rest ≡ Some (award terms log cert form) → ⊥
+  never-make [] is = cc
+  never-make (n ∷ []) is = cc
+  never-make (n ∷ f ∷ []) is = cc
+  never-make (n ∷ f ∷ g ∷ []) is =
+      elim (chosen (are_file_words (f ∷ g ∷ [])) (option_map (λ number. make number f g) (number_said n)) None (award terms log cert form) is) [
+        | inl e ↦ mapped-make f g (number_said n) e.1
+        | inr e ↦ cc
+      ]
+  never-make (n ∷ f ∷ g ∷ h ∷ rest) is = cc
+
   -- the three files
   record AreFiles (f g h : List ℕ) : Type 0 where
     first : f ≡ terms
@@ -129,8 +144,11 @@ module _ (terms log cert : List ℕ) (form : PriceForm) where
 
   module _ (w : List ℕ) (rest : List (List ℕ)) where
     -- what is asked of the words where no earlier first word was found
+    abbrev of-make : Option CommandValue
+    of-make = if bytes_eq w (codes "make") then make_words rest else None
+
     abbrev of-audit : Option CommandValue
-    of-audit = if bytes_eq w (codes "audit") then audit_words rest else None
+    of-audit = if bytes_eq w (codes "audit") then audit_words rest else of-make
 
     abbrev of-award : Option CommandValue
     of-award = if bytes_eq w (codes "award") then award_words rest else of-audit
@@ -150,11 +168,18 @@ module _ (terms log cert : List ℕ) (form : PriceForm) where
     abbrev of-price : Option CommandValue
     of-price = if bytes_eq w (codes "price") then price_words rest else of-check
 
+    from-make : of-make ≡ Some (award terms log cert form) → Files
+    from-make is =
+        elim (chosen (bytes_eq w (codes "make")) (make_words rest) None (award terms log cert form) is) [
+          | inl e ↦ absurd (never-make rest e.1)
+          | inr e ↦ absurd cc
+        ]
+
     from-audit : of-audit ≡ Some (award terms log cert form) → Files
     from-audit is =
-        elim (chosen (bytes_eq w (codes "audit")) (audit_words rest) None (award terms log cert form) is) [
+        elim (chosen (bytes_eq w (codes "audit")) (audit_words rest) of-make (award terms log cert form) is) [
           | inl e ↦ absurd (never-audit rest e.1)
-          | inr e ↦ absurd cc
+          | inr e ↦ from-make e
         ]
 
     from-award : of-award ≡ Some (award terms log cert form) → Files

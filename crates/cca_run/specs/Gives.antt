@@ -1,4 +1,5 @@
 -- What each command gives, by the bytes of its inputs.
+use Rattle.std.specs.Fmt.{decimal}
 use Rattle.std.specs.Prelude.{◌≡◌, ◌⊎◌, ℕ, ℤ, suc, Bool, true, false, Option, Some, None, Result, Ok, Err, List, [], ◌∷◌, ◌++◌, codes, length, replicate, reverse}
 use Rattle.line_text.specs.LineText.{Says, stated}
 use Rattle.auction_model.specs.Greatest.{IsWinning}
@@ -13,6 +14,10 @@ use Rattle.log_replay.specs.ReplyLines.{end_of, reply_lines}
 use Rattle.log_replay.specs.declared.results.ReplayStop.{ReplayStop}
 use Rattle.log_replay.specs.declared.results.ReplayStop.TheVariants as replay
 use Rattle.print_form.specs.WinText.{win_text}
+use Rattle.big_auction.specs.AwardText.{made_award_text}
+use Rattle.big_auction.specs.LogText.{log_text}
+use Rattle.big_auction.specs.MadeAward.{made_bidders}
+use Rattle.big_auction.specs.MadeLog.{made_log}
 use Rattle.cert_form.specs.Certificate.{CertValue}
 use Rattle.cert_form.specs.CertText.{IsCertificate}
 use Rattle.cert_form.specs.Says.{cert_text}
@@ -28,7 +33,7 @@ use Rattle.print_form.specs.Turns.{AreTurnLines}
 use Rattle.row_laws.specs.Turns.{IsLastPoint}
 use Rattle.row_laws.specs.Winners.{winners_in}
 use Rattle.cca_inputs.specs.Answers.{AwardAnswers, BookAnswers, CertAnswers, LogAnswers, WeightsAnswers}
-use Rattle.cca_inputs.specs.Command.{CommandValue, win, price, check, weigh, weigh_check, auction, award, audit, command_of, contents_of}
+use Rattle.cca_inputs.specs.Command.{CommandValue, win, price, check, weigh, weigh_check, auction, award, audit, make, command_of, contents_of}
 use Rattle.cca_inputs.specs.Outcome.{InputGives, Outcome, done, stopped, stopped_after}
 use Rattle.cca_inputs.specs.declared.file_text.FileText.{FileText}
 use Rattle.cca_inputs.specs.declared.price_form.PriceForm.{PriceForm}
@@ -160,6 +165,22 @@ CertGives book content follows outcome = InputGives Cert CERT_BYTES (CertAnswers
 abbrev pub WeightsGive : BookValue → Option (List ℕ) → (List ℕ → Outcome → Type 0) → Outcome → Type 0
 WeightsGive book content follows outcome = InputGives Weights WEIGHTS_BYTES (WeightsAnswers book) content follows outcome
 
+-- the line of the auction that was made from a number: how many bidders it has, and how many lines its log
+abbrev pub made_line : ℕ → ℕ → ℕ → List ℕ
+made_line number bidders lines = codes "made " ++ decimal number ++ codes " bidders " ++ decimal bidders ++ codes " lines " ++ decimal lines ++ codes "\n"
+
+-- texts that are appended to the files of the award and of the log
+abbrev pub award_file : List ℕ → FileText
+award_file text = record { kind = Award; text = text }
+
+abbrev pub log_file : List ℕ → FileText
+log_file text = record { kind = Log; text = text }
+
+-- The award and the log of the auction that is made from a number are appended, in this order, and its line is printed.
+abbrev pub MakeGives : ℕ → Outcome → Type 0
+MakeGives number outcome =
+    outcome ≡ done (made_line number made_bidders (length (made_log number))) (award_file made_award_text ∷ log_file (log_text (made_log number)) ∷ [])
+
 -- What a command gives, by the bytes of its inputs of each kind.
 abbrev pub CommandGives : CommandValue → (FileKind → Option (List ℕ)) → Outcome → Type 0
 CommandGives (win book) contents outcome = BookGives (contents Book) WinGives outcome
@@ -173,6 +194,7 @@ CommandGives (award terms log cert form) contents outcome =
     AwardGives (contents Award) (λ t. LogGives t (contents Log) (λ events. BookOfLogGives t events (λ b. PriceGives b (ones b) form))) outcome
 CommandGives (audit terms log cert) contents outcome =
     AwardGives (contents Award) (λ t. LogGives t (contents Log) (λ events. BookOfLogGives t events (λ b. CertGives b (contents Cert) (VerdictGives b (ones b))))) outcome
+CommandGives (make number terms log) contents outcome = MakeGives number outcome
 
 -- what a command gives by the files
 abbrev pub FilesGive : CommandValue → (List ℕ → Option (List ℕ)) → Outcome → Type 0

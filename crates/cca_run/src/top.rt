@@ -89,6 +89,9 @@ fn tell_words<F: Files, O: Sink>(files: &F, out: &mut O) -> Status
 /// those lines. `award AWARD LOG CERT` prices the book of the log as `price` does, with the same flags, and `audit AWARD LOG CERT` makes
 /// the book from the log itself and tests the certificate as `check` does; both end where `auction` would, with its status and its lines.
 ///
+/// `make NUMBER AWARD LOG` makes the auction of a number, appends its award to AWARD and then its log to LOG, and prints a line with the
+/// number, how many bidders there are and how many lines the log has.
+///
 /// All is worked out before anything is written, and files are appended before anything is printed. But for that, a status other than
 /// Done prints its line alone; a fault of the output is WriteFault of Out, whatever came before. Words that aren't of the plain form are
 /// told without taking memory. The condition is that `files` knows each of the words.

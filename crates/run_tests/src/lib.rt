@@ -12,6 +12,8 @@ mod fault;
 #[cfg(test)]
 mod listing;
 #[cfg(test)]
+mod make;
+#[cfg(test)]
 mod price;
 #[cfg(test)]
 mod settings;

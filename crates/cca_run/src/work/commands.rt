@@ -6,6 +6,7 @@ ghost use Rattle.cca_run.specs.Gives.{WinGives};
 ghost use Rattle.cca_run.specs.Works.{IsWork, Works};
 
 use crate::work::auction::{logged_book, replayed};
+use crate::work::made::made;
 use crate::work::pricing::{price_alike, price_weighed};
 use crate::work::verdict::{verdict_alike, verdict_weighed};
 use crate::work::win::win_of;
@@ -175,5 +176,6 @@ pub fn work_out<F: Files>(alloc: Global, files: &mut F, command: Command<'_>) ->
             ..
         } => award_work(alloc, files, award, log, form),
         Command::Audit { award, log, cert } => audit_work(alloc, files, award, log, cert),
+        Command::Make { number, .. } => made(alloc, number),
     }
 }

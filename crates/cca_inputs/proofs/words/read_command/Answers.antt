@@ -25,5 +25,8 @@ returns-in-award-clause-among c = IfSome_then c.award_command.result c.award_com
 pub returns-in-audit-clause-among : goal.returns-in-audit-clause-among
 returns-in-audit-clause-among c = IfSome_then c.audit_command.result c.audit_command.ensures.among (λ k among. among-behind string_bytes c.args.words.now (command_value k) among)
 
+pub returns-in-make-clause-among : goal.returns-in-make-clause-among
+returns-in-make-clause-among c = IfSome_then c.make_command.result c.make_command.ensures.among (λ k among. among-behind string_bytes c.args.words.now (command_value k) among)
+
 pub returns-in-win-clause-among : goal.returns-in-win-clause-among
 returns-in-win-clause-among c = IfSome_then c.win_command.result c.win_command.ensures.among (λ k among. among-behind string_bytes c.args.words.now (command_value k) among)

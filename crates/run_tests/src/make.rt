@@ -1,0 +1,202 @@
+// Auctions that are made from numbers by the top call.
+use crate::auction::run_three;
+use crate::settings::{joined, left_at, no_files, words_of};
+use cca_base::MemSink;
+use cca_run::{FileKind, Status, run};
+use std::alloc::{AllocError, Global};
+use std::process::Abort;
+use std::test::Fail;
+
+/// What a run of `make` answers, prints and leaves in its two files.
+#[derive(Drop)]
+struct Ended {
+    status: Status,
+    printed: Vec<u8>,
+    award: Vec<u8>,
+    log: Vec<u8>,
+}
+
+/// The first 100 bytes of the award, the second, and those behind them.
+const AWARD_START: &str =
+    "version = 1\ntick = 1\n\n[[category]]\nname = \"a\"\nsupply = 4\npoints = 10\nreserve = 1000\n\n[[category]]\nna";
+
+const AWARD_MIDDLE: &str =
+    "me = \"b\"\nsupply = 1\npoints = 10\nreserve = 1500\n\n[[category]]\nname = \"c\"\nsupply = 14\npoints = 1\nreser";
+
+const AWARD_REST: &str =
+    "ve = 100\n\n[[category]]\nname = \"e\"\nsupply = 9\npoints = 1\nreserve = 10\n\n[[bidder]]\nname = \"b1\"\neligibility = 73\n\n[[bidder]]\nname = \"b2\"\neligibility = 73\n\n[[bidder]]\nname = \"b3\"\neligibility = 73\n\n[[bidder]]\nname = \"b4\"\neligibility = 73\n\n[[bidder]]\nname = \"b5\"\neligibility = 73\n\n[[bidder]]\nname = \"b6\"\neligibility = 73\n\n[[bidder]]\nname = \"b7\"\neligibility = 73\n\n[[bidder]]\nname = \"b8\"\neligibility = 73\n\n[[bidder]]\nname = \"b9\"\neligibility = 73\n\n[[bidder]]\nname = \"b10\"\neligibility = 73\n\n[[bidder]]\nname = \"b11\"\neligibility = 73\n\n[[bidder]]\nname = \"b12\"\neligibility = 73\n\n[[step]]\nexcess = 1\npermille = 100\n\n[[step]]\nexcess = 5\npermille = 200\n";
+
+/// The first 100 bytes of the log of 7.
+const LOG_START: &str =
+    "bid,b1,1 0 4 4,\nbid,b2,2 1 2 0,\nbid,b3,2 1 5 3,\nbid,b4,1 0 5 2,\nbid,b5,2 0 6 0,\nbid,b6,1 1 7 3,\nbid,";
+
+const SUMMARY: &str = "made 7 bidders 12 lines 1339\n";
+
+/// The bytes of the file that the word at this place names; none where it is missing.
+fn bytes_at(
+    alloc: Global,
+    files: &cca_base::MemFiles,
+    place: usize,
+) -> Result<Vec<u8>, AllocError> {
+    match left_at(alloc, files, place)? {
+        Some(bytes) => Ok(bytes),
+        None => Ok(Vec::new(alloc)),
+    }
+}
+
+/// A run of `make` over missing files, in which the append and the put of these numbers fail; 0 for none.
+fn run_make(
+    alloc: Global,
+    words: &[&str],
+    fail_append: u64,
+    fail_put: u64,
+) -> Result<Ended, AllocError> {
+    let words = words_of(alloc, words)?;
+    let mut files = no_files(alloc, &words)?;
+    files.fail_appends.push(fail_append)?;
+    let mut out = MemSink::new(alloc, 5);
+    out.fail_puts.push(fail_put)?;
+    let status = run(alloc, &words, &mut files, &mut out);
+    Ok(Ended {
+        status,
+        printed: out.bytes,
+        award: bytes_at(alloc, &files, 2)?,
+        log: bytes_at(alloc, &files, 3)?,
+    })
+}
+
+const SEVEN: &[&str] = &["make", "7", "AWARD", "LOG"];
+
+#[test]
+fn makes_the_same_bytes_twice(rt: HostRuntime) -> Result<(), Fail> {
+    let alloc = rt.alloc();
+    let award = joined(alloc, &[AWARD_START, AWARD_MIDDLE, AWARD_REST])?;
+    let first = run_make(alloc, SEVEN, 0, 0)?;
+    let second = run_make(alloc, SEVEN, 0, 0)?;
+    assert_eq!(rt; first.status, Status::Done);
+    assert_eq!(rt; first.printed.as_slice(), SUMMARY.as_bytes());
+    assert_eq!(rt; first.award.as_slice(), award.as_slice());
+    assert_eq!(rt; first.log.len(), 28996);
+    assert!(rt; first.log.starts_with(LOG_START.as_bytes()));
+    assert_eq!(rt; second.status, Status::Done);
+    assert_eq!(rt; second.printed.as_slice(), SUMMARY.as_bytes());
+    assert_eq!(rt; second.award.as_slice(), award.as_slice());
+    assert_eq!(rt; second.log.as_slice(), first.log.as_slice());
+    Ok(())
+}
+
+// At most 100 bytes are appended at once, so that the award takes nine appends.
+#[test]
+fn keeps_the_order_of_appends_after_a_fault(rt: HostRuntime) -> Result<(), Fail> {
+    let award_fault = "cca: write fault award\n";
+    let log_fault = "cca: write fault log\n";
+    let whole: &[&str] = &[AWARD_START, AWARD_MIDDLE, AWARD_REST];
+    let table: [(u64, FileKind, &str, &[&str], &str); 5] = [
+        (1, FileKind::Award, award_fault, &[], ""),
+        (2, FileKind::Award, award_fault, &[AWARD_START], ""),
+        (
+            3,
+            FileKind::Award,
+            award_fault,
+            &[AWARD_START, AWARD_MIDDLE],
+            "",
+        ),
+        (10, FileKind::Log, log_fault, whole, ""),
+        (11, FileKind::Log, log_fault, whole, LOG_START),
+    ];
+    for (fail_append, file, printed, award, log) in table {
+        let ended = run_make(rt.alloc(), SEVEN, fail_append, 0)?;
+        let award = joined(rt.alloc(), award)?;
+        assert_eq!(rt; ended.status, Status::WriteFault { file });
+        assert_eq!(rt; ended.printed.as_slice(), printed.as_bytes());
+        assert_eq!(rt; ended.award.as_slice(), award.as_slice());
+        assert_eq!(rt; ended.log.as_slice(), log.as_bytes());
+    }
+    Ok(())
+}
+
+#[test]
+fn tells_a_fault_of_the_output_behind_both_files(rt: HostRuntime) -> Result<(), Fail> {
+    let ended = run_make(rt.alloc(), SEVEN, 0, 2)?;
+    let fault = Status::WriteFault {
+        file: FileKind::Out,
+    };
+    assert_eq!(rt; ended.status, fault);
+    assert_eq!(rt; ended.printed.as_slice(), b"made ".as_slice());
+    assert_eq!(rt; ended.award.len(), 836);
+    assert_eq!(rt; ended.log.len(), 28996);
+    Ok(())
+}
+
+#[test]
+fn takes_plain_numbers_alone(rt: HostRuntime) -> Result<(), Fail> {
+    let table: [&[&str]; 11] = [
+        &["make", "7", "AWARD"],
+        &["make", "7", "AWARD", "AWARD"],
+        &["make", "7", "AWARD", "LOG", "--json"],
+        &["make", "7", "-AWARD", "LOG"],
+        &["make", "07", "AWARD", "LOG"],
+        &["make", "+7", "AWARD", "LOG"],
+        &["make", "-7", "AWARD", "LOG"],
+        &["make", "", "AWARD", "LOG"],
+        &["make", "seven", "AWARD", "LOG"],
+        &["make", "4294967296", "AWARD", "LOG"],
+        &[
+            "make",
+            "9999999999999999999999999999999999999999999999",
+            "AWARD",
+            "LOG",
+        ],
+    ];
+    for words in table {
+        let ended = run_make(rt.alloc(), words, 0, 0)?;
+        assert_eq!(rt; ended.status, Status::Words);
+        assert_eq!(rt; ended.printed.as_slice(), b"cca: words\n".as_slice());
+    }
+    Ok(())
+}
+
+/// Prices the auction of a number and audits the certificate, which prints `yes` and the same prices.
+fn is_priced(rt: &impl Abort, alloc: Global, number: &str, summary: &str) -> Result<(), Fail> {
+    let made = run_make(alloc, &["make", number, "AWARD", "LOG"], 0, 0)?;
+    assert_eq!(rt; made.status, Status::Done);
+    assert_eq!(rt; made.printed.as_slice(), summary.as_bytes());
+    let words = ["award", "AWARD", "LOG", "CERT"];
+    let priced = run_three(alloc, &words, &made.award, &made.log, None)?;
+    assert_eq!(rt; priced.status, Status::Done);
+    let words = ["audit", "AWARD", "LOG", "CERT"];
+    let audited = run_three(
+        alloc,
+        &words,
+        &made.award,
+        &made.log,
+        priced.third.as_deref(),
+    )?;
+    assert_eq!(rt; audited.status, Status::Done);
+    assert!(rt; audited.printed.starts_with(b"yes\n"));
+    assert_eq!(rt; &audited.printed[4..], priced.printed.as_slice());
+    Ok(())
+}
+
+#[test]
+fn prices_the_auctions_of_the_least_and_the_greatest_number(rt: HostRuntime) -> Result<(), Fail> {
+    let alloc = rt.alloc();
+    is_priced(&rt, alloc, "0", "made 0 bidders 12 lines 1339\n")?;
+    is_priced(
+        &rt,
+        alloc,
+        "4294967295",
+        "made 4294967295 bidders 12 lines 1339\n",
+    )
+}
+
+#[test]
+fn a_number_is_no_file(rt: HostRuntime) -> Result<(), Fail> {
+    let words = words_of(rt.alloc(), &["make", "7", "7", "LOG"])?;
+    let mut files = no_files(rt.alloc(), &words)?;
+    let mut out = MemSink::new(rt.alloc(), 5);
+    let status = run(rt.alloc(), &words, &mut files, &mut out);
+    assert_eq!(rt; status, Status::Done);
+    assert_eq!(rt; out.bytes.as_slice(), SUMMARY.as_bytes());
+    Ok(())
+}
