@@ -18,7 +18,7 @@ use Rattle.log_file.specs.LogReading.{AreLog, log_records}
 use Rattle.log_replay.specs.ReplyLines.{end_of}
 use Rattle.log_replay.specs.declared.results.ReplayStop.{ReplayStop}
 use Rattle.cca_base.specs.Files.{added}
-use Rattle.cert_form.specs.CertText.{IsCertificate, body_lines, cert_lines}
+use Rattle.cert_form.specs.CertText.{IsCertificate, body_lines}
 use Rattle.cert_form.specs.Lines.{Line, lines as spelled, over, spell, version_lines}
 use Rattle.cert_form.specs.Says.{CertSays, cert_text}
 use Rattle.cert_laws.specs.BookSizes.{IsWithinSizes}

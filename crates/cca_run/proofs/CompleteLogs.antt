@@ -1,6 +1,6 @@
 -- A complete log within the limits is awarded, and no other.
-use Rattle.std.proofs.Common.{◌≡◌, ◌∙◌, ℕ, Bool, true, IsTrue, Option, Some, None, List, [], ◌∷◌, length, refl, sym, ap, subst, arith, inl, inr}
-use Rattle.std.specs.Prelude.{◌<◌, ◌≤◌, Result, Ok, Err, reverse, if◌then◌else◌}
+use Rattle.std.proofs.Common.{◌≡◌, ◌∙◌, ℕ, Bool, IsTrue, Option, Some, None, List, length, refl, sym, ap, subst, arith, inl, inr}
+use Rattle.std.specs.Prelude.{◌≤◌, Result, Ok, Err, reverse, if◌then◌else◌}
 use Rattle.auction_model.specs.Book.{Book, market_of}
 use Rattle.auction_model.specs.Greatest.{IsWinning}
 use Rattle.auction_model.specs.Lawful.{IsMarket}
@@ -17,14 +17,14 @@ use Rattle.limits.specs.declared.TheConstants.{AWARD_BYTES, LOG_BYTES, MOST_WINN
 use Rattle.row_laws.specs.Winners.{winners_in}
 use Rattle.cca_inputs.specs.Answers.{AwardAnswers, LogAnswers, award_answer}
 use Rattle.cca_inputs.specs.Command.{award}
-use Rattle.cca_inputs.specs.Outcome.{Answer, AnswerGives, FileAnswers, InputGives, Outcome, stops, value}
+use Rattle.cca_inputs.specs.Outcome.{Answer, AnswerGives, InputGives, Outcome, value}
 use Rattle.cca_inputs.specs.declared.price_form.PriceForm.{PriceForm}
 use Rattle.cca_inputs.specs.declared.status.FileKind.{FileKind}
 use Rattle.cca_inputs.specs.declared.status.FileKind.TheVariants as kinds
 use Rattle.cca_inputs.specs.declared.status.Status.TheVariants.{Done}
 use Rattle.cca_run.specs.Gives.{BookOfLogGives, EndGives, FilesGive, LogGives, PriceGives, ones}
 use Rattle.cca_run.specs.Headline.{CanBeAwarded, FileHolds}
-use Rattle.cca_run.proofs.HeadlineLaws.{HasValue, award-never, award-states, has-book, has-value, log-never}
+use Rattle.cca_run.proofs.HeadlineLaws.{award-never, award-states, has-book, has-value, log-never}
 use Rattle.cca_run.proofs.LogBooks.{logged}
 use Rattle.cca_run.proofs.Ones.{many-six}
 

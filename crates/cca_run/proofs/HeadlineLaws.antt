@@ -1,6 +1,6 @@
 -- What a run that is done shows of its files.
 use Rattle.std.proofs.Common.{◌≡◌, ◌∙◌, ℕ, Option, Some, None, List, [], ◌∷◌, length, refl, sym, ap, subst, arith, inl, inr}
-use Rattle.std.specs.Prelude.{◌-◌, ◌<◌, ◌≤◌, Result, Ok, Err, replicate, reverse}
+use Rattle.std.specs.Prelude.{◌-◌, ◌<◌, ◌≤◌, Result, Ok, Err, reverse}
 use Rattle.std.proofs.lemmas.Bool.{cases_lt}
 use Rattle.std.proofs.lemmas.List.{get_or-replicate}
 use Rattle.auction_model.specs.Book.{Book, market_of}
@@ -29,14 +29,14 @@ use Rattle.cert_laws.specs.Tests.{bidders_of, states}
 use Rattle.limits.specs.declared.TheConstants.{AWARD_BYTES, LOG_BYTES, CERT_BYTES, MOST_WINNERS}
 use Rattle.cca_inputs.specs.Answers.{AwardAnswers, CertAnswers, LogAnswers, award_answer, cert_answer}
 use Rattle.cca_inputs.specs.Command.{award, audit}
-use Rattle.cca_inputs.specs.Outcome.{Answer, FileAnswers, AnswerGives, InputGives, Outcome, done, stopped, stops, value}
+use Rattle.cca_inputs.specs.Outcome.{Answer, FileAnswers, AnswerGives, InputGives, Outcome, stops, value}
 use Rattle.cca_inputs.specs.declared.price_form.PriceForm.{PriceForm}
 use Rattle.cca_inputs.specs.declared.status.FileKind.{FileKind}
 use Rattle.cca_inputs.specs.declared.status.FileKind.TheVariants as kinds
 use Rattle.cca_inputs.specs.declared.status.Status.{Status}
 use Rattle.cca_inputs.specs.declared.status.Status.TheVariants.{Done}
 use Rattle.cca_run.specs.Gives.{BookOfLogGives, CertGives, EndGives, FilesGive, IsYesText, LogGives, PriceGives, VerdictGives, cert_file, ones}
-use Rattle.cca_run.specs.Headline.{IsAudited, IsAwarded, book_of}
+use Rattle.cca_run.specs.Headline.{IsAudited, IsAwarded}
 use Rattle.cca_run.proofs.Accepted.{sizes-of}
 use Rattle.cca_run.proofs.LogBooks.{logged}
 

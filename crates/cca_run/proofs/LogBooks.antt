@@ -1,8 +1,7 @@
 -- The book that a log leads to.
-use Rattle.std.proofs.Common.{◌≡◌, ◌∙◌, ℕ, Bool, true, false, IsTrue, Option, Some, None, List, [], ◌∷◌, ◌++◌, length, reverse, refl, sym, subst, arith, inl, inr}
-use Rattle.std.specs.Prelude.{if◌then◌else◌, ◌<◌, ◌≤◌, ◌^◌, ℤ, pos, ◌≤ℤ◌, Result, Ok, Err}
+use Rattle.std.proofs.Common.{◌≡◌, ℕ, Bool, true, false, IsTrue, Option, Some, None, List, [], ◌∷◌, ◌++◌, length, reverse, refl, sym, subst, arith}
+use Rattle.std.specs.Prelude.{if◌then◌else◌, ◌<◌, ◌≤◌, ◌^◌, pos, ◌≤ℤ◌, Ok, Err}
 use Rattle.std.specs.List.{AllByRecursion}
-use Rattle.std.proofs.lemmas.Bool.{cases_Bool}
 use Rattle.std.proofs.lemmas.List.{reverse-append}
 use Rattle.auction_model.specs.Book.{Book, bids_of, net_of, market_of}
 use Rattle.auction_model.specs.Lawful.{IsMarket}
@@ -14,7 +13,7 @@ use Rattle.auction_rules.specs.Lawful.{HasCategories}
 use Rattle.auction_rules.specs.Terms.{Terms}
 use Rattle.auction_rules.specs.declared.Event.{Event}
 use Rattle.award_file.specs.Award.{IsAward}
-use Rattle.log_file.specs.LogReading.{AreLog, log_records}
+use Rattle.log_file.specs.LogReading.{AreLog}
 use Rattle.log_replay.specs.ReplyLines.{book_or_open, end_of, first_refusal, stopped_or}
 use Rattle.log_replay.specs.declared.results.ReplayStop.{ReplayStop}
 use Rattle.log_replay.specs.declared.results.ReplayStop.TheVariants.{Open}

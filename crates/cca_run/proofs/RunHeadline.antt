@@ -1,6 +1,5 @@
 -- How the end of a run bears the headline.
 use Rattle.std.proofs.Common.{◌≡◌, ◌⊎◌, ◌∙◌, ℕ, IsTrue, Option, Some, None, List, [], ◌∷◌, length, refl, sym, ap, subst, arith, inl, inr}
-use Rattle.std.specs.Prelude.{take}
 use Rattle.std.proofs.lemmas.List.{take_all}
 use Rattle.cca_base.specs.Files.{Adds, Folder, added}
 use Rattle.cca_base.specs.Sink.{Output, Puts}
