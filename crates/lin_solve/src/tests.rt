@@ -140,7 +140,7 @@ fn assert_depends(rt: &impl Abort, entries: &[i128], numbers: &[i128]) {
 
 #[test]
 fn small_regular_systems(rt: HostRuntime) -> Result<(), Fail> {
-    let table: [(usize, &[i128], &[Far]); 4] = [
+    let table: [(usize, &[i128], &[Far]); 5] = [
         (1, &[3], &[pair(7, 0)]),
         (2, &[1, 2, 3, 4], &[pair(5, 0), pair(6, -1)]),
         (
@@ -153,16 +153,6 @@ fn small_regular_systems(rt: HostRuntime) -> Result<(), Fail> {
             &[0, 6, 0, 0, 0, 0, 5, 0, 0, 0, 0, 4, 3, 0, 0, 0],
             &[pair(1, 0), pair(1, 0), pair(1, 0), pair(1, 0)],
         ),
-    ];
-    for (size, entries, right) in table {
-        assert_regular(&rt, rt.alloc(), size, entries, right)?;
-    }
-    Ok(())
-}
-
-#[test]
-fn large_regular_systems(rt: HostRuntime) -> Result<(), Fail> {
-    let table: [(usize, &[i128], &[Far]); 3] = [
         (
             5,
             &[
@@ -176,6 +166,16 @@ fn large_regular_systems(rt: HostRuntime) -> Result<(), Fail> {
                 pair(MOST, MOST),
             ],
         ),
+    ];
+    for (size, entries, right) in table {
+        assert_regular(&rt, rt.alloc(), size, entries, right)?;
+    }
+    Ok(())
+}
+
+#[test]
+fn large_regular_systems(rt: HostRuntime) -> Result<(), Fail> {
+    let table: [(usize, &[i128], &[Far]); 2] = [
         (
             6,
             &[
