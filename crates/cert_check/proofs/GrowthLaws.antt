@@ -10,7 +10,7 @@ use Rattle.auction_model.specs.Place.{states_of, place_of, left_at}
 use Rattle.auction_model.specs.Book.{lots_of, net_of, bids_of}
 use Rattle.auction_model.proofs.PlaceLaws.{states-positive, place_of-left_at, left_at-less, place-less-below, within-within}
 use Rattle.auction_model.proofs.PackageLaws.{less-empty}
-use Rattle.auction_model.proofs.DominatedLaws.{less-within}
+use Rattle.auction_model.proofs.DominatedLaws.{lowered-in_order, less-within}
 use Rattle.auction_model.proofs.PartReads.{read-part}
 use Rattle.bid_book.specs.Better.{IsBetter}
 use Rattle.bid_book.specs.Kept.{IsBidBook}
@@ -80,16 +80,6 @@ pub grows-list : (supply : List ℕ) (line : List ℤ) (W n : ℕ) → 0 < lengt
 grows-list [] line W n some is places all rises blocks = absurd (omega (arith, some))
 grows-list (b ∷ supply) line W n some is places all rises blocks =
     grows-cons b supply line places (subst (λ (m : ℕ). RisesBy m line) is rises) (λ q low. subst (λ (m : ℕ). Grows supply (take m (drop (q * m) line))) is (blocks q (omega (arith, low, all))))
-
--- lowering keeps the order of amounts that aren't negative
-less-order : (x y : ℕ) (s : ℤ) → x ≤ y → (pos x -ℤ s) ≤ℤ (pos y -ℤ s)
-less-order x y s low = omega (arith, ints)
-
-lowered-in_order : (den a b s : ℤ) → pos 0 ≤ℤ den → pos 0 ≤ℤ a → a ≤ℤ b → ((den *ℤ a) -ℤ s) ≤ℤ ((den *ℤ b) -ℤ s)
-lowered-in_order (pos d) (pos x) (pos y) s den own le = less-order (d * x) (d * y) s (mul-le-mul_left d (omega (arith, ints, le)))
-lowered-in_order (pos d) (pos x) (negsuc y) s den own le = absurd (omega (arith, ints, le))
-lowered-in_order (pos d) (negsuc x) b s den own le = absurd (omega (arith, ints, own))
-lowered-in_order (negsuc d) a b s den own le = absurd (omega (arith, ints, den))
 
 worth-in_order : (o : Offers) (lowered : Bool) (j i h : ℕ) → pos 0 ≤ℤ o.cert.now.den → pos 0 ≤ℤ net_of o.book.now j i → net_of o.book.now j i ≤ℤ net_of o.book.now j h
     → worth_by o.book.now (cert_value o.cert.now) lowered j i ≤ℤ worth_by o.book.now (cert_value o.cert.now) lowered j h

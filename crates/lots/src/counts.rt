@@ -1,7 +1,7 @@
 // Tests and sums over the counts of a package or a supply.
-ghost use Rattle.std.specs.Prelude.{◌≡◌, ◌≤◌, ◌^◌, ◌==◌, length, sum, position, All, IfOk, IfErr, None, Some};
+ghost use Rattle.std.specs.Prelude.{◌≡◌, ◌≤◌, ◌<◌, ◌^◌, ◌==◌, length, sum, position, All, IfOk, IfErr, None, Some};
 ghost use Rattle.std.specs.List.{list_all};
-ghost use Rattle.auction_model.specs.Package.{is_within, cost_of};
+ghost use Rattle.auction_model.specs.Package.{is_within, cost_of, IsNothingFrom};
 ghost use Rattle.auction_model.specs.Place.{states_of};
 ghost use Rattle.limits.specs.declared.TheConstants.{MOST_CATEGORIES, MOST_LOTS, MOST_POINTS, MOST_PRICE};
 ghost use Rattle.lots.specs.Limits.{categories_stop, supply_stop, IsPackage, IsSupply};
@@ -118,4 +118,20 @@ pub fn points_among(points: &[u32], counts: &[u16]) -> u64
         sum += points[i] as u64 * counts[i] as u64;
     }
     sum
+}
+
+/// How many categories there are up to the last of which a package has some, and at least one.
+pub fn used_categories(counts: &[u16]) -> usize
+    requires { 0 < length counts.now }
+    ensures some { 0 < result }
+    ensures most { result ≤ length counts.now }
+    ensures rest { IsNothingFrom result counts.now }
+{
+    let mut used = 1;
+    for i in 1..counts.len() {
+        if counts[i] != 0 {
+            used = i + 1;
+        }
+    }
+    used
 }

@@ -11,6 +11,7 @@ mod supply;
 #[cfg(test)]
 mod tests;
 
+pub use counts::used_categories;
 pub use package::{Bid, Package};
 use std::alloc::AllocError;
 pub use supply::Supply;

@@ -5,21 +5,11 @@ use Rattle.std.proofs.lemmas.Int.{ints}
 use Rattle.std.proofs.Math.Nat.{mul-le-mul_left}
 use Rattle.auction_model.specs.Book.{net_of, bids_of}
 use Rattle.auction_model.proofs.LineLaws.{IsLineUpTo}
-use Rattle.auction_model.proofs.DominatedLaws.{line-dominated}
+use Rattle.auction_model.proofs.DominatedLaws.{lowered-in_order, line-dominated}
 use Rattle.bid_book.specs.Better.{IsBetter}
 use Rattle.bid_book.specs.Kept.{IsBidBook}
 use Rattle.value_table.specs.declared.lowering.Lowering.{Lowering}
 use Rattle.value_table.specs.Counted.{counted_bids, counted, IsNeedless}
-
-less-order : (x y : ℕ) (s : ℤ) → x ≤ y → (pos x -ℤ s) ≤ℤ (pos y -ℤ s)
-less-order x y s low = omega (arith, ints)
-
--- lowering keeps the order of amounts that aren't negative
-lowered-in_order : (den a b s : ℤ) → pos 0 ≤ℤ den → pos 0 ≤ℤ a → a ≤ℤ b → ((den *ℤ a) -ℤ s) ≤ℤ ((den *ℤ b) -ℤ s)
-lowered-in_order (pos d) (pos x) (pos y) s den own le = less-order (d * x) (d * y) s (mul-le-mul_left d (omega (arith, ints, le)))
-lowered-in_order (pos d) (pos x) (negsuc y) s den own le = absurd (omega (arith, ints, le))
-lowered-in_order (pos d) (negsuc x) b s den own le = absurd (omega (arith, ints, own))
-lowered-in_order (negsuc d) a b s den own le = absurd (omega (arith, ints, den))
 
 counted-in_order : (l : Lowering) (j i h : ℕ) → 0 < h → h < i → pos 0 ≤ℤ l.den → pos 0 ≤ℤ net_of l.book.now j i → net_of l.book.now j i ≤ℤ net_of l.book.now j h → counted l j i ≤ℤ counted l j h
 counted-in_order l j zero h some low den own le = absurd (omega (arith, low))

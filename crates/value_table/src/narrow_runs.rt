@@ -6,8 +6,7 @@ ghost use Rattle.auction_model.specs.Place.{states_of, widths_of};
 ghost use Rattle.auction_model.specs.Steps.{raised};
 ghost use Rattle.limits.specs.declared.TheConstants.{MOST_STATES};
 
-use crate::runs::used_categories;
-use lots::{Package, Supply};
+use lots::{Package, Supply, used_categories};
 
 /// Raises each number of `line` to that of `below` with the worth, where it is smaller.
 fn raise_run(line: &mut [i64], below: &[i64], worth: i64)

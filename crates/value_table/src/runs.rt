@@ -2,12 +2,11 @@
 // left, and a bid of `count` lots raises block `q` from block `q - count` of the line below.
 ghost use Rattle.std.specs.Prelude.{◌≡◌, ℕ, ◌^◌, ◌≤◌, ◌<◌, length, slice_index_or, pos, ◌+ℤ◌, unsigned_abs};
 ghost use Rattle.std.specs.Int.{int_max};
-ghost use Rattle.auction_model.specs.Package.{IsNothingFrom};
 ghost use Rattle.auction_model.specs.Place.{states_of, widths_of};
 ghost use Rattle.auction_model.specs.Steps.{raised};
 ghost use Rattle.limits.specs.declared.TheConstants.{MOST_STATES};
 
-use lots::{Package, Supply};
+use lots::{Package, Supply, used_categories};
 
 /// Raises each number of `line` to that of `below` with the worth, where it is smaller.
 fn raise_run(line: &mut [i128], below: &[i128], worth: i128)
@@ -124,22 +123,6 @@ fn raise_block(
             worth,
         );
     }
-}
-
-/// How many categories there are up to the last of which a package has some, and at least one.
-pub fn used_categories(counts: &[u16]) -> usize
-    requires { 0 < length counts.now }
-    ensures some { 0 < result }
-    ensures most { result ≤ length counts.now }
-    ensures rest { IsNothingFrom result counts.now }
-{
-    let mut used = 1;
-    for i in 1..counts.len() {
-        if counts[i] != 0 {
-            used = i + 1;
-        }
-    }
-    used
 }
 
 /// Counts one more bid in each entry of the line.

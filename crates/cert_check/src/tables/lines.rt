@@ -9,8 +9,9 @@ ghost use Rattle.cert_check.specs.Narrow.{IsSmall};
 use crate::tables::growth::is_growing;
 use crate::tables::offers::Offers;
 use crate::tables::rule::{LinePair, LineRule};
-use crate::tables::walk::{block_fault, run_fault, used_categories};
+use crate::tables::walk::{block_fault, run_fault};
 use limits::MOST_STATES;
+use lots::used_categories;
 
 /// The greatest number with which the rules are tested in 64 bits.
 const MOST_NARROW: u128 = 1 << 61;

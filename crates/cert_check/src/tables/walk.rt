@@ -2,7 +2,6 @@
 // that category left. Where the package fits, the place of the rest is lower by the place of the package. So behind the last
 // category of which the package has some, the places are one run.
 ghost use Rattle.std.specs.Prelude.{◌≡◌, ◌↔◌, ℕ, ◌+◌, ◌^◌, ◌≤◌, ◌<◌, length, ◌+ℤ◌, ◌≤ℤ◌, unsigned_abs, IsTrue};
-ghost use Rattle.auction_model.specs.Package.{IsNothingFrom};
 ghost use Rattle.auction_model.specs.Place.{states_of, place_of, widths_of};
 ghost use Rattle.cert_check.specs.Faults.{at, FirstFault, CoversRun, CoversBlock};
 ghost use Rattle.cert_check.specs.Narrow.{IsSmall};
@@ -85,22 +84,6 @@ pub fn run_fault(rule: &LineRule, start: usize, stop: usize, until: usize) -> us
         return until;
     }
     exact_fault(rule, start, stop, until)
-}
-
-/// How many categories there are up to the last of which a package has some, and at least one.
-pub fn used_categories(counts: &[u16]) -> usize
-    requires { 0 < length counts.now }
-    ensures some { 0 < result }
-    ensures most { result ≤ length counts.now }
-    ensures rest { IsNothingFrom result counts.now }
-{
-    let mut used = 1;
-    for i in 1..counts.len() {
-        if counts[i] != 0 {
-            used = i + 1;
-        }
-    }
-    used
 }
 
 /// The same as `block_fault` of a package of one category: in a block its places are one run.
