@@ -1,0 +1,11 @@
+pub mod Fronts
+pub mod Steps
+pub mod Following
+pub mod Runs
+pub mod Unfit
+pub mod Places
+pub mod Plans
+pub mod Segments
+pub mod Standing
+pub mod CertOf
+pub mod Stated

@@ -1,0 +1,289 @@
+-- A reader that stands for a text, and one more byte.
+use Rattle.std.proofs.Common.{◌≡◌, ◌≢◌, ℕ, suc, zero, ◌+◌, Bool, true, false, List, [], ◌∷◌, ◌++◌, length, take, drop, get_or, refl, sym, ap, subst, ◌∙◌, arith, append_assoc, length-append, take-append-drop}
+use Rattle.std.proofs.lemmas.List.{drop_all, append-nil}
+use Rattle.std.specs.Prelude.{ℤ, pos, Option, Some, None, codes, map}
+use Rattle.line_text.specs.LineText.{IsLine, IsTextOf}
+use Rattle.cert_form.specs.Plan.{Follows as ToEnd}
+use Rattle.cert_form.specs.Lines.{FitNumbers, Fits, IsCertText, Kind, Line, after, body_plan, cert_plan, is_first_version, just_line, kind, lines, over, these, version_of}
+use Rattle.cert_form.specs.CertText.{line}
+use Rattle.cert_form.specs.Reading.{Reached}
+use Rattle.cert_form.proofs.Reading.{reached-start}
+use Rattle.cert_pieces.specs.declared.due.Due.{Due}
+use Rattle.cert_pieces.specs.declared.due.Due.TheVariants.{Version, Limits, Den, Value, Choice, Title, Entries, Without, PartChoice, Payments, Rows, Members, Multipliers, RowChoice, End, Nothing}
+use Rattle.cert_pieces.specs.declared.line.LinePart.{LinePart}
+use Rattle.cert_pieces.specs.declared.reader.Reader.{Reader}
+use Rattle.cert_pieces.specs.declared.stop.TextStop.{TextStop}
+use Rattle.cert_pieces.specs.declared.stop.TextStop.TheVariants.{Form, Range}
+use Rattle.cert_pieces.specs.Forms.{numbers_of, Keeps}
+use Rattle.cert_pieces.specs.LineParts.{IsPart, IsWholeLine, IsUnfit}
+use Rattle.cert_pieces.specs.Dues.{word_of, numbers_due, behind, plan_due, version_number, limits_plan, Follows, IsDue, IsKnown}
+use Rattle.cert_pieces.specs.Rooms.{form_due, start_due, segment}
+use Rattle.cert_pieces.specs.Stops.{SaysStop, StopsFor}
+use Rattle.cert_pieces.specs.Standing.{AllIn, Lead, IsReading, IsEnding, StandsBy, StandsFor}
+use Rattle.cert_pieces.proofs.Runs.{lines_join}
+use Rattle.cert_pieces.proofs.Places.{reached_more, reached_within, drop_more, line_unfit, line_done, line_out, line_unfinished, behind_last, all_there}
+
+all_push : (items : List Line) (l : Line) → AllIn items → over l ≡ false → AllIn (items ++ l ∷ [])
+all_push [] l all own = (own, tt)
+all_push (x ∷ items) l all own = (all.0, all_push items l all.1 own)
+
+-- the plan of the line that is due depends on the head's choice only behind it
+pub same_plan : (b s : ℕ) (x y : List ℤ) (due : Due) → (due ≢ Choice → x ≡ y) → plan_due b s x due ≡ plan_due b s y due
+same_plan b s x y Version same = ap (λ (l : List ℤ). plan_due b s l Version) (same (λ e. cc e))
+same_plan b s x y Limits same = ap (λ (l : List ℤ). plan_due b s l Limits) (same (λ e. cc e))
+same_plan b s x y Den same = ap (λ (l : List ℤ). plan_due b s l Den) (same (λ e. cc e))
+same_plan b s x y Value same = ap (λ (l : List ℤ). plan_due b s l Value) (same (λ e. cc e))
+same_plan b s x y Choice same = refl
+same_plan b s x y (Title table) same = ap (λ (l : List ℤ). plan_due b s l (Title table)) (same (λ e. cc e))
+same_plan b s x y (Entries table k) same = ap (λ (l : List ℤ). plan_due b s l (Entries table k)) (same (λ e. cc e))
+same_plan b s x y (Without j) same = ap (λ (l : List ℤ). plan_due b s l (Without j)) (same (λ e. cc e))
+same_plan b s x y (PartChoice j) same = ap (λ (l : List ℤ). plan_due b s l (PartChoice j)) (same (λ e. cc e))
+same_plan b s x y Payments same = ap (λ (l : List ℤ). plan_due b s l Payments) (same (λ e. cc e))
+same_plan b s x y Rows same = ap (λ (l : List ℤ). plan_due b s l Rows) (same (λ e. cc e))
+same_plan b s x y (Members r) same = ap (λ (l : List ℤ). plan_due b s l (Members r)) (same (λ e. cc e))
+same_plan b s x y (Multipliers r) same = ap (λ (l : List ℤ). plan_due b s l (Multipliers r)) (same (λ e. cc e))
+same_plan b s x y (RowChoice r) same = ap (λ (l : List ℤ). plan_due b s l (RowChoice r)) (same (λ e. cc e))
+same_plan b s x y End same = ap (λ (l : List ℤ). plan_due b s l End) (same (λ e. cc e))
+same_plan b s x y Nothing same = ap (λ (l : List ℤ). plan_due b s l Nothing) (same (λ e. cc e))
+
+pub plan_is : (b s : ℕ) (choice : List ℤ) (due : Due) → (due ≡ Nothing → ⊥) → plan_due b s choice due ≡ kind (word_of due) (numbers_due b s due) ∷ behind b s choice due
+plan_is b s choice Version some = refl
+plan_is b s choice Limits some = refl
+plan_is b s choice Den some = refl
+plan_is b s choice Value some = refl
+plan_is b s choice Choice some = refl
+plan_is b s choice (Title table) some = refl
+plan_is b s choice (Entries table k) some = refl
+plan_is b s choice (Without j) some = refl
+plan_is b s choice (PartChoice j) some = refl
+plan_is b s choice Payments some = refl
+plan_is b s choice Rows some = refl
+plan_is b s choice (Members r) some = refl
+plan_is b s choice (Multipliers r) some = refl
+plan_is b s choice (RowChoice r) some = refl
+plan_is b s choice End some = refl
+plan_is b s choice Nothing some = absurd (some refl)
+
+-- the numbers that the line may have are those of its kind
+pub to_due : (b s : ℕ) (due : Due) (ns : List ℤ) → FitNumbers (numbers_of (form_due b s due)) ns → FitNumbers (numbers_due b s due) ns
+to_due b s Version ns fit = fit
+to_due b s Limits ns fit = fit
+to_due b s Den ns fit = fit
+to_due b s Value ns fit = fit
+to_due b s Choice ns fit = fit
+to_due b s (Title table) ns fit = fit
+to_due b s (Entries table k) ns fit = fit
+to_due b s (Without j) ns fit = fit
+to_due b s (PartChoice j) ns fit = fit
+to_due b s Payments ns fit = fit
+to_due b s Rows ns fit = fit
+to_due b s (Members r) ns fit = fit
+to_due b s (Multipliers r) ns fit = fit
+to_due b s (RowChoice r) ns fit = fit
+to_due b s End ns fit = fit
+to_due b s Nothing ns fit = fit
+
+pub from_due : (b s : ℕ) (due : Due) (ns : List ℤ) → FitNumbers (numbers_due b s due) ns → FitNumbers (numbers_of (form_due b s due)) ns
+from_due b s Version ns fit = fit
+from_due b s Limits ns fit = fit
+from_due b s Den ns fit = fit
+from_due b s Value ns fit = fit
+from_due b s Choice ns fit = fit
+from_due b s (Title table) ns fit = fit
+from_due b s (Entries table k) ns fit = fit
+from_due b s (Without j) ns fit = fit
+from_due b s (PartChoice j) ns fit = fit
+from_due b s Payments ns fit = fit
+from_due b s Rows ns fit = fit
+from_due b s (Members r) ns fit = fit
+from_due b s (Multipliers r) ns fit = fit
+from_due b s (RowChoice r) ns fit = fit
+from_due b s End ns fit = fit
+from_due b s Nothing ns fit = fit
+
+module _ (b s : ℕ) (due : Due) (part : LinePart) (place read : ℕ) (room : List ℤ) (text : List ℕ) (items : List Line) (is : IsReading b s due part place read room text items) where
+  -- nothing is due, and more bytes come
+  pub more_behind : due ≡ Nothing → (c : ℕ) → StopsFor b s (text ++ c ∷ []) (Form place)
+  more_behind none c = behind_last b s text place items (subst (λ (d : Due). Reached b s text place (plan_due b s (take b room) d) items) none is.reached) (is.done none) c
+
+  module _ (some : due ≡ Nothing → ⊥) (more : List ℕ) (line : IsLine more) (now : LinePart) (grown : List ℤ) (same : due ≢ Choice → take b grown ≡ take b room) where
+    there : drop place (text ++ more) ≡ drop place text ++ more
+    there = drop_more place text more (reached_within b s text place (plan_due b s (take b room) due) items is.reached)
+
+    further : Reached b s (text ++ more) place (plan_due b s (take b room) due) items
+    further = reached_more b s text place (plan_due b s (take b room) due) items more is.reached
+
+    longer : IsLine (drop place (text ++ more))
+    longer = subst IsLine (sym there) (lines_join (drop place text) more is.line line)
+
+    planned : Reached b s (text ++ more) place (kind (word_of due) (numbers_due b s due) ∷ behind b s (take b room) due) items
+    planned = subst (λ (p : List Kind). Reached b s (text ++ more) place p items) (plan_is b s (take b room) due some) further
+
+    renewed : Reached b s (text ++ more) place (plan_due b s (take b grown) due) items
+    renewed = subst (λ (p : List Kind). Reached b s (text ++ more) place p items) (same_plan b s (take b room) (take b grown) due (λ other. sym (same other))) further
+
+    leading : Lead b s (plan_due b s (take b grown) due) items
+    leading rest f = is.leads rest (subst (λ (p : List Kind). ToEnd Fits after p rest) (same_plan b s (take b grown) (take b room) due same) f)
+
+    -- the line goes on
+    pub goes_on : (next : ℕ) → next ≡ read + length more → IsPart (word_of due) (form_due b s due) now (segment b s due grown) (drop place text ++ more) → IsReading b s due now place next grown (text ++ more) items
+    goes_on next long front = record {
+      reached = renewed;
+      leads = leading;
+      inside = is.inside;
+      named = is.named;
+      line = longer;
+      front = subst (IsPart (word_of due) (form_due b s due) now (segment b s due grown)) (sym there) front;
+      done = λ none. absurd (some none);
+      long = omega (arith, length-append text more, is.long, long);
+    }
+
+    -- it is none of its kind
+    pub goes_wrong : (c : ℕ) → IsUnfit (word_of due) (numbers_of (form_due b s due)) (drop place text ++ more) c → StopsFor b s ((text ++ more) ++ c ∷ []) (Form place)
+    goes_wrong c unfit =
+        line_unfit b s (text ++ more) place (word_of due) (numbers_due b s due) (behind b s (take b room) due) items planned longer c
+        (subst (λ (l : List ℕ). IsUnfit (word_of due) (numbers_due b s due) l c) (sym there)
+        (record { ended = λ e ns fit. unfit.ended e ns (from_due b s due ns fit); inside = λ e ns rest fit. unfit.inside e ns rest (from_due b s due ns fit) }))
+
+    -- it is whole
+    pub goes_whole : (next : ℕ) → next ≡ read + (length more + 1) → IsWholeLine (word_of due) (form_due b s due) now (segment b s due grown) (drop place text ++ more) → IsEnding b s due now place next grown (text ++ more) items
+    goes_whole next long whole = record {
+      reached = renewed;
+      leads = leading;
+      inside = is.inside;
+      named = is.named;
+      line = longer;
+      whole = subst (IsWholeLine (word_of due) (form_due b s due) now (segment b s due grown)) (sym there) whole;
+      some = some;
+      long = omega (arith, length-append text more, is.long, long);
+    }
+
+module _ (b s : ℕ) (due : Due) (part : LinePart) (place read : ℕ) (room : List ℤ) (text : List ℕ) (items : List Line) (is : IsEnding b s due part place read room text items) where
+  set_out : Reached b s text place (kind (word_of due) (numbers_due b s due) ∷ behind b s (take b room) due) items
+  set_out = subst (λ (p : List Kind). Reached b s text place p items) (plan_is b s (take b room) due is.some) is.reached
+
+  abbrev own : Line
+  own = line (word_of due) is.whole.numbers
+
+  -- a number is out of range
+  pub ends_out : part.beyond ≡ true → StopsFor b s (text ++ 10 ∷ []) (Range place)
+  ends_out out =
+      line_out b s text place (word_of due) (numbers_due b s due) (behind b s (take b room) due) items set_out is.line own
+      (record { word = refl; numbers = to_due b s due is.whole.numbers is.whole.fit }) is.whole.spelled (is.whole.keeps.range ∙ out)
+
+  -- the next line is due
+  pub ends_in : (next : Due) (now : LinePart) → part.beyond ≡ false → Follows b s (take b room) due is.whole.numbers next → IsDue b next → ((out : List ℤ) → IsPart (word_of next) (form_due b s next) now out []) → IsReading b s next now read read room (text ++ 10 ∷ []) (items ++ own ∷ [])
+  ends_in next now within follows named fresh =
+      let long : length (text ++ 10 ∷ []) ≡ read = omega (arith, length-append text (10 ∷ []), is.long) in
+      let none : drop read (text ++ 10 ∷ []) ≡ [] = drop_all read (text ++ 10 ∷ []) (omega (arith, long)) in
+      let done = line_done b s text place (word_of due) (numbers_due b s due) (behind b s (take b room) due) items set_out is.line own
+      (record { word = refl; numbers = to_due b s due is.whole.numbers is.whole.fit }) is.whole.spelled (is.whole.keeps.range ∙ within) in
+      record {
+        reached = subst (λ (p : ℕ). Reached b s (text ++ 10 ∷ []) p (plan_due b s (take b room) next) (items ++ own ∷ [])) (omega (arith, is.long))
+            (subst (λ (p : List Kind). Reached b s (text ++ 10 ∷ []) (length text + 1) p (items ++ own ∷ [])) follows done);
+        leads = λ rest f. subst (IsCertText b s) (sym (append_assoc items (own ∷ []) rest))
+            (is.leads (own ∷ rest) (subst (λ (p : List Kind). ToEnd Fits after p (own ∷ rest)) (sym (plan_is b s (take b room) due is.some))
+            (record { word = refl; numbers = to_due b s due is.whole.numbers is.whole.fit }, subst (λ (p : List Kind). ToEnd Fits after p rest) (sym follows) f)));
+        inside = all_push items own is.inside (is.whole.keeps.range ∙ within);
+        named = named;
+        line = subst IsLine (sym none) tt;
+        front = subst (IsPart (word_of next) (form_due b s next) now (segment b s next room)) (sym none) (fresh (segment b s next room));
+        done = λ e. none;
+        long = long;
+      }
+
+  -- what is known of the numbers behind the line
+  pub ends_known : (first : ℤ) → part.beyond ≡ false → get_or room (start_due b s due) (pos 0) ≡ first → IsKnown due is.whole.numbers (take b room) first
+  ends_known first within at = known due is.whole.numbers is.whole.fit is.whole.keeps at
+    where
+      twice : (n : ℕ) (xs : List ℤ) → take n (take n xs) ≡ take n xs
+      twice zero xs = refl
+      twice (suc n) [] = refl
+      twice (suc n) (x ∷ xs) = ap (λ (l : List ℤ). x ∷ l) (twice n xs)
+
+      first_is : (xs : List ℤ) (z : ℤ) → take 1 (take 1 xs) ≡ z ∷ [] → get_or xs 0 (pos 0) ≡ z
+      first_is [] z e = cc
+      first_is (x ∷ xs) z e = cc
+
+      at_drop : (n : ℕ) (xs : List ℤ) → get_or (drop n xs) 0 (pos 0) ≡ get_or xs n (pos 0)
+      at_drop zero xs = refl
+      at_drop (suc n) [] = refl
+      at_drop (suc n) (x ∷ xs) = at_drop n xs
+
+      known : (due : Due) (ns : List ℤ) → FitNumbers (numbers_of (form_due b s due)) ns → Keeps ns (segment b s due room) part.count part.beyond → get_or room (start_due b s due) (pos 0) ≡ first → IsKnown due ns (take b room) first
+      known Version ns fit keeps at = tt
+      known Limits ns fit keeps at = tt
+      known Den ns fit keeps at = tt
+      known Value ns fit keeps at = tt
+      known Choice ns fit keeps at =
+          let count : part.count ≡ b = omega (arith, keeps.many, fit.0) in
+          sym (twice b room) ∙ ap (λ (n : ℕ). take n (take b room)) (sym count) ∙ keeps.same within
+      known (Title table) ns fit keeps at = tt
+      known (Entries table k) ns fit keeps at = tt
+      known (Without j) ns fit keeps at = tt
+      known (PartChoice j) ns fit keeps at = tt
+      known Payments ns fit keeps at = tt
+      known Rows ns (r, e, few, some) keeps at =
+          let count : part.count ≡ 1 = omega (arith, keeps.many, ap length e) in
+          let front : take 1 (take 1 (drop b room)) ≡ pos r ∷ [] = ap (λ (n : ℕ). take n (take 1 (drop b room))) (sym count) ∙ keeps.same within ∙ e in
+          e ∙ ap (λ (z : ℤ). z ∷ []) (sym (first_is (drop b room) (pos r) front) ∙ at_drop b room ∙ at)
+      known (Members r) ns fit keeps at = tt
+      known (Multipliers r) ns fit keeps at = tt
+      known (RowChoice r) ns fit keeps at = tt
+      known End ns fit keeps at = tt
+      known Nothing ns fit keeps at = tt
+
+pub still_reading : (b s : ℕ) (due : Due) (part : LinePart) (place read : ℕ) (room : List ℤ) (text : List ℕ) (stop : Option TextStop) → stop ≡ None → StandsBy b s due part place read room text stop → (items : List Line) × IsReading b s due part place read room text items
+still_reading b s due part place read room text stop none is = subst (StandsBy b s due part place read room text) none is
+
+pub reads_on : (b s : ℕ) (due : Due) (part : LinePart) (place read : ℕ) (room : List ℤ) (text : List ℕ) (stop : Option TextStop) → stop ≡ None → (items : List Line) × IsReading b s due part place read room text items → StandsBy b s due part place read room text stop
+reads_on b s due part place read room text stop none is = subst (StandsBy b s due part place read room text) (sym none) is
+
+-- the lines of the version, by their plan
+version_due : (first : Bool) → map just_line (version_of first) ≡ kind (codes "cert") (these (pos (version_number first) ∷ [])) ∷ limits_plan first
+version_due true = refl
+version_due false = refl
+
+-- at first the whole plan is to come
+pub first_plan : (b s : ℕ) (choice : List ℤ) → plan_due b s choice Version ≡ cert_plan b s
+first_plan b s choice = sym (ap (λ (l : List Kind). l ++ body_plan b s) (version_due (is_first_version b s)))
+
+pub at_first : (b s : ℕ) (part : LinePart) (room : List ℤ) → ((out : List ℤ) → IsPart (word_of Version) (form_due b s Version) part out []) → IsReading b s Version part 0 0 room [] []
+at_first b s part room fresh = record {
+  reached = subst (λ (p : List Kind). Reached b s [] 0 p []) (sym (first_plan b s (take b room))) (reached-start b s []);
+  leads = λ rest f. subst (λ (p : List Kind). ToEnd Fits after p rest) (first_plan b s (take b room)) f;
+  inside = tt;
+  named = tt;
+  line = tt;
+  front = fresh (segment b s Version room);
+  done = λ e. cc e;
+  long = refl;
+}
+
+pub stands_more : (b s : ℕ) (text more : List ℕ) (stop : TextStop) → StopsFor b s text stop → StopsFor b s (text ++ more) stop
+stands_more b s text more stop is rest = subst (λ (l : List ℕ). SaysStop b s l stop) (sym (append_assoc text more rest)) (is (more ++ rest))
+
+pub says : (b s : ℕ) (text : List ℕ) (stop : TextStop) → StopsFor b s text stop → SaysStop b s text stop
+says b s text stop is = subst (λ (l : List ℕ). SaysStop b s l stop) (append-nil text) (is [])
+
+pub stopped : (b s : ℕ) (due : Due) (part : LinePart) (place read : ℕ) (room : List ℤ) (text : List ℕ) (o : Option TextStop) (stop : TextStop) → o ≡ Some stop → StandsBy b s due part place read room text o → SaysStop b s text stop
+stopped b s due part place read room text o stop some is = says b s text stop (subst (StandsBy b s due part place read room text) some is)
+
+-- a line is due still
+pub not_yet : (b s : ℕ) (due : Due) (part : LinePart) (place read : ℕ) (room : List ℤ) (text : List ℕ) (items : List Line) → IsReading b s due part place read room text items → (due ≡ Nothing → ⊥) → SaysStop b s text (Form place)
+not_yet b s due part place read room text items is some =
+    line_unfinished b s text place (word_of due) (numbers_due b s due) (behind b s (take b room) due) items (subst (λ (p : List Kind). Reached b s text place p items) (plan_is b s (take b room) due some) is.reached) is.line
+
+pub whole_text : (b s : ℕ) (due : Due) (part : LinePart) (place read : ℕ) (room : List ℤ) (text : List ℕ) (items : List Line) → IsReading b s due part place read room text items → due ≡ Nothing → IsTextOf (IsCertText b s) lines text items
+whole_text b s due part place read room text items is none = all_there b s text place items (subst (λ (d : Due). Reached b s text place (plan_due b s (take b room) d) items) none is.reached) (is.done none)
+
+-- a reader that has stopped stands for each longer text
+pub rest_on : (r : Reader) (room : List ℤ) (text piece : List ℕ) (at : ℕ) → (r.stop ≡ None → ⊥) → StandsFor r room (text ++ take at piece) → StandsFor r room (text ++ piece)
+rest_on r room text piece at some is = whole r.stop some is
+  where
+    joined : (text ++ take at piece) ++ drop at piece ≡ text ++ piece
+    joined = append_assoc text (take at piece) (drop at piece) ∙ ap (λ (l : List ℕ). text ++ l) (take-append-drop at piece)
+
+    whole : (o : Option TextStop) → (o ≡ None → ⊥) → StandsBy r.shape.bidders r.shape.states r.due r.part r.place r.read room (text ++ take at piece) o → StandsBy r.shape.bidders r.shape.states r.due r.part r.place r.read room (text ++ piece) o
+    whole None some is = absurd (some refl)
+    whole (Some stop) some is = subst (λ (l : List ℕ). StopsFor r.shape.bidders r.shape.states l stop) joined (stands_more r.shape.bidders r.shape.states (text ++ take at piece) (drop at piece) stop is)

@@ -1,0 +1,24 @@
+use Rattle.std.proofs.Common.{◌≡◌, subst, sym, rules, FitsSigned}
+use Rattle.std.specs.Prelude.{pos, ◌≤◌, ℕ}
+use Rattle.std.specs.Int.{w128}
+use Rattle.std.proofs.lemmas.Int.{to_z-of_z}
+use Rattle.cert_form.specs.Lines.{FitNumbers}
+use Rattle.cert_pieces.proofs.Plans.{rows_bidder}
+use Rattle.cert_pieces.specs.declared.due.Due.{Due}
+use Rattle.cert_pieces.specs.Dues.{Follows, numbers_due, IsKnown}
+use Rattle.cert_pieces.proofs.next.next.Goals as goal
+
+pub returns-in-Entries-clause-next : goal.returns-in-Entries-clause-next
+returns-in-Entries-clause-next c = λ ns fit known. subst (λ (d : Due). Follows c.args.shape.bidders c.args.shape.states c.args.choice.now d ns c.next_entries.result) (sym c.in-Entries.is) (c.next_entries.ensures.next ns)
+
+pub next_rows-requires : goal.next_rows-requires
+next_rows-requires c =
+    let b = c.args.shape.bidders in
+    let s = c.args.shape.states in
+    let (ns, fit, known) = c.requires.numbers in
+    let f : FitsSigned w128 c.args.first = search rules in
+    let count : (r : ℕ) → c.args.first ≡ pos r → r ≤ 10 → c.row_count.result ≡ r = simp to_z-of_z at c.row_count.ensures in
+    rows_bidder b c.args.shape.states ns c.args.choice.now c.args.first c.row_count.result (subst (λ (d : Due). FitNumbers (numbers_due b s d) ns) c.in-Rows.is fit) (subst (λ (d : Due). IsKnown d ns c.args.choice.now c.args.first) c.in-Rows.is known) count
+
+pub returns-in-Version-clause-next : goal.returns-in-Version-clause-next
+returns-in-Version-clause-next c = λ ns fit known. subst (λ (d : Due). Follows c.args.shape.bidders c.args.shape.states c.args.choice.now d ns c.next_version.result) (sym c.in-Version.is) (c.next_version.ensures.next c.args.choice.now ns)

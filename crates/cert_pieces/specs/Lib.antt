@@ -1,0 +1,10 @@
+pub mod Tallies
+pub mod Pieces
+pub mod Partway
+pub mod Forms
+pub mod LineParts
+pub mod Stops
+pub mod Dues
+pub mod Rooms
+pub mod Standing
+pub mod Advances

@@ -1,0 +1,58 @@
+-- For which text a reader stands.
+use Rattle.std.specs.Prelude.{◌≡◌, ℕ, ◌+◌, Option, Some, None, false, List, [], ◌∷◌, ◌++◌, length, take, drop, ℤ}
+use Rattle.line_text.specs.LineText.{IsLine}
+use Rattle.cert_form.specs.Plan.{Follows}
+use Rattle.cert_form.specs.Lines.{Line, Kind, Fits, after, over, IsCertText}
+use Rattle.cert_form.specs.Reading.{Reached}
+use Rattle.cert_pieces.specs.declared.due.Due.{Due}
+use Rattle.cert_pieces.specs.declared.due.Due.TheVariants.{Nothing}
+use Rattle.cert_pieces.specs.declared.line.LinePart.{LinePart}
+use Rattle.cert_pieces.specs.declared.stop.TextStop.{TextStop}
+use Rattle.cert_pieces.specs.declared.reader.Reader.{Reader}
+use Rattle.cert_pieces.specs.Dues.{word_of, plan_due, IsDue}
+use Rattle.cert_pieces.specs.LineParts.{IsPart, IsWholeLine}
+use Rattle.cert_pieces.specs.Rooms.{form_due, segment}
+use Rattle.cert_pieces.specs.Stops.{StopsFor}
+
+-- no line has a number out of range
+abbrev pub AllIn : List Line → Type 0
+AllIn [] = Unit {0}
+AllIn (l ∷ ls) = (over l ≡ false) × AllIn ls
+
+-- lines that follow this plan go on from these to the end of a certificate's text
+abbrev pub Lead : ℕ → ℕ → List Kind → List Line → Type 0
+Lead b s plan items = (more : List Line) → Follows Fits after plan more → IsCertText b s (items ++ more)
+
+-- The text's whole lines are the first lines of a certificate, and behind them this line is due, of which so much has come. The room
+-- begins with the head's choice, once that has come.
+pub record IsReading (b s : ℕ) (due : Due) (part : LinePart) (place read : ℕ) (room : List ℤ) (text : List ℕ) (items : List Line) : Type 0 where
+  pub reached : Reached b s text place (plan_due b s (take b room) due) items
+  pub leads : Lead b s (plan_due b s (take b room) due) items
+  pub inside : AllIn items
+  pub named : IsDue b due
+  pub line : IsLine (drop place text)
+  pub front : IsPart (word_of due) (form_due b s due) part (segment b s due room) (drop place text)
+  pub done : due ≡ Nothing → drop place text ≡ []
+  pub long : length text ≡ read
+
+-- the reader stopped, and would at each text that begins so; or it reads on
+abbrev pub StandsBy : ℕ → ℕ → Due → LinePart → ℕ → ℕ → List ℤ → List ℕ → Option TextStop → Type 0
+StandsBy b s due part place read room text (Some stop) = StopsFor b s text stop
+StandsBy b s due part place read room text None = (items : List Line) × IsReading b s due part place read room text items
+
+abbrev pub StandsFor : Reader → List ℤ → List ℕ → Type 0
+StandsFor r room text = StandsBy r.shape.bidders r.shape.states r.due r.part r.place r.read room text r.stop
+
+-- a line feed has made the line whole that was due
+pub record IsEnding (b s : ℕ) (due : Due) (part : LinePart) (place read : ℕ) (room : List ℤ) (text : List ℕ) (items : List Line) : Type 0 where
+  pub reached : Reached b s text place (plan_due b s (take b room) due) items
+  pub leads : Lead b s (plan_due b s (take b room) due) items
+  pub inside : AllIn items
+  pub named : IsDue b due
+  pub line : IsLine (drop place text)
+  pub whole : IsWholeLine (word_of due) (form_due b s due) part (segment b s due room) (drop place text)
+  pub some : due ≡ Nothing → ⊥
+  pub long : length text + 1 ≡ read
+
+abbrev pub Ends : Reader → List ℤ → List ℕ → Type 0
+Ends r room text = (items : List Line) × IsEnding r.shape.bidders r.shape.states r.due r.part r.place r.read room text items

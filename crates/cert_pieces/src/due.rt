@@ -1,0 +1,61 @@
+// Which line of a certificate is to come.
+ghost use Rattle.std.specs.Prelude.{◌≡◌};
+ghost use Rattle.cert_form.specs.Lines.{is_first_version};
+
+use cert_text::Shape;
+use limits::{FIRST_VERSION_BIDDERS, FIRST_VERSION_STATES};
+
+/// One of the tables of a certificate.
+#[derive(Clone, Copy, Debug, PartialEq, Eq)]
+pub enum Table {
+    /// That of the winning choice.
+    Head,
+    /// That without this winner.
+    Part(u16),
+    /// That of the lowered worths.
+    Lowered,
+}
+
+/// The line that is to come.
+#[derive(Clone, Copy, Debug, PartialEq, Eq)]
+pub enum Due {
+    /// The number of the version.
+    Version,
+    /// How many bidders and states there may be, in the second version alone.
+    Limits,
+    /// The denominator.
+    Den,
+    /// The value of the head's choice.
+    Value,
+    /// The head's choice.
+    Choice,
+    /// The line before a table.
+    Title(Table),
+    /// A line of a table, behind so many.
+    Entries(Table, u16),
+    /// The first line of the part without this winner.
+    Without(u16),
+    /// The choice without this winner.
+    PartChoice(u16),
+    /// The payments.
+    Payments,
+    /// How many rows there are.
+    Rows,
+    /// The members of a row. So many rows are to come, with this one.
+    Members(u16),
+    /// The two multipliers of a row.
+    Multipliers(u16),
+    /// The choice that gives the bound of a row.
+    RowChoice(u16),
+    /// The last line.
+    End,
+    /// No line is to come.
+    Nothing,
+}
+
+/// Whether the text of a certificate of this shape is of the first version.
+pub(crate) fn has_first_version(shape: Shape) -> bool
+    ensures { result ≡ is_first_version shape.bidders shape.states }
+{
+    shape.bidders as usize <= FIRST_VERSION_BIDDERS && shape.states as u64 <= FIRST_VERSION_STATES
+}

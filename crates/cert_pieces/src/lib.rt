@@ -1,0 +1,19 @@
+//! A certificate from pieces of its text: line by line and number by number, without holding it, and without memory.
+//!
+//! A `Reader` keeps where it stands. What it keeps of the numbers stands in a room that the caller hands in, a slice of
+//! `room_len` numbers. However a text is cut into pieces, the reader then stands for the text.
+#![tactic(auto)]
+
+mod due;
+mod line;
+mod next;
+mod reader;
+mod room;
+mod stop;
+#[cfg(test)]
+mod tests;
+
+pub use due::{Due, Table};
+pub use reader::{Progress, Reader};
+pub use room::room_len;
+pub use stop::TextStop;

@@ -1,0 +1,116 @@
+// Which line comes behind a line.
+ghost use Rattle.std.specs.Prelude.{◌≡◌, ◌≤◌, ◌<◌, ℕ, List, [], ◌∷◌, ◌++◌, length, ℤ, pos, IsTrue, ◌↔◌};
+ghost use Rattle.cert_form.specs.Lines.{rows_plan, FitNumbers};
+ghost use Rattle.cert_pieces.specs.Dues.{Follows, IsDue, IsKnown, numbers_due, plan_due, from_part, behind_table, closing, IsTableOf};
+
+use crate::due::{Due, Table, has_first_version};
+use cert_text::Shape;
+
+/// The line behind one of the line that was due, for the head's choice and the first of the line's numbers.
+pub fn next(due: Due, shape: Shape, choice: &[i128], first: i128) -> Due
+    requires choice { length choice.now ≡ shape.bidders }
+    requires due { IsDue shape.bidders due }
+    requires numbers { (ns : List ℤ) × FitNumbers (numbers_due shape.bidders shape.states due) ns × IsKnown due ns choice.now first }
+    ensures next { (ns : List ℤ) → FitNumbers (numbers_due shape.bidders shape.states due) ns → IsKnown due ns choice.now first → Follows shape.bidders shape.states choice.now due ns result }
+    ensures due { IsDue shape.bidders result }
+{
+    match due {
+        Due::Version => next_version(shape),
+        Due::Limits => Due::Den,
+        Due::Den => Due::Value,
+        Due::Value => Due::Choice,
+        Due::Choice => Due::Title(Table::Head),
+        Due::Title(table) => Due::Entries(table, 0),
+        Due::Entries(table, k) => next_entries(shape, choice, table, k),
+        Due::Without(j) => Due::PartChoice(j),
+        Due::PartChoice(j) => Due::Title(Table::Part(j)),
+        Due::Payments => Due::Rows,
+        Due::Rows => next_rows(shape, choice, row_count(first)),
+        Due::Members(left) => Due::Multipliers(left),
+        Due::Multipliers(left) => Due::RowChoice(left),
+        Due::RowChoice(left) => next_rows(shape, choice, left - 1),
+        Due::End => Due::Nothing,
+        Due::Nothing => Due::Nothing,
+    }
+}
+
+/// Behind the version its limits are due, or else the denominator.
+fn next_version(shape: Shape) -> Due
+    ensures next { (choice ns : List ℤ) → Follows shape.bidders shape.states choice Due.Version ns result }
+    ensures due { IsDue shape.bidders result }
+{
+    if has_first_version(shape) {
+        Due::Den
+    } else {
+        Due::Limits
+    }
+}
+
+/// A count of at most ten.
+fn row_count(number: i128) -> u16
+    ensures { (r : ℕ) → number ≡ pos r → r ≤ 10 → result ≡ r }
+{
+    if number < 0 || number > 10 {
+        0
+    } else {
+        number as u16
+    }
+}
+
+fn next_entries(shape: Shape, choice: &[i128], table: Table, k: u16) -> Due
+    requires choice { length choice.now ≡ shape.bidders }
+    requires table { IsTableOf shape.bidders table }
+    ensures next { (ns : List ℤ) → Follows shape.bidders shape.states choice.now (Due.Entries table k) ns result }
+    ensures due { IsDue shape.bidders result }
+{
+    if k < shape.bidders {
+        return Due::Entries(table, k + 1);
+    }
+    behind_table_line(shape, choice, table)
+}
+
+/// The first line behind the parts of the first `from` bidders: that of the next part, or the payments.
+pub fn next_part(shape: Shape, choice: &[i128], from: u16) -> Due
+    requires from { from ≤ shape.bidders }
+    requires choice { length choice.now ≡ shape.bidders }
+    ensures plan { from_part shape.bidders shape.states choice.now from ≡ plan_due shape.bidders shape.states choice.now result }
+    ensures due { IsDue shape.bidders result }
+{
+    for k in from..shape.bidders {
+        if !is_zero(choice[k as usize]) {
+            return Due::Without(k + 1);
+        }
+    }
+    Due::Payments
+}
+
+fn is_zero(number: i128) -> bool
+    ensures { IsTrue result ↔ (number ≡ pos 0) }
+{
+    number == 0
+}
+
+fn behind_table_line(shape: Shape, choice: &[i128], table: Table) -> Due
+    requires choice { length choice.now ≡ shape.bidders }
+    requires table { IsTableOf shape.bidders table }
+    ensures plan { behind_table shape.bidders shape.states choice.now table ≡ plan_due shape.bidders shape.states choice.now result }
+    ensures due { IsDue shape.bidders result }
+{
+    match table {
+        Table::Head => next_part(shape, choice, 0),
+        Table::Part(j) => next_part(shape, choice, j),
+        Table::Lowered => Due::End,
+    }
+}
+
+fn next_rows(shape: Shape, choice: &[i128], left: u16) -> Due
+    requires { 0 < left → 0 < shape.bidders }
+    ensures plan { rows_plan shape.bidders left ++ closing shape.bidders shape.states ≡ plan_due shape.bidders shape.states choice.now result }
+    ensures due { IsDue shape.bidders result }
+{
+    if left == 0 {
+        Due::Title(Table::Lowered)
+    } else {
+        Due::Members(left)
+    }
+}

@@ -1,0 +1,127 @@
+use crate::{Reader, TextStop, room_len};
+use cert_text::{CertStop, Shape, read_cert};
+use std::alloc::{AllocError, Global};
+use std::process::Abort;
+
+/// A certificate for five bidders and four states: 476 bytes, of which the last line has 4.
+const SAMPLE: &str = "cert 1\nden 1\nvalue 48\nchoice 1 1 0 0 0\ntable\n\
+    t 0 20 28 48\nt 0 20 14 34\nt 0 12 14 32\nt 0 12 14 26\nt 0 12 0 12\nt 0 0 0 0\n\
+    without 1\nchoice 0 1 0 1 0\ntable\n\
+    t 0 20 14 34\nt 0 20 14 34\nt 0 12 14 32\nt 0 12 14 26\nt 0 12 0 12\nt 0 0 0 0\n\
+    without 2\nchoice 1 0 0 0 1\ntable\n\
+    t 0 12 28 40\nt 0 12 14 32\nt 0 12 14 32\nt 0 12 14 26\nt 0 12 0 12\nt 0 0 0 0\n\
+    pay 17 15 0 0 0\nrows 1\nrow 1 2\nmult 1 3\nchoice 0 0 1 0 0\nlowered\n\
+    t 0 15 17 32\nt 0 15 14 32\nt 0 12 14 32\nt 0 12 14 26\nt 0 12 0 12\nt 0 0 0 0\nend\n";
+
+/// How many bidders and states the sample is for.
+const SAMPLE_SHAPE: Shape = Shape {
+    bidders: 5,
+    states: 4,
+};
+
+/// One bidder more than a text of the first version may have.
+const THIRTEEN: Shape = Shape {
+    bidders: 13,
+    states: 1,
+};
+
+// What a reader says of a text that is fed in pieces of this size.
+fn in_pieces(
+    alloc: Global,
+    shape: Shape,
+    text: &[u8],
+    size: usize,
+) -> Result<Result<(), TextStop>, AllocError> {
+    let mut room = vec![in alloc; 0i128; room_len(shape)]?;
+    let mut reader = Reader::start(shape);
+    let mut at = 0;
+    while at < text.len() {
+        let end = text.len().min(at + size);
+        reader.feed(&mut room, &text[at..end]);
+        at = end;
+    }
+    Ok(reader.finish())
+}
+
+// What the reader of whole texts says.
+fn at_once(alloc: Global, shape: Shape, text: &[u8]) -> Result<Result<(), TextStop>, AllocError> {
+    match read_cert(alloc, text, shape) {
+        Ok(_) => Ok(Ok(())),
+        Err(CertStop::Form(place)) => Ok(Err(TextStop::Form(place))),
+        Err(CertStop::Range(place)) => Ok(Err(TextStop::Range(place))),
+        Err(CertStop::Memory) => Err(AllocError),
+    }
+}
+
+// Asserts that both readers say this of a text.
+fn says(
+    rt: HostRuntime,
+    shape: Shape,
+    text: &[u8],
+    size: usize,
+    told: Result<(), TextStop>,
+) -> Result<(), AllocError> {
+    assert_eq!(rt; in_pieces(rt.alloc(), shape, text, size)?, told);
+    assert_eq!(rt; at_once(rt.alloc(), shape, text)?, told);
+    Ok(())
+}
+
+#[test]
+fn reads_a_certificate_in_pieces(rt: HostRuntime) -> Result<(), AllocError> {
+    for size in [1usize, 7, 476] {
+        says(rt, SAMPLE_SHAPE, SAMPLE.as_bytes(), size, Ok(()))?;
+    }
+    Ok(())
+}
+
+#[test]
+fn tells_the_line_that_holds_the_cut(rt: HostRuntime) -> Result<(), AllocError> {
+    let cuts = [
+        (0usize, 0u64),
+        (6, 0),
+        (7, 7),
+        (20, 13),
+        (38, 22),
+        (472, 472),
+        (475, 472),
+    ];
+    for (len, place) in cuts {
+        let front = &SAMPLE.as_bytes()[..len];
+        says(rt, SAMPLE_SHAPE, front, 7, Err(TextStop::Form(place)))?;
+    }
+    Ok(())
+}
+
+#[test]
+fn tells_a_form_from_a_range(rt: HostRuntime) -> Result<(), AllocError> {
+    let cases: &[(&str, TextStop)] = &[
+        (
+            "cert 1\nden 1329227995784915872903807060280344576\n",
+            TextStop::Range(7),
+        ),
+        (
+            "cert 1\nden 1329227995784915872903807060280344576x\n",
+            TextStop::Form(7),
+        ),
+        ("cert 1\nden -0\n", TextStop::Form(7)),
+        ("cert 1\nden 01\n", TextStop::Form(7)),
+        ("cert 2\nlimits 16 16384\n", TextStop::Form(0)),
+    ];
+    for (text, stop) in cases {
+        says(rt, SAMPLE_SHAPE, text.as_bytes(), 5, Err(*stop))?;
+    }
+    Ok(())
+}
+
+#[test]
+fn reads_the_head_of_the_second_version(rt: HostRuntime) -> Result<(), AllocError> {
+    let cases: &[(&str, TextStop)] = &[
+        ("cert 2\nlimits 16 16384\nden 1\n", TextStop::Form(29)),
+        ("cert 2\nlimits 16 16385\nden 1\n", TextStop::Form(7)),
+        ("cert 1\nden 1\n", TextStop::Form(0)),
+    ];
+    for (text, stop) in cases {
+        says(rt, THIRTEEN, text.as_bytes(), 3, Err(*stop))?;
+    }
+    Ok(())
+}
