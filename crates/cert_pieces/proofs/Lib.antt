@@ -9,3 +9,5 @@ pub mod Segments
 pub mod Standing
 pub mod CertOf
 pub mod Stated
+pub mod Comings
+pub mod Fills

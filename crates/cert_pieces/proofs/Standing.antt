@@ -19,7 +19,7 @@ use Rattle.cert_pieces.specs.LineParts.{IsPart, IsWholeLine, IsUnfit}
 use Rattle.cert_pieces.specs.Dues.{word_of, numbers_due, behind, plan_due, version_number, limits_plan, Follows, IsDue, IsKnown}
 use Rattle.cert_pieces.specs.Rooms.{form_due, start_due, segment}
 use Rattle.cert_pieces.specs.Stops.{SaysStop, StopsFor}
-use Rattle.cert_pieces.specs.Standing.{AllIn, Lead, IsReading, IsEnding, StandsBy, StandsFor}
+use Rattle.cert_pieces.specs.Standing.{AllIn, Lead, IsReading, IsEnding, ReadsBehind, StandsBehind}
 use Rattle.cert_pieces.proofs.Runs.{lines_join}
 use Rattle.cert_pieces.proofs.Places.{reached_more, reached_within, drop_more, line_unfit, line_done, line_out, line_unfinished, behind_last, all_there}
 
@@ -233,11 +233,11 @@ module _ (b s : ℕ) (due : Due) (part : LinePart) (place read : ℕ) (room : Li
       known End ns fit keeps at = tt
       known Nothing ns fit keeps at = tt
 
-pub still_reading : (b s : ℕ) (due : Due) (part : LinePart) (place read : ℕ) (room : List ℤ) (text : List ℕ) (stop : Option TextStop) → stop ≡ None → StandsBy b s due part place read room text stop → (items : List Line) × IsReading b s due part place read room text items
-still_reading b s due part place read room text stop none is = subst (StandsBy b s due part place read room text) none is
+pub still_reading : (b s : ℕ) (due : Due) (part : LinePart) (place read : ℕ) (room : List ℤ) (text : List ℕ) (items : List Line) (stop : Option TextStop) → stop ≡ None → ReadsBehind b s due part place read room text items stop → IsReading b s due part place read room text items
+still_reading b s due part place read room text items stop none is = subst (ReadsBehind b s due part place read room text items) none is
 
-pub reads_on : (b s : ℕ) (due : Due) (part : LinePart) (place read : ℕ) (room : List ℤ) (text : List ℕ) (stop : Option TextStop) → stop ≡ None → (items : List Line) × IsReading b s due part place read room text items → StandsBy b s due part place read room text stop
-reads_on b s due part place read room text stop none is = subst (StandsBy b s due part place read room text) (sym none) is
+pub reads_on : (b s : ℕ) (due : Due) (part : LinePart) (place read : ℕ) (room : List ℤ) (text : List ℕ) (items : List Line) (stop : Option TextStop) → stop ≡ None → IsReading b s due part place read room text items → ReadsBehind b s due part place read room text items stop
+reads_on b s due part place read room text items stop none is = subst (ReadsBehind b s due part place read room text items) (sym none) is
 
 -- the lines of the version, by their plan
 version_due : (first : Bool) → map just_line (version_of first) ≡ kind (codes "cert") (these (pos (version_number first) ∷ [])) ∷ limits_plan first
@@ -266,8 +266,8 @@ stands_more b s text more stop is rest = subst (λ (l : List ℕ). SaysStop b s 
 pub says : (b s : ℕ) (text : List ℕ) (stop : TextStop) → StopsFor b s text stop → SaysStop b s text stop
 says b s text stop is = subst (λ (l : List ℕ). SaysStop b s l stop) (append-nil text) (is [])
 
-pub stopped : (b s : ℕ) (due : Due) (part : LinePart) (place read : ℕ) (room : List ℤ) (text : List ℕ) (o : Option TextStop) (stop : TextStop) → o ≡ Some stop → StandsBy b s due part place read room text o → SaysStop b s text stop
-stopped b s due part place read room text o stop some is = says b s text stop (subst (StandsBy b s due part place read room text) some is)
+pub stopped : (b s : ℕ) (due : Due) (part : LinePart) (place read : ℕ) (room : List ℤ) (text : List ℕ) (items : List Line) (o : Option TextStop) (stop : TextStop) → o ≡ Some stop → ReadsBehind b s due part place read room text items o → SaysStop b s text stop
+stopped b s due part place read room text items o stop some is = says b s text stop (subst (ReadsBehind b s due part place read room text items) some is)
 
 -- a line is due still
 pub not_yet : (b s : ℕ) (due : Due) (part : LinePart) (place read : ℕ) (room : List ℤ) (text : List ℕ) (items : List Line) → IsReading b s due part place read room text items → (due ≡ Nothing → ⊥) → SaysStop b s text (Form place)
@@ -278,12 +278,12 @@ pub whole_text : (b s : ℕ) (due : Due) (part : LinePart) (place read : ℕ) (r
 whole_text b s due part place read room text items is none = all_there b s text place items (subst (λ (d : Due). Reached b s text place (plan_due b s (take b room) d) items) none is.reached) (is.done none)
 
 -- a reader that has stopped stands for each longer text
-pub rest_on : (r : Reader) (room : List ℤ) (text piece : List ℕ) (at : ℕ) → (r.stop ≡ None → ⊥) → StandsFor r room (text ++ take at piece) → StandsFor r room (text ++ piece)
-rest_on r room text piece at some is = whole r.stop some is
+pub rest_on : (r : Reader) (room : List ℤ) (text piece : List ℕ) (items : List Line) (at : ℕ) → (r.stop ≡ None → ⊥) → StandsBehind r room (text ++ take at piece) items → StandsBehind r room (text ++ piece) items
+rest_on r room text piece items at some is = whole r.stop some is
   where
     joined : (text ++ take at piece) ++ drop at piece ≡ text ++ piece
     joined = append_assoc text (take at piece) (drop at piece) ∙ ap (λ (l : List ℕ). text ++ l) (take-append-drop at piece)
 
-    whole : (o : Option TextStop) → (o ≡ None → ⊥) → StandsBy r.shape.bidders r.shape.states r.due r.part r.place r.read room (text ++ take at piece) o → StandsBy r.shape.bidders r.shape.states r.due r.part r.place r.read room (text ++ piece) o
+    whole : (o : Option TextStop) → (o ≡ None → ⊥) → ReadsBehind r.shape.bidders r.shape.states r.due r.part r.place r.read room (text ++ take at piece) items o → ReadsBehind r.shape.bidders r.shape.states r.due r.part r.place r.read room (text ++ piece) items o
     whole None some is = absurd (some refl)
     whole (Some stop) some is = subst (λ (l : List ℕ). StopsFor r.shape.bidders r.shape.states l stop) joined (stands_more r.shape.bidders r.shape.states (text ++ take at piece) (drop at piece) stop is)

@@ -1,7 +1,8 @@
 -- The plan of a certificate's lines, by the line that is to come.
 use Rattle.std.specs.Prelude.{◌≡◌, ℕ, suc, ◌-◌, ◌<◌, ◌≤◌, Bool, true, false, List, [], ◌∷◌, ◌++◌, codes, drop, replicate, ℤ, pos}
 use Rattle.limits.specs.declared.TheConstants.{MOST_BIDDERS, MOST_STATES}
-use Rattle.cert_form.specs.Lines.{Kind, Numbers, kind, these, signed, chosen, headed, counted, members, table_plan, parts_plan, rows_plan, after_numbers, is_first_version}
+use Rattle.cert_form.specs.CertText.{line}
+use Rattle.cert_form.specs.Lines.{Line, Kind, Numbers, kind, these, signed, chosen, headed, counted, members, table_plan, parts_plan, rows_plan, after_numbers, is_first_version}
 use Rattle.cert_pieces.specs.declared.due.Due.{Due}
 use Rattle.cert_pieces.specs.declared.due.Due.TheVariants.{Version, Limits, Den, Value, Choice, Title, Entries, Without, PartChoice, Payments, Rows, Members, Multipliers, RowChoice, End, Nothing}
 use Rattle.cert_pieces.specs.declared.due.Table.{Table}
@@ -59,6 +60,10 @@ numbers_due bidders states Nothing = these []
 -- the line's kind
 abbrev pub kind_due : ℕ → ℕ → Due → Kind
 kind_due bidders states due = kind (word_of due) (numbers_due bidders states due)
+
+-- a line with these numbers
+abbrev pub line_with : Due → List ℤ → Line
+line_with due numbers = line (word_of due) numbers
 
 -- what comes behind the rows
 abbrev pub closing : ℕ → ℕ → List Kind

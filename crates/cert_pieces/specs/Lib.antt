@@ -8,3 +8,4 @@ pub mod Dues
 pub mod Rooms
 pub mod Standing
 pub mod Advances
+pub mod LinesLeft

@@ -35,13 +35,17 @@ pub record IsReading (b s : ℕ) (due : Due) (part : LinePart) (place read : ℕ
   pub done : due ≡ Nothing → drop place text ≡ []
   pub long : length text ≡ read
 
--- the reader stopped, and would at each text that begins so; or it reads on
-abbrev pub StandsBy : ℕ → ℕ → Due → LinePart → ℕ → ℕ → List ℤ → List ℕ → Option TextStop → Type 0
-StandsBy b s due part place read room text (Some stop) = StopsFor b s text stop
-StandsBy b s due part place read room text None = (items : List Line) × IsReading b s due part place read room text items
+-- The reader reads on behind these lines; or it has stopped, and would at each text that begins so.
+abbrev pub ReadsBehind : ℕ → ℕ → Due → LinePart → ℕ → ℕ → List ℤ → List ℕ → List Line → Option TextStop → Type 0
+ReadsBehind b s due part place read room text items (Some stop) = StopsFor b s text stop
+ReadsBehind b s due part place read room text items None = IsReading b s due part place read room text items
 
+abbrev pub StandsBehind : Reader → List ℤ → List ℕ → List Line → Type 0
+StandsBehind r room text items = ReadsBehind r.shape.bidders r.shape.states r.due r.part r.place r.read room text items r.stop
+
+-- with its room the reader stands for this text
 abbrev pub StandsFor : Reader → List ℤ → List ℕ → Type 0
-StandsFor r room text = StandsBy r.shape.bidders r.shape.states r.due r.part r.place r.read room text r.stop
+StandsFor r room text = (items : List Line) × StandsBehind r room text items
 
 -- a line feed has made the line whole that was due
 pub record IsEnding (b s : ℕ) (due : Due) (part : LinePart) (place read : ℕ) (room : List ℤ) (text : List ℕ) (items : List Line) : Type 0 where
@@ -54,5 +58,5 @@ pub record IsEnding (b s : ℕ) (due : Due) (part : LinePart) (place read : ℕ)
   pub some : due ≡ Nothing → ⊥
   pub long : length text + 1 ≡ read
 
-abbrev pub Ends : Reader → List ℤ → List ℕ → Type 0
-Ends r room text = (items : List Line) × IsEnding r.shape.bidders r.shape.states r.due r.part r.place r.read room text items
+abbrev pub EndsBehind : Reader → List ℤ → List ℕ → List Line → Type 0
+EndsBehind r room text items = IsEnding r.shape.bidders r.shape.states r.due r.part r.place r.read room text items

@@ -1,6 +1,9 @@
 // Which line comes behind a line.
 ghost use Rattle.std.specs.Prelude.{◌≡◌, ◌≤◌, ◌<◌, ℕ, List, [], ◌∷◌, ◌++◌, length, ℤ, pos, IsTrue, ◌↔◌};
+ghost use Rattle.cert_form.specs.Certificate.{CertValue};
+ghost use Rattle.cert_form.specs.CertText.{as_numbers, IsCertificate};
 ghost use Rattle.cert_form.specs.Lines.{rows_plan, FitNumbers};
+ghost use Rattle.cert_pieces.specs.LinesLeft.{lines_left, parts_left, table_left, rows_left, HasPart, HasDue, Tells, ComesNext};
 ghost use Rattle.cert_pieces.specs.Dues.{Follows, IsDue, IsKnown, numbers_due, plan_due, from_part, behind_table, closing, IsTableOf};
 
 use crate::due::{Due, Table, has_first_version};
@@ -13,6 +16,7 @@ pub fn next(due: Due, shape: Shape, choice: &[i128], first: i128) -> Due
     requires numbers { (ns : List ℤ) × FitNumbers (numbers_due shape.bidders shape.states due) ns × IsKnown due ns choice.now first }
     ensures next { (ns : List ℤ) → FitNumbers (numbers_due shape.bidders shape.states due) ns → IsKnown due ns choice.now first → Follows shape.bidders shape.states choice.now due ns result }
     ensures due { IsDue shape.bidders result }
+    ensures left { (due ≡ Due.Nothing → ⊥) → (c : CertValue) → IsCertificate shape.bidders shape.states c → Tells c due choice.now first → HasDue shape.bidders shape.states c due → ComesNext shape.bidders shape.states c due result }
 {
     match due {
         Due::Version => next_version(shape),
@@ -38,6 +42,7 @@ pub fn next(due: Due, shape: Shape, choice: &[i128], first: i128) -> Due
 fn next_version(shape: Shape) -> Due
     ensures next { (choice ns : List ℤ) → Follows shape.bidders shape.states choice Due.Version ns result }
     ensures due { IsDue shape.bidders result }
+    ensures left { (c : CertValue) → IsCertificate shape.bidders shape.states c → ComesNext shape.bidders shape.states c Due.Version result }
 {
     if has_first_version(shape) {
         Due::Den
@@ -60,8 +65,10 @@ fn row_count(number: i128) -> u16
 fn next_entries(shape: Shape, choice: &[i128], table: Table, k: u16) -> Due
     requires choice { length choice.now ≡ shape.bidders }
     requires table { IsTableOf shape.bidders table }
+    requires lines { k ≤ shape.bidders }
     ensures next { (ns : List ℤ) → Follows shape.bidders shape.states choice.now (Due.Entries table k) ns result }
     ensures due { IsDue shape.bidders result }
+    ensures left { (c : CertValue) → IsCertificate shape.bidders shape.states c → choice.now ≡ as_numbers c.choice → HasPart shape.bidders shape.states c table → ComesNext shape.bidders shape.states c (Due.Entries table k) result }
 {
     if k < shape.bidders {
         return Due::Entries(table, k + 1);
@@ -75,6 +82,7 @@ pub fn next_part(shape: Shape, choice: &[i128], from: u16) -> Due
     requires choice { length choice.now ≡ shape.bidders }
     ensures plan { from_part shape.bidders shape.states choice.now from ≡ plan_due shape.bidders shape.states choice.now result }
     ensures due { IsDue shape.bidders result }
+    ensures left { (c : CertValue) → IsCertificate shape.bidders shape.states c → choice.now ≡ as_numbers c.choice → (parts_left c from ≡ lines_left shape.bidders shape.states c result) × HasDue shape.bidders shape.states c result }
 {
     for k in from..shape.bidders {
         if !is_zero(choice[k as usize]) {
@@ -95,6 +103,7 @@ fn behind_table_line(shape: Shape, choice: &[i128], table: Table) -> Due
     requires table { IsTableOf shape.bidders table }
     ensures plan { behind_table shape.bidders shape.states choice.now table ≡ plan_due shape.bidders shape.states choice.now result }
     ensures due { IsDue shape.bidders result }
+    ensures left { (c : CertValue) → IsCertificate shape.bidders shape.states c → choice.now ≡ as_numbers c.choice → (table_left c table ≡ lines_left shape.bidders shape.states c result) × HasDue shape.bidders shape.states c result }
 {
     match table {
         Table::Head => next_part(shape, choice, 0),
@@ -107,6 +116,7 @@ fn next_rows(shape: Shape, choice: &[i128], left: u16) -> Due
     requires { 0 < left → 0 < shape.bidders }
     ensures plan { rows_plan shape.bidders left ++ closing shape.bidders shape.states ≡ plan_due shape.bidders shape.states choice.now result }
     ensures due { IsDue shape.bidders result }
+    ensures left { (c : CertValue) → IsCertificate shape.bidders shape.states c → left ≤ length c.rows → (rows_left c left ≡ lines_left shape.bidders shape.states c result) × HasDue shape.bidders shape.states c result }
 {
     if left == 0 {
         Due::Title(Table::Lowered)

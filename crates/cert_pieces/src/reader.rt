@@ -1,8 +1,12 @@
 // The lines of a certificate from pieces of bytes.
-ghost use Rattle.std.specs.Prelude.{◌≡◌, ◌≤◌, ◌<◌, ◌+◌, ◌^◌, ℕ, List, [], ◌∷◌, ◌++◌, length, take, drop, Option, Some, None, OnOk, IfErr, ℤ, ◌-◌, ◌≢◌, IsTrue};
+ghost use Rattle.std.specs.Prelude.{◌≡◌, ◌≤◌, ◌<◌, ◌+◌, ◌^◌, ℕ, List, [], ◌∷◌, ◌++◌, length, take, drop, get_or, pos, Option, Some, None, OnOk, IfErr, ℤ, ◌-◌, ◌≢◌, IsTrue};
 ghost use Rattle.line_text.specs.LineText.{stated};
 ghost use Rattle.cert_form.specs.Certificate.{CertValue};
+ghost use Rattle.cert_form.specs.CertText.{IsCertificate};
+ghost use Rattle.cert_form.specs.Lines.{Line};
 ghost use Rattle.cert_form.specs.Says.{CertSays};
+ghost use Rattle.cert_pieces.specs.Dues.{line_with};
+ghost use Rattle.cert_pieces.specs.LinesLeft.{Tells, HasDue, ComesNext};
 ghost use Rattle.cert_pieces.specs.Pieces.{between};
 ghost use Rattle.cert_pieces.specs.Forms.{room_for};
 ghost use Rattle.cert_pieces.specs.Rooms.{room_size, form_due, start_due};
@@ -43,7 +47,7 @@ pub enum Progress {
 }
 
 impl Reader {
-    ghost use Rattle.cert_pieces.specs.Standing.{StandsFor, Ends};
+    ghost use Rattle.cert_pieces.specs.Standing.{StandsFor, StandsBehind, EndsBehind};
 
     /// A reader to which nothing was fed. It leaves the room as it is.
     pub fn start(shape: Shape) -> Reader
@@ -122,7 +126,7 @@ impl Reader {
         requires stands { (text : List ℕ) × StandsFor self.old room.old text × (length text + length piece.now < at + 2 ^ 40) }
         requires reading { self.old.stop ≡ None }
         requires at { at < length piece.now }
-        ensures advances { (text : List ℕ) → StandsFor self.old room.old text → Advances self.new room.new text piece.now at result }
+        ensures advances { (text : List ℕ) (items : List Line) → StandsBehind self.old room.old text items → Advances self.new room.new text items piece.now at result }
         ensures within { IsWithin at (length piece.now) result }
         ensures reading { (end : ℕ) → result ≡ Progress.Ended end → self.new.stop ≡ None }
         ensures shape { self.new.shape ≡ self.old.shape }
@@ -156,9 +160,10 @@ impl Reader {
     /// Goes on behind a whole line, whose line feed came.
     pub fn end_line(&mut self, room: &[i128])
         requires room { length room.now ≡ room_size self.old.shape.bidders self.old.shape.states }
-        requires ends { (text : List ℕ) × Ends self.old room.now text }
+        requires ends { (text : List ℕ) × (items : List Line) × EndsBehind self.old room.now text items }
         requires reading { self.old.stop ≡ None }
-        ensures stands { (text : List ℕ) → Ends self.old room.now text → StandsFor self.new room.now (text ++ 10 ∷ []) }
+        ensures stands { (text : List ℕ) (items : List Line) (ends : EndsBehind self.old room.now text items) → StandsBehind self.new room.now (text ++ 10 ∷ []) (items ++ line_with self.old.due ends.whole.numbers ∷ []) }
+        ensures next { self.new.stop ≡ None → (c : CertValue) → IsCertificate self.old.shape.bidders self.old.shape.states c → Tells c self.old.due (take self.old.shape.bidders room.now) (get_or room.now (start_due self.old.shape.bidders self.old.shape.states self.old.due) (pos 0)) → HasDue self.old.shape.bidders self.old.shape.states c self.old.due → ComesNext self.old.shape.bidders self.old.shape.states c self.old.due self.new.due }
         ensures shape { self.new.shape ≡ self.old.shape }
     {
         if self.part.beyond {

@@ -55,21 +55,29 @@ fn at_once(alloc: Global, shape: Shape, text: &[u8]) -> Result<Result<(), TextSt
 
 // Asserts that both readers say this of a text.
 fn says(
-    rt: HostRuntime,
+    rt: &impl Abort,
+    alloc: Global,
     shape: Shape,
     text: &[u8],
     size: usize,
     told: Result<(), TextStop>,
 ) -> Result<(), AllocError> {
-    assert_eq!(rt; in_pieces(rt.alloc(), shape, text, size)?, told);
-    assert_eq!(rt; at_once(rt.alloc(), shape, text)?, told);
+    assert_eq!(rt; in_pieces(alloc, shape, text, size)?, told);
+    assert_eq!(rt; at_once(alloc, shape, text)?, told);
     Ok(())
 }
 
 #[test]
 fn reads_a_certificate_in_pieces(rt: HostRuntime) -> Result<(), AllocError> {
     for size in [1usize, 7, 476] {
-        says(rt, SAMPLE_SHAPE, SAMPLE.as_bytes(), size, Ok(()))?;
+        says(
+            &rt,
+            rt.alloc(),
+            SAMPLE_SHAPE,
+            SAMPLE.as_bytes(),
+            size,
+            Ok(()),
+        )?;
     }
     Ok(())
 }
@@ -87,7 +95,14 @@ fn tells_the_line_that_holds_the_cut(rt: HostRuntime) -> Result<(), AllocError> 
     ];
     for (len, place) in cuts {
         let front = &SAMPLE.as_bytes()[..len];
-        says(rt, SAMPLE_SHAPE, front, 7, Err(TextStop::Form(place)))?;
+        says(
+            &rt,
+            rt.alloc(),
+            SAMPLE_SHAPE,
+            front,
+            7,
+            Err(TextStop::Form(place)),
+        )?;
     }
     Ok(())
 }
@@ -108,7 +123,14 @@ fn tells_a_form_from_a_range(rt: HostRuntime) -> Result<(), AllocError> {
         ("cert 2\nlimits 16 16384\n", TextStop::Form(0)),
     ];
     for (text, stop) in cases {
-        says(rt, SAMPLE_SHAPE, text.as_bytes(), 5, Err(*stop))?;
+        says(
+            &rt,
+            rt.alloc(),
+            SAMPLE_SHAPE,
+            text.as_bytes(),
+            5,
+            Err(*stop),
+        )?;
     }
     Ok(())
 }
@@ -121,7 +143,7 @@ fn reads_the_head_of_the_second_version(rt: HostRuntime) -> Result<(), AllocErro
         ("cert 1\nden 1\n", TextStop::Form(0)),
     ];
     for (text, stop) in cases {
-        says(rt, THIRTEEN, text.as_bytes(), 3, Err(*stop))?;
+        says(&rt, rt.alloc(), THIRTEEN, text.as_bytes(), 3, Err(*stop))?;
     }
     Ok(())
 }

@@ -14,7 +14,8 @@ joined text piece at end le =
 
 pub returns-then-is_some-clause-stands : goal.returns-then-is_some-clause-stands
 returns-then-is_some-clause-stands c = λ text is.
-    rest_on c.loop-at.self c.loop-at.room text c.args.piece.now c.loop-at.at (λ none. cc (c.is_some.ensures, c.if-is_some.true, ap is_some none)) (c.loop-at.invariant.stands text is)
+    let now = c.loop-at.invariant.stands text is in
+    (now.0, rest_on c.loop-at.self c.loop-at.room text c.args.piece.now now.0 c.loop-at.at (λ none. cc (c.is_some.ensures, c.if-is_some.true, ap is_some none)) now.1)
 
 pub loop-at-preserved : goal.loop-at-preserved
 loop-at-preserved c = record {
