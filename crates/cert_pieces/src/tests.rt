@@ -1,5 +1,9 @@
+ghost use Rattle.std.specs.Prelude.{◌≡◌, length};
+ghost use Rattle.cert_pieces.specs.Rooms.{room_size};
+
 use crate::{Reader, TextStop, room_len};
 use cert_text::{CertStop, Shape, read_cert};
+use limits::CERT_BYTES;
 use std::alloc::{AllocError, Global};
 use std::process::Abort;
 
@@ -25,22 +29,30 @@ const THIRTEEN: Shape = Shape {
     states: 1,
 };
 
-// What a reader says of a text that is fed in pieces of this size.
+// What a reader says of a text of which each piece has so many bytes behind its first, as far as a file may go.
 fn in_pieces(
     alloc: Global,
     shape: Shape,
     text: &[u8],
-    size: usize,
+    more: u16,
 ) -> Result<Result<(), TextStop>, AllocError> {
     let mut room = vec![in alloc; 0i128; room_len(shape)]?;
+    Ok(in_room(&mut room, shape, text, more))
+}
+
+// The same in a room.
+fn in_room(room: &mut [i128], shape: Shape, text: &[u8], more: u16) -> Result<(), TextStop>
+    requires { length room.old ≡ room_size shape.bidders shape.states }
+{
     let mut reader = Reader::start(shape);
+    let most = text.len().min(CERT_BYTES as usize);
     let mut at = 0;
-    while at < text.len() {
-        let end = text.len().min(at + size);
-        reader.feed(&mut room, &text[at..end]);
+    while at < most {
+        let end = most.min(at + 1 + more as usize);
+        reader.feed(room, &text[at..end]);
         at = end;
     }
-    Ok(reader.finish())
+    reader.finish()
 }
 
 // What the reader of whole texts says.
@@ -59,23 +71,23 @@ fn says(
     alloc: Global,
     shape: Shape,
     text: &[u8],
-    size: usize,
+    more: u16,
     told: Result<(), TextStop>,
 ) -> Result<(), AllocError> {
-    assert_eq!(rt; in_pieces(alloc, shape, text, size)?, told);
+    assert_eq!(rt; in_pieces(alloc, shape, text, more)?, told);
     assert_eq!(rt; at_once(alloc, shape, text)?, told);
     Ok(())
 }
 
 #[test]
 fn reads_a_certificate_in_pieces(rt: HostRuntime) -> Result<(), AllocError> {
-    for size in [1usize, 7, 476] {
+    for more in [0u16, 6, 475] {
         says(
             &rt,
             rt.alloc(),
             SAMPLE_SHAPE,
             SAMPLE.as_bytes(),
-            size,
+            more,
             Ok(()),
         )?;
     }
