@@ -11,3 +11,4 @@ pub mod CertOf
 pub mod Stated
 pub mod Comings
 pub mod Fills
+pub mod RoomParts

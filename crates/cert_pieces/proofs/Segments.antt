@@ -12,7 +12,8 @@ use Rattle.cert_pieces.specs.LineParts.{IsPart}
 use Rattle.cert_pieces.specs.Forms.{room_for}
 use Rattle.cert_pieces.specs.Rooms.{room_size, form_due, start_due, segment}
 
-line_of : (k s : ℕ) → (k % 2) * s ≤ s
+-- a line of a table is one of two
+pub line_of : (k s : ℕ) → (k % 2) * s ≤ s
 line_of k s = elim (cases_lt (k % 2) 1) [
   | inl low ↦ subst (λ (n : ℕ). n * s ≤ s) (zero_is (k % 2) low) (omega arith)
   | inr high ↦ subst (λ (n : ℕ). n * s ≤ s) (one_is k high) (omega arith)
@@ -25,7 +26,7 @@ line_of k s = elim (cases_lt (k % 2) 1) [
     one_is k high = omega (arith, high)
 
 -- the choice of a part stands before those of the bidders behind it
-part_fits : (b j : ℕ) → 0 < j → j ≤ b → (j - 1) * b + b ≤ b * b
+pub part_fits : (b j : ℕ) → 0 < j → j ≤ b → (j - 1) * b + b ≤ b * b
 part_fits b j some le =
     let up : suc (j - 1) ≡ j = omega (arith, some) in
     let own : suc (j - 1) * b ≤ b * b = (let x : suc (j - 1) ≤ b = omega (arith, up, le) in let y : b ≤ b = omega arith in mul-le-mul x y) in

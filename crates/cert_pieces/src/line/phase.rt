@@ -1,5 +1,5 @@
 // How far a line of a word and numbers has come, byte by byte.
-ghost use Rattle.std.specs.Prelude.{◌≡◌, ◌≤◌, ◌<◌, ℕ, List, length, ℤ};
+ghost use Rattle.std.specs.Prelude.{◌≡◌, ◌≤◌, ◌<◌, ◌↔◌, IsTrue, ℕ, List, length, ℤ};
 ghost use Rattle.cert_pieces.specs.Partway.{Partway, StepsTo, IsOpen};
 ghost use Rattle.cert_pieces.specs.Tallies.{IsKept};
 
@@ -89,13 +89,20 @@ fn space_step(byte: u8) -> Step
 fn minus_step(byte: u8) -> Step
     ensures { (word : List ℕ) (ns : List ℤ) (bytes : List ℕ) → Partway word ns Phase.Minus bytes → StepsTo word ns bytes byte result }
 {
-    if !byte.is_ascii_digit() || byte == b'0' {
+    if !begins_below_zero(byte) {
         return Step::Fault;
     }
     Step::Open(Phase::Digits {
         negative: true,
         tally: first(byte - b'0'),
     })
+}
+
+/// Whether a number below 0 may begin with this byte behind its minus.
+fn begins_below_zero(byte: u8) -> bool
+    ensures { IsTrue result ↔ ((48 < byte) × (byte ≤ 57)) }
+{
+    b'0' < byte && byte <= b'9'
 }
 
 fn digit_step(negative: bool, tally: Tally, byte: u8) -> Step

@@ -1,0 +1,209 @@
+-- The parts of the room, in order, and what a line leaves alone: all parts but its own.
+use Rattle.std.proofs.Common.{◌≡◌, ◌≢◌, ℕ, suc, zero, ◌+◌, ◌-◌, ◌*◌, ◌%◌, ◌≤◌, ◌<◌, List, [], ◌∷◌, length, get_or, take, drop, refl, sym, ap, ◌∙◌, arith, drop-drop, inl, inr}
+use Rattle.std.proofs.Math.Nat.{mul-le-mul}
+use Rattle.std.proofs.lemmas.Bool.{cases_lt}
+use Rattle.std.specs.Prelude.{ℤ}
+use Rattle.cert_pieces.specs.declared.due.Due.{Due}
+use Rattle.cert_pieces.specs.declared.due.Due.TheVariants.{Version, Limits, Den, Value, Choice, Title, Entries, Without, PartChoice, Payments, Rows, Members, Multipliers, RowChoice, End, Nothing}
+use Rattle.cert_pieces.specs.Dues.{IsDue}
+use Rattle.cert_pieces.specs.Forms.{room_for}
+use Rattle.cert_pieces.specs.Rooms.{den_start, value_start, payments_start, part_start, members_start, row_choice_start, rows_start, entries_start, form_due, start_due, segment}
+use Rattle.cert_pieces.proofs.Segments.{part_fits, line_of}
+
+take_less : (size start : ℕ) (xs : List ℤ) → size ≤ start → take size xs ≡ take size (take start xs)
+take_less zero start xs le = refl
+take_less (suc size) zero xs le = absurd (omega (arith, le))
+take_less (suc size) (suc start) [] le = refl
+take_less (suc size) (suc start) (x ∷ xs) le = ap (λ (l : List ℤ). x ∷ l) (take_less size start xs (omega (arith, le)))
+
+-- numbers within the first ones
+within_front : (from size start : ℕ) (xs : List ℤ) → from + size ≤ start → take size (drop from xs) ≡ take size (drop from (take start xs))
+within_front zero size start xs le = take_less size start xs (omega (arith, le))
+within_front (suc from) size zero xs le = absurd (omega (arith, le))
+within_front (suc from) size (suc start) [] le = refl
+within_front (suc from) size (suc start) (x ∷ xs) le = within_front from size start xs (omega (arith, le))
+
+within_back : (from end : ℕ) (xs : List ℤ) → end ≤ from → drop from xs ≡ drop (from - end) (drop end xs)
+within_back from end xs le = sym (drop-drop (from - end) end xs ∙ ap (λ (n : ℕ). drop n xs) {y = from} (omega (arith, le)))
+
+-- where the parts of the room begin, and the end of the last one
+abbrev bounds : ℕ → ℕ → List ℕ
+bounds b s = 0 ∷ b ∷ den_start b ∷ value_start b ∷ payments_start b ∷ (2 * b + 4) ∷ members_start b ∷ row_choice_start b ∷ rows_start b ∷ entries_start b s 0 ∷ (entries_start b s 0 + 2 * s) ∷ []
+
+-- each number is at least the one before it
+abbrev Ascends : ℕ → List ℕ → Type 0
+Ascends m [] = Unit {0}
+Ascends m (x ∷ xs) = (m ≤ x) × Ascends x xs
+
+at_least : (m : ℕ) (xs : List ℕ) (i : ℕ) → Ascends m xs → i < length xs → m ≤ get_or xs i 0
+at_least m [] i up lt = absurd (omega (arith, lt))
+at_least m (x ∷ xs) zero up lt = up.0
+at_least m (x ∷ xs) (suc i) up lt = omega (arith, up.0, at_least x xs i up.1 (omega (arith, lt)))
+
+ascending : (m : ℕ) (xs : List ℕ) (i j : ℕ) → Ascends m xs → i ≤ j → j < length xs → get_or xs i 0 ≤ get_or xs j 0
+ascending m [] i j up le lt = absurd (omega (arith, lt))
+ascending m (x ∷ xs) zero zero up le lt = omega arith
+ascending m (x ∷ xs) zero (suc j) up le lt = at_least x xs j up.1 (omega (arith, lt))
+ascending m (x ∷ xs) (suc i) zero up le lt = absurd (omega (arith, le))
+ascending m (x ∷ xs) (suc i) (suc j) up le lt = ascending x xs i j up.1 (omega (arith, le)) (omega (arith, lt))
+
+bounds_ascend : (b s : ℕ) → Ascends 0 (bounds b s)
+bounds_ascend b s = (omega arith, (omega arith, (omega arith, (omega arith, (omega arith, (omega arith, (omega arith, (omega arith, (omega arith, (omega arith, (omega arith, tt)))))))))))
+
+-- the part of the room in which the line's numbers stand, counted from 0
+abbrev pub part_due : Due → ℕ
+part_due Choice = 0
+part_due Den = 2
+part_due Value = 3
+part_due Payments = 4
+part_due (PartChoice j) = 5
+part_due (Members r) = 6
+part_due (RowChoice r) = 7
+part_due (Entries table k) = 9
+part_due due = 1
+
+few_parts : (due : Due) → part_due due ≤ 9
+few_parts Version = omega arith
+few_parts Limits = omega arith
+few_parts Den = omega arith
+few_parts Value = omega arith
+few_parts Choice = omega arith
+few_parts (Title table) = omega arith
+few_parts (Entries table k) = omega arith
+few_parts (Without j) = omega arith
+few_parts (PartChoice j) = omega arith
+few_parts Payments = omega arith
+few_parts Rows = omega arith
+few_parts (Members r) = omega arith
+few_parts (Multipliers r) = omega arith
+few_parts (RowChoice r) = omega arith
+few_parts End = omega arith
+few_parts Nothing = omega arith
+
+module _ (b s : ℕ) where
+  -- the line's numbers stand in their part
+  from_bound : (due : Due) → get_or (bounds b s) (part_due due) 0 ≤ start_due b s due
+  from_bound Version = omega arith
+  from_bound Limits = omega arith
+  from_bound Den = omega arith
+  from_bound Value = omega arith
+  from_bound Choice = omega arith
+  from_bound (Title table) = omega arith
+  from_bound (Entries table k) = omega arith
+  from_bound (Without j) = omega arith
+  from_bound (PartChoice j) = omega arith
+  from_bound Payments = omega arith
+  from_bound Rows = omega arith
+  from_bound (Members r) = omega arith
+  from_bound (Multipliers r) = omega arith
+  from_bound (RowChoice r) = omega arith
+  from_bound End = omega arith
+  from_bound Nothing = omega arith
+
+  to_bound : (due : Due) → IsDue b due → start_due b s due + room_for (form_due b s due) ≤ get_or (bounds b s) (suc (part_due due)) 0
+  to_bound Version is = omega arith
+  to_bound Limits is = omega arith
+  to_bound Den is = omega arith
+  to_bound Value is = omega arith
+  to_bound Choice is = omega arith
+  to_bound (Title table) is = omega arith
+  to_bound (Entries table k) is = omega (arith, line_of k s)
+  to_bound (Without j) is = omega arith
+  to_bound (PartChoice j) is = omega (arith, part_fits b j is.0 is.1)
+  to_bound Payments is = omega arith
+  to_bound Rows is = omega arith
+  to_bound (Members r) is = omega arith
+  to_bound (Multipliers r) is = omega arith
+  to_bound (RowChoice r) is = omega arith
+  to_bound End is = omega arith
+  to_bound Nothing is = omega arith
+
+  -- A line has been read, and the room has other numbers only in the line's segment.
+  module _ (due : Due) (is : IsDue b due) (old new : List ℤ)
+      (front : take (start_due b s due) new ≡ take (start_due b s due) old)
+      (back : drop (start_due b s due + room_for (form_due b s due)) new ≡ drop (start_due b s due + room_for (form_due b s due)) old) where
+    before_line : (from size : ℕ) → from + size ≤ start_due b s due → take size (drop from new) ≡ take size (drop from old)
+    before_line from size le =
+        within_front from size (start_due b s due) new le ∙ ap (λ (l : List ℤ). take size (drop from l)) front ∙ sym (within_front from size (start_due b s due) old le)
+
+    behind_line : (from size : ℕ) → start_due b s due + room_for (form_due b s due) ≤ from → take size (drop from new) ≡ take size (drop from old)
+    behind_line from size le =
+        let end = start_due b s due + room_for (form_due b s due) in
+        ap (λ (l : List ℤ). take size l) (within_back from end new le ∙ ap (λ (l : List ℤ). drop (from - end) l) back ∙ sym (within_back from end old le))
+
+    -- numbers of another part stay
+    pub others_kept : (part from size : ℕ) → part ≤ 9 → (part ≡ part_due due → ⊥) → get_or (bounds b s) part 0 ≤ from → from + size ≤ get_or (bounds b s) (suc part) 0 → take size (drop from new) ≡ take size (drop from old)
+    others_kept part from size few other low high =
+        elim (cases_lt part (part_due due)) [
+          | inl lt ↦ before_line from size (omega (arith, high, ascending 0 (bounds b s) (suc part) (part_due due) (bounds_ascend b s) (omega (arith, lt)) (omega (arith, few_parts due)), from_bound due))
+          | inr ge ↦ elim (cases_lt (part_due due) part) [
+            | inl lt ↦ behind_line from size (omega (arith, low, ascending 0 (bounds b s) (suc (part_due due)) part (bounds_ascend b s) (omega (arith, lt)) (omega (arith, few)), to_bound due is))
+            | inr le ↦ absurd (other (omega (arith, ge, le)))
+          ]
+        ]
+
+    -- the rows are left alone by each line
+    pub rows_kept : (from size : ℕ) → rows_start b ≤ from → from + size ≤ rows_start b + 30 → take size (drop from new) ≡ take size (drop from old)
+    rows_kept from size low high = others_kept 8 from size (omega arith) (no_row due) low (omega (arith, high))
+      where
+        no_row : (due : Due) → 8 ≡ part_due due → ⊥
+        no_row Version e = omega (arith, e)
+        no_row Limits e = omega (arith, e)
+        no_row Den e = omega (arith, e)
+        no_row Value e = omega (arith, e)
+        no_row Choice e = omega (arith, e)
+        no_row (Title table) e = omega (arith, e)
+        no_row (Entries table k) e = omega (arith, e)
+        no_row (Without j) e = omega (arith, e)
+        no_row (PartChoice j) e = omega (arith, e)
+        no_row Payments e = omega (arith, e)
+        no_row Rows e = omega (arith, e)
+        no_row (Members r) e = omega (arith, e)
+        no_row (Multipliers r) e = omega (arith, e)
+        no_row (RowChoice r) e = omega (arith, e)
+        no_row End e = omega (arith, e)
+        no_row Nothing e = omega (arith, e)
+
+    -- a line whose numbers stand in another part keeps its numbers
+    pub other_line_kept : (other : Due) → IsDue b other → (part_due other ≡ part_due due → ⊥) → segment b s other new ≡ segment b s other old
+    other_line_kept other named apart = others_kept (part_due other) (start_due b s other) (room_for (form_due b s other)) (few_parts other) apart (from_bound other) (to_bound other named)
+
+  -- the choice of a part leaves those of other parts alone
+  pub part_kept : (i j : ℕ) (old new : List ℤ) → 0 < i → 0 < j → (i ≡ j → ⊥)
+      → take (part_start b j) new ≡ take (part_start b j) old → drop (part_start b j + b) new ≡ drop (part_start b j + b) old
+      → take b (drop (part_start b i) new) ≡ take b (drop (part_start b i) old)
+  part_kept i j old new some_i some_j other front back =
+      elim (cases_lt i j) [
+        | inl lt ↦ let apart = part_apart i j some_i lt in
+            within_front (part_start b i) b (part_start b j) new (omega (arith, apart)) ∙ ap (λ (l : List ℤ). take b (drop (part_start b i) l)) front ∙ sym (within_front (part_start b i) b (part_start b j) old (omega (arith, apart)))
+        | inr ge ↦ let apart = part_apart j i some_j (after i j ge other) in
+            ap (λ (l : List ℤ). take b l) (within_back (part_start b i) (part_start b j + b) new (omega (arith, apart)) ∙ ap (λ (l : List ℤ). drop (part_start b i - (part_start b j + b)) l) back ∙ sym (within_back (part_start b i) (part_start b j + b) old (omega (arith, apart))))
+      ]
+    where
+      after : (i j : ℕ) → j ≤ i → (i ≡ j → ⊥) → j < i
+      after i j le other = elim (cases_lt j i) [ inl lt ↦ lt | inr ge ↦ absurd (other (omega (arith, le, ge))) ]
+
+      part_apart : (i j : ℕ) → 0 < i → i < j → (i - 1) * b + b ≤ (j - 1) * b
+      part_apart i j some lt =
+          let le : suc (i - 1) * b ≤ (j - 1) * b = (let x : suc (i - 1) ≤ j - 1 = omega (arith, some, lt) in let y : b ≤ b = omega arith in mul-le-mul x y) in
+          omega (arith, le)
+
+  -- a line of a table leaves the one before it alone
+  pub line_kept : (i k : ℕ) (old new : List ℤ) → i % 2 ≢ k % 2
+      → take (entries_start b s k) new ≡ take (entries_start b s k) old → drop (entries_start b s k + s) new ≡ drop (entries_start b s k + s) old
+      → take s (drop (entries_start b s i) new) ≡ take s (drop (entries_start b s i) old)
+  line_kept i k old new other front back =
+      elim (cases_lt (i % 2) (k % 2)) [
+        | inl lt ↦ let apart : (i % 2) * s + s ≤ (k % 2) * s = line_apart (i % 2) (k % 2) lt in
+            within_front (entries_start b s i) s (entries_start b s k) new (omega (arith, apart)) ∙ ap (λ (l : List ℤ). take s (drop (entries_start b s i) l)) front ∙ sym (within_front (entries_start b s i) s (entries_start b s k) old (omega (arith, apart)))
+        | inr ge ↦ let apart : (k % 2) * s + s ≤ (i % 2) * s = line_apart (k % 2) (i % 2) (after (i % 2) (k % 2) ge other) in
+            ap (λ (l : List ℤ). take s l) (within_back (entries_start b s i) (entries_start b s k + s) new (omega (arith, apart)) ∙ ap (λ (l : List ℤ). drop (entries_start b s i - (entries_start b s k + s)) l) back ∙ sym (within_back (entries_start b s i) (entries_start b s k + s) old (omega (arith, apart))))
+      ]
+    where
+      after : (i j : ℕ) → j ≤ i → (i ≡ j → ⊥) → j < i
+      after i j le other = elim (cases_lt j i) [ inl lt ↦ lt | inr ge ↦ absurd (other (omega (arith, le, ge))) ]
+
+      line_apart : (i j : ℕ) → i < j → i * s + s ≤ j * s
+      line_apart i j lt =
+          let le : suc i * s ≤ j * s = (let x : suc i ≤ j = omega (arith, lt) in let y : s ≤ s = omega arith in mul-le-mul x y) in
+          omega (arith, le)
