@@ -2,12 +2,18 @@
 use Rattle.std.proofs.Common.{◌≡◌, ◌≢◌, ℕ, suc, zero, ◌+◌, ◌-◌, ◌*◌, ◌%◌, ◌≤◌, ◌<◌, List, [], ◌∷◌, length, get_or, take, drop, refl, sym, ap, ◌∙◌, arith, drop-drop, inl, inr}
 use Rattle.std.proofs.Math.Nat.{mul-le-mul}
 use Rattle.std.proofs.lemmas.Bool.{cases_lt}
-use Rattle.std.specs.Prelude.{ℤ}
+use Rattle.std.specs.Prelude.{ℤ, false}
 use Rattle.cert_pieces.specs.declared.due.Due.{Due}
 use Rattle.cert_pieces.specs.declared.due.Due.TheVariants.{Version, Limits, Den, Value, Choice, Title, Entries, Without, PartChoice, Payments, Rows, Members, Multipliers, RowChoice, End, Nothing}
+use Rattle.cert_form.specs.Lines.{FitNumbers}
+use Rattle.cert_pieces.specs.declared.line.form.Form.{Form}
+use Rattle.cert_pieces.specs.declared.line.form.Form.TheVariants as form
+use Rattle.cert_pieces.specs.declared.line.form.Form.TheVariants.{Just, Both, Signed, Chosen, Counted}
+use Rattle.cert_pieces.specs.declared.line.LinePart.{LinePart}
+use Rattle.cert_pieces.specs.LineParts.{IsWholeLine}
 use Rattle.cert_pieces.specs.Dues.{IsDue}
-use Rattle.cert_pieces.specs.Forms.{room_for}
-use Rattle.cert_pieces.specs.Rooms.{den_start, value_start, payments_start, part_start, members_start, row_choice_start, rows_start, entries_start, form_due, start_due, segment}
+use Rattle.cert_pieces.specs.Forms.{numbers_of, room_for}
+use Rattle.cert_pieces.specs.Rooms.{den_start, value_start, payments_start, part_start, members_start, row_choice_start, rows_start, entries_start, form_due, start_due, segment, KeepsOthers}
 use Rattle.cert_pieces.proofs.Segments.{part_fits, line_of}
 
 take_less : (size start : ℕ) (xs : List ℤ) → size ≤ start → take size xs ≡ take size (take start xs)
@@ -119,17 +125,15 @@ module _ (b s : ℕ) where
   to_bound Nothing is = omega arith
 
   -- A line has been read, and the room has other numbers only in the line's segment.
-  module _ (due : Due) (is : IsDue b due) (old new : List ℤ)
-      (front : take (start_due b s due) new ≡ take (start_due b s due) old)
-      (back : drop (start_due b s due + room_for (form_due b s due)) new ≡ drop (start_due b s due + room_for (form_due b s due)) old) where
+  module _ (due : Due) (is : IsDue b due) (old new : List ℤ) (others : KeepsOthers b s due old new) where
     before_line : (from size : ℕ) → from + size ≤ start_due b s due → take size (drop from new) ≡ take size (drop from old)
     before_line from size le =
-        within_front from size (start_due b s due) new le ∙ ap (λ (l : List ℤ). take size (drop from l)) front ∙ sym (within_front from size (start_due b s due) old le)
+        within_front from size (start_due b s due) new le ∙ ap (λ (l : List ℤ). take size (drop from l)) others.front ∙ sym (within_front from size (start_due b s due) old le)
 
     behind_line : (from size : ℕ) → start_due b s due + room_for (form_due b s due) ≤ from → take size (drop from new) ≡ take size (drop from old)
     behind_line from size le =
         let end = start_due b s due + room_for (form_due b s due) in
-        ap (λ (l : List ℤ). take size l) (within_back from end new le ∙ ap (λ (l : List ℤ). drop (from - end) l) back ∙ sym (within_back from end old le))
+        ap (λ (l : List ℤ). take size l) (within_back from end new le ∙ ap (λ (l : List ℤ). drop (from - end) l) others.back ∙ sym (within_back from end old le))
 
     -- numbers of another part stay
     pub others_kept : (part from size : ℕ) → part ≤ 9 → (part ≡ part_due due → ⊥) → get_or (bounds b s) part 0 ≤ from → from + size ≤ get_or (bounds b s) (suc part) 0 → take size (drop from new) ≡ take size (drop from old)
@@ -207,3 +211,34 @@ module _ (b s : ℕ) where
       line_apart i j lt =
           let le : suc i * s ≤ j * s = (let x : suc i ≤ j = omega (arith, lt) in let y : s ≤ s = omega arith in mul-le-mul x y) in
           omega (arith, le)
+
+-- lines of which each has as many numbers as it may have: all but that of a row's members
+abbrev pub IsFixed : Form → Type 0
+IsFixed form.Nothing = Unit {0}
+IsFixed (Just number) = Unit {0}
+IsFixed (Both first second) = Unit {0}
+IsFixed (Signed count) = Unit {0}
+IsFixed (Chosen bidders) = Unit {0}
+IsFixed (Counted bidders) = Unit {0}
+IsFixed (form.Members bidders) = ⊥
+
+fixed_long : (f : Form) (ns : List ℤ) → IsFixed f → FitNumbers (numbers_of f) ns → length ns ≡ room_for f
+fixed_long form.Nothing ns fixed fit = ap (λ (l : List ℤ). length l) fit
+fixed_long (Just number) ns fixed fit = ap (λ (l : List ℤ). length l) fit
+fixed_long (Both first second) ns fixed fit = ap (λ (l : List ℤ). length l) fit
+fixed_long (Signed count) ns fixed fit = fit
+fixed_long (Chosen bidders) ns fixed fit = fit.0
+fixed_long (Counted bidders) ns fixed fit = ap (λ (l : List ℤ). length l) fit.1
+fixed_long (form.Members bidders) ns fixed fit = absurd fixed
+
+take_twice : (n : ℕ) (xs : List ℤ) → take n (take n xs) ≡ take n xs
+take_twice zero xs = refl
+take_twice (suc n) [] = refl
+take_twice (suc n) (x ∷ xs) = ap (λ (l : List ℤ). x ∷ l) (take_twice n xs)
+
+-- the numbers of a line that came whole, in range, stand in its segment
+pub came_whole : (b s : ℕ) (due : Due) (word bytes : List ℕ) (part : LinePart) (room : List ℤ) (is : IsWholeLine word (form_due b s due) part (segment b s due room) bytes)
+    → IsFixed (form_due b s due) → part.beyond ≡ false → segment b s due room ≡ is.numbers
+came_whole b s due word bytes part room is fixed within =
+    let many : room_for (form_due b s due) ≡ part.count = sym (fixed_long (form_due b s due) is.numbers fixed is.fit) ∙ is.keeps.many in
+    sym (take_twice (room_for (form_due b s due)) (drop (start_due b s due) room)) ∙ ap (λ (n : ℕ). take n (segment b s due room)) many ∙ is.keeps.same within

@@ -1,14 +1,15 @@
 -- The lines of a certificate that are still to come.
-use Rattle.std.specs.Prelude.{◌≡◌, ℕ, ◌-◌, ◌≤◌, nat_le, Bool, true, false, List, [], ◌∷◌, ◌++◌, codes, drop, length, ℤ, pos, slice_index_or, if◌then◌else◌}
+use Rattle.std.specs.Prelude.{◌≡◌, ℕ, ◌-◌, ◌≤◌, nat_le, Bool, true, false, List, [], ◌∷◌, ◌++◌, codes, drop, take, get_or, length, ℤ, pos, slice_index_or, if◌then◌else◌}
 use Rattle.limits.specs.declared.TheConstants.{MOST_BIDDERS, MOST_STATES}
 use Rattle.cert_form.specs.Certificate.{CertValue, WithoutValue, RowValue, part_of}
 use Rattle.cert_form.specs.Lines.{Line, is_first_version}
-use Rattle.cert_form.specs.CertText.{line, as_numbers, choice_line, table_lines, part_lines, row_lines, IsWithout}
+use Rattle.cert_form.specs.CertText.{line, as_numbers, choice_line, table_lines, part_lines, row_lines, IsWithout, IsCertificate}
 use Rattle.cert_pieces.specs.declared.due.Due.{Due}
 use Rattle.cert_pieces.specs.declared.due.Due.TheVariants.{Version, Limits, Den, Value, Choice, Title, Entries, Without, PartChoice, Payments, Rows, Members, Multipliers, RowChoice, End, Nothing}
 use Rattle.cert_pieces.specs.declared.due.Table.{Table}
 use Rattle.cert_pieces.specs.declared.due.Table.TheVariants.{Head, Part, Lowered}
 use Rattle.cert_pieces.specs.Dues.{title_of, version_number}
+use Rattle.cert_pieces.specs.Rooms.{start_due}
 
 -- the parts behind bidder j
 abbrev pub parts_behind : ℕ → List WithoutValue → List WithoutValue
@@ -131,3 +132,15 @@ Tells c due choice first = Unit {0}
 pub record ComesNext (b s : ℕ) (c : CertValue) (due next : Due) : Type 0 where
   pub left : lines_left b s c due ≡ line_due b s c due ∷ lines_left b s c next
   pub has : HasDue b s c next
+
+-- Of each certificate of this choice: these lines are what is left when this line is due, and it has what that line names.
+abbrev pub AreLeft : ℕ → ℕ → List ℤ → (CertValue → List Line) → Due → Type 0
+AreLeft b s choice left next = (c : CertValue) → IsCertificate b s c → choice ≡ as_numbers c.choice → (left c ≡ lines_left b s c next) × HasDue b s c next
+
+-- Of each certificate that this choice and count belong to: behind its line that is due, this one comes.
+abbrev pub Leads : ℕ → ℕ → Due → List ℤ → ℤ → Due → Type 0
+Leads b s due choice first next = (c : CertValue) → IsCertificate b s c → Tells c due choice first → HasDue b s c due → ComesNext b s c due next
+
+-- the same, where the room tells the choice and the count
+abbrev pub LeadsInRoom : ℕ → ℕ → Due → List ℤ → Due → Type 0
+LeadsInRoom b s due room next = Leads b s due (take b room) (get_or room (start_due b s due) (pos 0)) next

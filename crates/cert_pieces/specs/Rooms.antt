@@ -1,5 +1,5 @@
 -- Where the numbers of a line stand in the room.
-use Rattle.std.specs.Prelude.{ℕ, ◌+◌, ◌-◌, ◌*◌, ◌%◌, List, take, drop, ℤ}
+use Rattle.std.specs.Prelude.{◌≡◌, ℕ, ◌+◌, ◌-◌, ◌*◌, ◌%◌, List, take, drop, ℤ}
 use Rattle.limits.specs.declared.TheConstants.{MOST_BIDDERS, MOST_STATES}
 use Rattle.cert_form.specs.Lines.{is_first_version}
 use Rattle.cert_pieces.specs.declared.line.form.Form.{Form}
@@ -74,3 +74,8 @@ start_due bidders states due = bidders
 -- the numbers of the line, as many as it may have
 abbrev pub segment : ℕ → ℕ → Due → List ℤ → List ℤ
 segment bidders states due room = take (room_for (form_due bidders states due)) (drop (start_due bidders states due) room)
+
+-- all other numbers of the room stay
+pub record KeepsOthers (bidders states : ℕ) (due : Due) (old new : List ℤ) : Type 0 where
+  pub front : take (start_due bidders states due) new ≡ take (start_due bidders states due) old
+  pub back : drop (start_due bidders states due + room_for (form_due bidders states due)) new ≡ drop (start_due bidders states due + room_for (form_due bidders states due)) old

@@ -15,5 +15,5 @@ mod tests;
 
 pub use due::{Due, Table};
 pub use reader::{Progress, Reader};
-pub use room::room_len;
+pub use room::{Span, numbers_span, room_len, rows_start};
 pub use stop::TextStop;

@@ -20,15 +20,15 @@ use crate::line::phase::{Kept, Phase, Step, advance};
 
 /// How far a line has come: what its last bytes are, how many whole numbers it has, and whether one of them is out of range.
 #[derive(Clone, Copy, Debug, PartialEq, Eq)]
-pub struct LinePart {
-    pub phase: Phase,
-    pub count: usize,
-    pub beyond: bool,
+pub(crate) struct LinePart {
+    pub(crate) phase: Phase,
+    pub(crate) count: usize,
+    pub(crate) beyond: bool,
 }
 
 /// What one more byte makes of a line.
 #[derive(Clone, Copy, Debug, PartialEq, Eq)]
-pub enum Outcome {
+pub(crate) enum Outcome {
     /// It goes on.
     Open,
     /// It is whole.
@@ -39,7 +39,7 @@ pub enum Outcome {
 
 impl LinePart {
     /// A line of which nothing was read.
-    pub fn new() -> LinePart
+    pub(crate) fn new() -> LinePart
         ensures { (word : List ℕ) (form : Form) (out : List ℤ) → IsPart word form result out [] }
     {
         LinePart {
@@ -50,7 +50,7 @@ impl LinePart {
     }
 
     /// Takes one more byte of a line of the word and such numbers. Whole numbers go into `out`.
-    pub fn take(&mut self, form: Form, word: &[u8], out: &mut [i128], byte: u8) -> Outcome
+    pub(crate) fn take(&mut self, form: Form, word: &[u8], out: &mut [i128], byte: u8) -> Outcome
         requires room { room_for form ≤ length out.old }
         requires part { (bytes : List ℕ) × IsPart word.now form self.old out.old bytes }
         ensures becomes { (bytes : List ℕ) → IsPart word.now form self.old out.old bytes → Becomes word.now form self.new out.new bytes byte result }
@@ -104,7 +104,7 @@ impl LinePart {
     }
 
     /// Takes the digits at the front of a piece, where the line is in a number. Gives where they end.
-    pub fn take_digits(&mut self, piece: &[u8], at: usize) -> usize
+    pub(crate) fn take_digits(&mut self, piece: &[u8], at: usize) -> usize
         requires { at ≤ length piece.now }
         ensures from { at ≤ result }
         ensures to { result ≤ length piece.now }
@@ -128,14 +128,14 @@ impl LinePart {
 
 /// A line behind more bytes: what it is then, and where the byte stands that made it whole or wrong, or where the piece ends.
 #[derive(Clone, Copy)]
-pub struct LineRead {
-    pub part: LinePart,
-    pub outcome: Outcome,
-    pub end: usize,
+pub(crate) struct LineRead {
+    pub(crate) part: LinePart,
+    pub(crate) outcome: Outcome,
+    pub(crate) end: usize,
 }
 
 /// Reads on in a line of the word and such numbers, from a place of a piece on. Whole numbers go into `out`.
-pub fn read_line(
+pub(crate) fn read_line(
     part: LinePart,
     form: Form,
     word: &[u8],

@@ -3,20 +3,20 @@ ghost use Rattle.std.specs.Prelude.{◌≡◌, ◌≤◌, ◌<◌, ℕ, List, []
 ghost use Rattle.cert_form.specs.Certificate.{CertValue};
 ghost use Rattle.cert_form.specs.CertText.{as_numbers, IsCertificate};
 ghost use Rattle.cert_form.specs.Lines.{rows_plan, FitNumbers};
-ghost use Rattle.cert_pieces.specs.LinesLeft.{lines_left, parts_left, table_left, rows_left, HasPart, HasDue, Tells, ComesNext};
+ghost use Rattle.cert_pieces.specs.LinesLeft.{lines_left, parts_left, table_left, rows_left, HasPart, HasDue, ComesNext, AreLeft, Leads};
 ghost use Rattle.cert_pieces.specs.Dues.{Follows, IsDue, IsKnown, numbers_due, plan_due, from_part, behind_table, closing, IsTableOf};
 
 use crate::due::{Due, Table, has_first_version};
 use cert_text::Shape;
 
 /// The line behind one of the line that was due, for the head's choice and the first of the line's numbers.
-pub fn next(due: Due, shape: Shape, choice: &[i128], first: i128) -> Due
+pub(crate) fn next(due: Due, shape: Shape, choice: &[i128], first: i128) -> Due
     requires choice { length choice.now ≡ shape.bidders }
     requires due { IsDue shape.bidders due }
     requires numbers { (ns : List ℤ) × FitNumbers (numbers_due shape.bidders shape.states due) ns × IsKnown due ns choice.now first }
     ensures next { (ns : List ℤ) → FitNumbers (numbers_due shape.bidders shape.states due) ns → IsKnown due ns choice.now first → Follows shape.bidders shape.states choice.now due ns result }
     ensures due { IsDue shape.bidders result }
-    ensures left { (due ≡ Due.Nothing → ⊥) → (c : CertValue) → IsCertificate shape.bidders shape.states c → Tells c due choice.now first → HasDue shape.bidders shape.states c due → ComesNext shape.bidders shape.states c due result }
+    ensures left { (due ≡ Due.Nothing → ⊥) → Leads shape.bidders shape.states due choice.now first result }
 {
     match due {
         Due::Version => next_version(shape),
@@ -77,12 +77,12 @@ fn next_entries(shape: Shape, choice: &[i128], table: Table, k: u16) -> Due
 }
 
 /// The first line behind the parts of the first `from` bidders: that of the next part, or the payments.
-pub fn next_part(shape: Shape, choice: &[i128], from: u16) -> Due
+fn next_part(shape: Shape, choice: &[i128], from: u16) -> Due
     requires from { from ≤ shape.bidders }
     requires choice { length choice.now ≡ shape.bidders }
     ensures plan { from_part shape.bidders shape.states choice.now from ≡ plan_due shape.bidders shape.states choice.now result }
     ensures due { IsDue shape.bidders result }
-    ensures left { (c : CertValue) → IsCertificate shape.bidders shape.states c → choice.now ≡ as_numbers c.choice → (parts_left c from ≡ lines_left shape.bidders shape.states c result) × HasDue shape.bidders shape.states c result }
+    ensures left { AreLeft shape.bidders shape.states choice.now (λ c. parts_left c from) result }
 {
     for k in from..shape.bidders {
         if !is_zero(choice[k as usize]) {
@@ -103,7 +103,7 @@ fn behind_table_line(shape: Shape, choice: &[i128], table: Table) -> Due
     requires table { IsTableOf shape.bidders table }
     ensures plan { behind_table shape.bidders shape.states choice.now table ≡ plan_due shape.bidders shape.states choice.now result }
     ensures due { IsDue shape.bidders result }
-    ensures left { (c : CertValue) → IsCertificate shape.bidders shape.states c → choice.now ≡ as_numbers c.choice → (table_left c table ≡ lines_left shape.bidders shape.states c result) × HasDue shape.bidders shape.states c result }
+    ensures left { AreLeft shape.bidders shape.states choice.now (λ c. table_left c table) result }
 {
     match table {
         Table::Head => next_part(shape, choice, 0),

@@ -1,15 +1,13 @@
 // The lines of a certificate from pieces of bytes.
-ghost use Rattle.std.specs.Prelude.{◌≡◌, ◌≤◌, ◌<◌, ◌+◌, ◌^◌, ℕ, List, [], ◌∷◌, ◌++◌, length, take, drop, get_or, pos, Option, Some, None, OnOk, IfErr, ℤ, ◌-◌, ◌≢◌, IsTrue};
+ghost use Rattle.std.specs.Prelude.{◌≡◌, ◌≤◌, ◌<◌, ◌+◌, ◌^◌, ℕ, List, [], ◌∷◌, ◌++◌, length, take, drop, Option, Some, None, OnOk, IfErr, ℤ, ◌-◌, ◌≢◌, IsTrue};
 ghost use Rattle.line_text.specs.LineText.{stated};
 ghost use Rattle.cert_form.specs.Certificate.{CertValue};
-ghost use Rattle.cert_form.specs.CertText.{IsCertificate};
 ghost use Rattle.cert_form.specs.Lines.{Line};
 ghost use Rattle.cert_form.specs.Says.{CertSays};
 ghost use Rattle.cert_pieces.specs.Dues.{line_with};
-ghost use Rattle.cert_pieces.specs.LinesLeft.{Tells, HasDue, ComesNext};
+ghost use Rattle.cert_pieces.specs.LinesLeft.{LeadsInRoom};
 ghost use Rattle.cert_pieces.specs.Pieces.{between};
-ghost use Rattle.cert_pieces.specs.Forms.{room_for};
-ghost use Rattle.cert_pieces.specs.Rooms.{room_size, form_due, start_due};
+ghost use Rattle.cert_pieces.specs.Rooms.{room_size, KeepsOthers};
 ghost use Rattle.cert_pieces.specs.Stops.{SaysStop};
 ghost use Rattle.cert_pieces.specs.Advances.{Advances, IsWithin};
 
@@ -131,8 +129,7 @@ impl Reader {
         ensures reading { (end : ℕ) → result ≡ Progress.Ended end → self.new.stop ≡ None }
         ensures shape { self.new.shape ≡ self.old.shape }
         ensures due { self.new.due ≡ self.old.due }
-        ensures front { take (start_due self.old.shape.bidders self.old.shape.states self.old.due) room.new ≡ take (start_due self.old.shape.bidders self.old.shape.states self.old.due) room.old }
-        ensures back { drop (start_due self.old.shape.bidders self.old.shape.states self.old.due + room_for (form_due self.old.shape.bidders self.old.shape.states self.old.due)) room.new ≡ drop (start_due self.old.shape.bidders self.old.shape.states self.old.due + room_for (form_due self.old.shape.bidders self.old.shape.states self.old.due)) room.old }
+        ensures others { KeepsOthers self.old.shape.bidders self.old.shape.states self.old.due room.old room.new }
         ensures room { length room.new ≡ length room.old }
     {
         if self.due == Due::Nothing {
@@ -163,7 +160,7 @@ impl Reader {
         requires ends { (text : List ℕ) × (items : List Line) × EndsBehind self.old room.now text items }
         requires reading { self.old.stop ≡ None }
         ensures stands { (text : List ℕ) (items : List Line) (ends : EndsBehind self.old room.now text items) → StandsBehind self.new room.now (text ++ 10 ∷ []) (items ++ line_with self.old.due ends.whole.numbers ∷ []) }
-        ensures next { self.new.stop ≡ None → (c : CertValue) → IsCertificate self.old.shape.bidders self.old.shape.states c → Tells c self.old.due (take self.old.shape.bidders room.now) (get_or room.now (start_due self.old.shape.bidders self.old.shape.states self.old.due) (pos 0)) → HasDue self.old.shape.bidders self.old.shape.states c self.old.due → ComesNext self.old.shape.bidders self.old.shape.states c self.old.due self.new.due }
+        ensures next { self.new.stop ≡ None → LeadsInRoom self.old.shape.bidders self.old.shape.states self.old.due room.now self.new.due }
         ensures shape { self.new.shape ≡ self.old.shape }
     {
         if self.part.beyond {

@@ -3,7 +3,7 @@ ghost use Rattle.std.specs.Prelude.{◌≡◌, ◌≢◌, ◌≤◌, ◌<◌, �
 ghost use Rattle.cert_form.specs.Lines.{is_first_version};
 ghost use Rattle.cert_pieces.specs.Dues.{word_of, title_of, version_number, IsDue};
 ghost use Rattle.cert_pieces.specs.Forms.{room_for};
-ghost use Rattle.cert_pieces.specs.Rooms.{room_size, form_due, start_due, entries_start, segment};
+ghost use Rattle.cert_pieces.specs.Rooms.{room_size, form_due, start_due, entries_start, rows_start, segment};
 ghost use Rattle.line_text.specs.LineText.{IsLine};
 ghost use Rattle.cert_pieces.specs.Pieces.{between};
 ghost use Rattle.cert_pieces.specs.LineParts.{IsPart, ReadsOn};
@@ -23,7 +23,7 @@ pub fn room_len(shape: Shape) -> usize
 }
 
 /// Which numbers the line has.
-pub fn form(due: Due, shape: Shape) -> Form
+fn form(due: Due, shape: Shape) -> Form
     ensures { result ≡ form_due shape.bidders shape.states due }
 {
     match due {
@@ -54,7 +54,7 @@ fn version_number(shape: Shape) -> u16
 }
 
 /// How many numbers a line has at most.
-pub fn width(form: Form) -> usize
+fn width(form: Form) -> usize
     ensures { result ≡ room_for form }
 {
     match form {
@@ -95,14 +95,24 @@ fn entries_start(bidders: usize, states: usize, k: u16) -> usize
     bidders * bidders + 4 * bidders + 34 + (k as usize % 2) * states
 }
 
+/// Where the numbers of the rows begin, 30 that the reader leaves alone.
+pub fn rows_start(shape: Shape) -> usize
+    ensures { result ≡ rows_start shape.bidders }
+{
+    let bidders = shape.bidders as usize;
+    bidders * bidders + 4 * bidders + 4
+}
+
 /// Numbers of the room, from one place up to another.
-#[derive(Clone, Copy)]
+#[derive(Clone, Copy, Debug, PartialEq, Eq)]
 pub struct Span {
+    /// The first of them.
     pub start: usize,
+    /// The place behind the last.
     pub end: usize,
 }
 
-/// Where the numbers of the line stand.
+/// Where the numbers of a line stand, as many as it may have.
 pub fn numbers_span(due: Due, shape: Shape) -> Span
     requires { IsDue shape.bidders due }
     ensures start { result.start ≡ start_due shape.bidders shape.states due }
@@ -118,7 +128,7 @@ pub fn numbers_span(due: Due, shape: Shape) -> Span
 }
 
 /// The word of the line.
-pub fn word(due: Due) -> &'static [u8]
+fn word(due: Due) -> &'static [u8]
     ensures { result.now ≡ word_of due }
 {
     match due {
@@ -152,7 +162,7 @@ fn title(table: Table) -> &'static [u8]
 }
 
 /// Reads on in the line that is due, from a place of a piece on. Its numbers go into its part of the room.
-pub fn read_due(
+pub(crate) fn read_due(
     part: LinePart,
     due: Due,
     shape: Shape,

@@ -9,7 +9,7 @@ use crate::line::tally::Tally;
 const TOP: u128 = 1 << 120;
 
 /// The tally of a first digit.
-pub fn first(digit: u8) -> Tally
+pub(crate) fn first(digit: u8) -> Tally
     requires { digit < 10 }
     ensures { IsTally result digit }
 {
@@ -20,7 +20,7 @@ pub fn first(digit: u8) -> Tally
 }
 
 /// One more digit.
-pub fn more(tally: Tally, digit: u8) -> Tally
+pub(crate) fn more(tally: Tally, digit: u8) -> Tally
     requires { digit < 10 }
     ensures { (value : ℕ) → IsTally tally value → IsTally result (10 * value + digit) }
 {
@@ -38,7 +38,7 @@ pub fn more(tally: Tally, digit: u8) -> Tally
 }
 
 /// Whether the number is 0.
-pub fn is_zero(tally: Tally) -> bool
+pub(crate) fn is_zero(tally: Tally) -> bool
     ensures { (value : ℕ) → IsTally tally value → IsTrue result ↔ (value ≡ 0) }
 {
     !tally.beyond && tally.size == 0
@@ -46,13 +46,13 @@ pub fn is_zero(tally: Tally) -> bool
 
 /// The size of a number behind more digits, and where they end.
 #[derive(Clone, Copy)]
-pub struct DigitRun {
-    pub tally: Tally,
-    pub end: usize,
+pub(crate) struct DigitRun {
+    pub(crate) tally: Tally,
+    pub(crate) end: usize,
 }
 
 /// Reads the digits that stand in a piece from a place on. While the size is below 10^18, it is kept in 64 bits.
-pub fn read_digits(piece: &[u8], at: usize, tally: Tally) -> DigitRun
+pub(crate) fn read_digits(piece: &[u8], at: usize, tally: Tally) -> DigitRun
     requires { at ≤ length piece.now }
     ensures from { at ≤ result.end }
     ensures to { result.end ≤ length piece.now }

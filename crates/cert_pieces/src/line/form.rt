@@ -2,7 +2,7 @@
 
 /// Which numbers stand behind the word of a line.
 #[derive(Clone, Copy, Debug, PartialEq, Eq)]
-pub enum Form {
+pub(crate) enum Form {
     /// None.
     Nothing,
     /// Just this one.

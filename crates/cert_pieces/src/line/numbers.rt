@@ -8,7 +8,7 @@ use crate::line::form::Form;
 use crate::line::phase::Kept;
 
 /// Whether a number may stand behind those that are kept.
-pub fn may_follow(form: Form, out: &[i128], count: usize, kept: Kept) -> bool
+pub(crate) fn may_follow(form: Form, out: &[i128], count: usize, kept: Kept) -> bool
     requires { count ≤ length out.now }
     ensures { Decides form out.now count kept result }
 {
@@ -110,7 +110,7 @@ fn not_below_zero(number: i128) -> i128
 }
 
 /// Whether the numbers of a line are all there.
-pub fn is_whole(form: Form, count: usize) -> bool
+pub(crate) fn is_whole(form: Form, count: usize) -> bool
     ensures { (ns : List ℤ) → length ns ≡ count → MayBegin (numbers_of form) ns → IsTrue result ↔ FitNumbers (numbers_of form) ns }
 {
     match form {

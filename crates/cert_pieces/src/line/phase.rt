@@ -8,7 +8,7 @@ use crate::line::tally::Tally;
 
 /// What the last bytes of a line are.
 #[derive(Clone, Copy, Debug, PartialEq, Eq)]
-pub enum Phase {
+pub(crate) enum Phase {
     /// So many bytes of the word.
     Word(usize),
     /// A space, behind which a number has to begin.
@@ -21,14 +21,14 @@ pub enum Phase {
 
 /// A number. One that is out of range stands as 0.
 #[derive(Clone, Copy, Debug, PartialEq, Eq)]
-pub struct Kept {
-    pub number: i128,
-    pub beyond: bool,
+pub(crate) struct Kept {
+    pub(crate) number: i128,
+    pub(crate) beyond: bool,
 }
 
 /// What one more byte makes of a line.
 #[derive(Clone, Copy)]
-pub enum Step {
+pub(crate) enum Step {
     /// The line goes on.
     Open(Phase),
     /// A space ends a number.
@@ -42,7 +42,7 @@ pub enum Step {
 }
 
 /// One more byte.
-pub fn advance(phase: Phase, word: &[u8], byte: u8) -> Step
+pub(crate) fn advance(phase: Phase, word: &[u8], byte: u8) -> Step
     ensures { (ns : List ℤ) (bytes : List ℕ) → Partway word.now ns phase bytes → StepsTo word.now ns bytes byte result }
 {
     match phase {
