@@ -1,27 +1,25 @@
 -- Bids that change no entry.
-use Rattle.std.specs.Prelude.{◌≡◌, ℕ, zero, suc, ◌+◌, ◌-◌, ◌*◌, ◌≤◌, ◌<◌, List, length, ℤ, pos, negsuc, ◌-ℤ◌, ◌*ℤ◌, ◌≤ℤ◌, refl}
+use Rattle.std.specs.Prelude.{◌≡◌, ℕ, zero, suc, ◌+◌, ◌-◌, ◌≤◌, ◌<◌, List, length, ℤ, pos, ◌≤ℤ◌, refl}
 use Rattle.std.proofs.Common.{arith, sym, subst}
-use Rattle.std.proofs.lemmas.Int.{ints}
-use Rattle.std.proofs.Math.Nat.{mul-le-mul_left}
-use Rattle.auction_model.specs.Book.{net_of, bids_of}
+use Rattle.auction_model.specs.Book.{bids_of}
 use Rattle.auction_model.proofs.LineLaws.{IsLineUpTo}
 use Rattle.auction_model.proofs.DominatedLaws.{lowered-in_order, line-dominated}
 use Rattle.bid_book.specs.Better.{IsBetter}
 use Rattle.bid_book.specs.Kept.{IsBidBook}
 use Rattle.value_table.specs.declared.lowering.Lowering.{Lowering}
-use Rattle.value_table.specs.Counted.{counted_bids, counted, IsNeedless}
+use Rattle.value_table.specs.Counted.{seat, net_at, counted_bids, counted, IsNeedless}
 
-counted-in_order : (l : Lowering) (j i h : ℕ) → 0 < h → h < i → pos 0 ≤ℤ l.den → pos 0 ≤ℤ net_of l.book.now j i → net_of l.book.now j i ≤ℤ net_of l.book.now j h → counted l j i ≤ℤ counted l j h
+counted-in_order : (l : Lowering) (j i h : ℕ) → 0 < h → h < i → pos 0 ≤ℤ l.den → pos 0 ≤ℤ net_at l j i → net_at l j i ≤ℤ net_at l j h → counted l j i ≤ℤ counted l j h
 counted-in_order l j zero h some low den own le = absurd (omega (arith, low))
 counted-in_order l j (suc i) zero some low den own le = absurd (omega (arith, some))
-counted-in_order l j (suc i) (suc h) some low den own le = lowered-in_order l.den (net_of l.book.now j (suc i)) (net_of l.book.now j (suc h)) _ den own le
+counted-in_order l j (suc i) (suc h) some low den own le = lowered-in_order l.den (net_at l j (suc i)) (net_at l j (suc h)) _ den own le
 
-pub needless-better : (l : Lowering) (j i h : ℕ) → IsBidBook l.book.now → i ≤ length (bids_of l.book.now j) → 0 < h → pos 0 ≤ℤ l.den → IsBetter l.book.now j i h → IsNeedless l j i
+pub needless-better : (l : Lowering) (j i h : ℕ) → IsBidBook l.book.now → i ≤ length (bids_of l.book.now (seat l j)) → 0 < h → pos 0 ≤ℤ l.den → IsBetter l.book.now (seat l j) i h → IsNeedless l j i
 needless-better l j i h kept known some den better = record {
   other = h;
   earlier = better.earlier;
   smaller = better.smaller;
-  worth = counted-in_order l j i h some better.earlier den (kept.not_negative j i known) better.worth;
+  worth = counted-in_order l j i h some better.earlier den (kept.not_negative (seat l j) i known) better.worth;
 }
 
 pub needless-idle : (l : Lowering) (j i : ℕ) → 0 < i → counted l j i ≤ℤ counted l j 0 → IsNeedless l j i

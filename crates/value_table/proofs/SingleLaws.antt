@@ -43,7 +43,7 @@ single-taken m k (suc n) (suc p) i none h =
     let same : suc (suc k) + p ≡ suc k + suc p = omega arith in
     ap (λ q. together q (packages_after m (suc k) (single n p i))) (none (suc k)) ∙ single-taken m (suc k) n p i none (omega arith) ∙ ap (λ j. m.lots j i) same
 
-none-sum : (worth : ℕ → ℕ → ℤ) (k n : ℕ) → ((j : ℕ) → worth j 0 ≡ pos 0) → sum_after worth k (replicate n 0) ≡ pos 0
+pub none-sum : (worth : ℕ → ℕ → ℤ) (k n : ℕ) → ((j : ℕ) → worth j 0 ≡ pos 0) → sum_after worth k (replicate n 0) ≡ pos 0
 none-sum worth k zero none = refl
 none-sum worth k (suc n) none = omega (arith, ints, none (suc k), none-sum worth (suc k) n none)
 

@@ -1,29 +1,28 @@
 -- No number of the tables leaves the range.
 use Rattle.std.specs.Prelude.{◌≡◌, ℕ, zero, suc, ◌+◌, ◌*◌, ◌^◌, ◌≤◌, ◌<◌, List, length, get_or, ℤ, pos, ◌-ℤ◌, ◌*ℤ◌, unsigned_abs, refl}
 use Rattle.std.proofs.Common.{arith}
-use Rattle.auction_model.specs.Book.{net_of}
 use Rattle.auction_model.specs.Lowered.{lowered, of_bidder}
 use Rattle.auction_model.proofs.BoundLaws.{caps_of, lowered-capped, parts-capped, cap-in_sum, line-sizes, AreCapped}
 use Rattle.value_table.specs.declared.lowering.Lowering.{Lowering}
-use Rattle.value_table.specs.Counted.{counted_bids, counted, IsCountedLine}
+use Rattle.value_table.specs.Counted.{net_at, counted_bids, counted, IsCountedLine}
 
 module _ (l : Lowering) where
   pub line-small : (k : ℕ) (line : List ℤ) → IsCountedLine l k line → (s : ℕ) → unsigned_abs (get_or line s (pos 0)) ≤ 2 ^ 120
   line-small k line e s =
-      let caps = caps_of (counted_bids l).bids (net_of l.book.now) l.den l.surplus.now in
-      let capped : AreCapped (counted_bids l) (counted l) caps = lowered-capped (counted_bids l).bids (net_of l.book.now) l.den l.surplus.now in
+      let caps = caps_of (counted_bids l).bids (net_at l) l.den l.surplus.now in
+      let capped : AreCapped (counted_bids l) (counted l) caps = lowered-capped (counted_bids l).bids (net_at l) l.den l.surplus.now in
       omega (arith, l.range, line-sizes (counted_bids l) (counted l) l.book.now.supply k line caps capped e s)
 
-  pub caps-small : (j : ℕ) → zero < j → j ≤ length l.book.now.bidders → caps_of (counted_bids l).bids (net_of l.book.now) l.den l.surplus.now j < 2 ^ 120
+  pub caps-small : (j : ℕ) → zero < j → j ≤ length l.book.now.bidders → caps_of (counted_bids l).bids (net_at l) l.den l.surplus.now j < 2 ^ 120
   caps-small zero p q = absurd (omega arith)
-  caps-small (suc k) p q = omega (arith, l.range, cap-in_sum (caps_of (counted_bids l).bids (net_of l.book.now) l.den l.surplus.now) k (length l.book.now.bidders) (omega arith))
+  caps-small (suc k) p q = omega (arith, l.range, cap-in_sum (caps_of (counted_bids l).bids (net_at l) l.den l.surplus.now) k (length l.book.now.bidders) (omega arith))
 
   pub worth-small : (j i : ℕ) → zero < j → j ≤ length l.book.now.bidders → i ≤ (counted_bids l).bids j → unsigned_abs (counted l j i) ≤ 2 ^ 120
-  worth-small j i p q known = omega (arith, caps-small j p q, lowered-capped (counted_bids l).bids (net_of l.book.now) l.den l.surplus.now j i known)
+  worth-small j i p q known = omega (arith, caps-small j p q, lowered-capped (counted_bids l).bids (net_at l) l.den l.surplus.now j i known)
 
-  pub parts-small : (j i : ℕ) → zero < j → j ≤ length l.book.now.bidders → zero < i → i ≤ (counted_bids l).bids j → unsigned_abs l.den * unsigned_abs (net_of l.book.now j i) + unsigned_abs (of_bidder l.surplus.now j) ≤ 2 ^ 120
+  pub parts-small : (j i : ℕ) → zero < j → j ≤ length l.book.now.bidders → zero < i → i ≤ (counted_bids l).bids j → unsigned_abs l.den * unsigned_abs (net_at l j i) + unsigned_abs (of_bidder l.surplus.now j) ≤ 2 ^ 120
   parts-small j zero p q r known = absurd (omega arith)
-  parts-small j (suc i) p q r known = omega (arith, caps-small j p q, parts-capped (counted_bids l).bids (net_of l.book.now) l.den l.surplus.now j i known)
+  parts-small j (suc i) p q r known = omega (arith, caps-small j p q, parts-capped (counted_bids l).bids (net_at l) l.den l.surplus.now j i known)
 
   pub surplus-small : (j : ℕ) → zero < j → j ≤ length l.book.now.bidders → unsigned_abs (of_bidder l.surplus.now j) ≤ 2 ^ 120
   surplus-small j p q = omega (arith, caps-small j p q)

@@ -1,28 +1,41 @@
 -- What a lowering counts, and its lines and tables: words of private contracts.
 use Rattle.std.specs.Prelude.{ℕ, ◌<◌, ◌^◌, IsTrue, List, length, ℤ, ◌≤ℤ◌}
-use Rattle.auction_model.specs.Book.{net_of}
+use Rattle.auction_model.specs.Book.{menu_of, net_of}
 use Rattle.auction_model.specs.Lowered.{lowered, spread}
-use Rattle.auction_model.specs.Menu.{Menu}
+use Rattle.auction_model.specs.Menu.{Menu, without}
 use Rattle.auction_model.specs.Package.{is_within}
-use Rattle.value_table.specs.BookTable.{menu_without, IsBookLine, AreBookLines, IsBookTable}
+use Rattle.auction_model.specs.Table.{IsLine, IsExactTable, AreLinesTo}
+use Rattle.value_table.specs.Turned.{bidder_at, in_order, worths_in_order}
 use Rattle.value_table.specs.declared.lowering.Lowering.{Lowering}
+
+-- which bidder of the book has number j
+abbrev pub seat : Lowering → ℕ → ℕ
+seat l j = bidder_at l.turned (length l.book.now.bidders) j
 
 -- the bids that count
 abbrev pub counted_bids : Lowering → Menu
-counted_bids l = menu_without l.book.now l.skip
+counted_bids l = without (in_order l.turned (menu_of l.book.now)) l.skip
 
--- what each counts, by its bidder and its number
+-- the net amount of each, by the number of its bidder and its own
+abbrev pub net_at : Lowering → ℕ → ℕ → ℤ
+net_at l = worths_in_order l.turned (length l.book.now.bidders) (net_of l.book.now)
+
+-- what each counts
 abbrev pub counted : Lowering → ℕ → ℕ → ℤ
-counted l = lowered l.den (net_of l.book.now) l.surplus.now
+counted l = lowered l.den (net_at l) l.surplus.now
 
 abbrev pub IsCountedLine : Lowering → ℕ → List ℤ → Type 0
-IsCountedLine l k line = IsBookLine l.book.now l.skip l.den l.surplus.now k line
+IsCountedLine l k line = IsLine (counted_bids l) (counted l) l.book.now.supply k line
 
 abbrev pub AreCountedLines : Lowering → ℕ → ℕ → List (List ℤ) → Type 0
-AreCountedLines l last k lines = AreBookLines l.book.now l.skip l.den l.surplus.now last k lines
+AreCountedLines l last k lines = AreLinesTo (counted_bids l) (counted l) l.book.now.supply last k lines
 
 abbrev pub IsCountedTable : Lowering → List (List ℤ) → Type 0
-IsCountedTable l table = IsBookTable l.book.now l.skip l.den l.surplus.now table
+IsCountedTable l table = IsExactTable (counted_bids l) (counted l) l.book.now.supply table
+
+-- the table of all bids, with nobody left out
+abbrev pub IsWholeTable : Lowering → List (List ℤ) → Type 0
+IsWholeTable l table = IsExactTable (without (in_order l.turned (menu_of l.book.now)) 0) (counted l) l.book.now.supply table
 
 -- an earlier number of bidder j, or none, takes no more than its bid i and counts at least as much
 pub record IsNeedless (l : Lowering) (j i : ℕ) : Type 0 where
@@ -33,4 +46,4 @@ pub record IsNeedless (l : Lowering) (j i : ℕ) : Type 0 where
 
 -- no sum leaves 62 bits
 abbrev pub IsNarrow : Lowering → Type 0
-IsNarrow l = spread (counted_bids l).bids (length l.book.now.bidders) (net_of l.book.now) l.den l.surplus.now < 2 ^ 61
+IsNarrow l = spread (counted_bids l).bids (length l.book.now.bidders) (net_at l) l.den l.surplus.now < 2 ^ 61

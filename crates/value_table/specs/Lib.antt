@@ -1,3 +1,5 @@
 pub mod BookTable
 pub mod Counted
+pub mod SideValues
 pub mod TableValue
+pub mod Turned

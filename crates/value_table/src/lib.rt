@@ -7,10 +7,12 @@ mod lowering;
 mod narrow;
 mod narrow_runs;
 mod runs;
+mod sides;
 mod table;
 #[cfg(test)]
 mod tests;
 mod tracing;
 
 pub use book_chooser::BookChooser;
+pub use sides::Sides;
 pub use table::{ValueTable, plain_table, win};

@@ -3,8 +3,7 @@
 ghost use Rattle.std.specs.Prelude.{◌≡◌, ℕ, suc, ◌-◌, ◌^◌, ◌≤◌, ◌<◌, length, IfOk, slice_index_or, pos, ◌+ℤ◌, unsigned_abs, map};
 ghost use Rattle.auction_model.specs.Table.{IsEntry};
 ghost use Rattle.limits.specs.declared.TheConstants.{MOST_STATES};
-ghost use Rattle.value_table.specs.BookTable.{IsBookTable};
-ghost use Rattle.value_table.specs.Counted.{counted_bids, counted, IsCountedLine, AreCountedLines, IsCountedTable};
+ghost use Rattle.value_table.specs.Counted.{counted_bids, counted, IsCountedLine, AreCountedLines, IsCountedTable, IsWholeTable};
 
 use crate::lowering::Lowering;
 use crate::narrow::count_narrow;
@@ -48,7 +47,7 @@ fn count_bids(lowering: &Lowering, j: u16, line: &mut [i128], below: &[i128])
             continue;
         }
         let worth = lowering.worth(j, i + 1);
-        let bid = lowering.book.bid(j, i + 1);
+        let bid = lowering.bid(j, i + 1);
         add_bid(lowering.book.supply(), line, below, &bid.package, worth);
     }
 }
@@ -136,7 +135,7 @@ pub fn all_lines(alloc: Global, lowering: &Lowering) -> Result<Grid, AllocError>
 pub fn lines_without(alloc: Global, lowering: &Lowering, whole: &Grid) -> Result<Grid, AllocError>
     requires bidder { (0 < lowering.now.skip) × (lowering.now.skip ≤ length lowering.now.book.now.bidders) }
     requires idle { counted lowering.now lowering.now.skip 0 ≡ pos 0 }
-    requires whole { IsBookTable lowering.now.book.now 0 lowering.now.den lowering.now.surplus.now whole.now }
+    requires whole { IsWholeTable lowering.now whole.now }
     ensures { IfOk result (λ g. IsCountedTable lowering.now g) }
 {
     let _bidders = lowering.book.bidders();

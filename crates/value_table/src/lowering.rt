@@ -1,9 +1,10 @@
 // What bids count in a table.
-ghost use Rattle.std.specs.Prelude.{IsTrue, ℕ, slice_index_or, ◌≡◌, ◌+◌, ◌*◌, ◌^◌, ◌≤◌, length, pos, neg_ℤ, ◌-ℤ◌, ◌*ℤ◌, unsigned_abs};
+ghost use Rattle.std.specs.Prelude.{IsTrue, ℕ, slice_index_or, ◌≡◌, ◌+◌, ◌*◌, ◌^◌, ◌≤◌, ◌<◌, length, pos, neg_ℤ, ◌-ℤ◌, ◌*ℤ◌, unsigned_abs};
 ghost use Rattle.std.specs.Int.{int_max};
-ghost use Rattle.value_table.specs.BookTable.{IsInRange};
+ghost use Rattle.value_table.specs.Turned.{bidder_at, IsOrderInRange};
 
 use bid_book::BidBook;
+use lots::Bid;
 
 /// The greatest denominator with which a table is narrow.
 const NARROW_DEN: u128 = 1 << 13;
@@ -11,30 +12,56 @@ const NARROW_DEN: u128 = 1 << 13;
 /// The greatest surplus with which a table is narrow.
 const NARROW_SURPLUS: u128 = 1 << 56;
 
-/// What the bids of a book count in a table. Bidder `skip` has no bids. A bid of another bidder counts `den` times its net
-/// amount less the surplus of its bidder. A bidder that isn't used counts its idle worth. A surplus is times `den`.
+/// What the bids of a book count in a table. The bidders are numbered as in the book, or turned round: then number 1 is the last.
+/// Bidder `skip` has no bids. A bid of another bidder counts `den` times its net amount less the surplus of its bidder. A bidder
+/// that isn't used counts its idle worth. A surplus is times `den`.
 #[derive(Drop)]
 pub struct Lowering<'a> {
     pub book: &'a BidBook,
+    pub turned: bool,
     pub skip: u16,
     pub den: i128,
     pub surplus: &'a [i128],
     pub ghost bidders: { length surplus.now ≡ length book.now.bidders },
-    pub ghost range: { IsInRange book.now skip den surplus.now },
+    pub ghost range: { IsOrderInRange turned book.now skip den surplus.now },
 }
 
 impl<'a> Lowering<'a> {
     ghost use Rattle.std.specs.Prelude.{◌<◌};
     ghost use Rattle.auction_model.specs.Book.{bids_of};
-    ghost use Rattle.value_table.specs.Counted.{counted_bids, counted, IsNeedless, IsNarrow};
+    ghost use Rattle.value_table.specs.Counted.{seat, counted_bids, counted, IsNeedless, IsNarrow};
+
+    /// Which bidder of the book has number `j`.
+    pub fn bidder(&self, j: u16) -> u16
+        requires { (0 < j) × (j ≤ length self.now.book.now.bidders) }
+        ensures bidder { result ≡ seat self.now j }
+        ensures inside { (0 < result) × (result ≤ length self.now.book.now.bidders) }
+    {
+        bidder_of(self.turned, self.book.bidders(), j)
+    }
 
     /// How many bids of bidder `j` count.
     pub fn bids(&self, j: u16) -> u16
         requires { (0 < j) × (j ≤ length self.now.book.now.bidders) }
         ensures bids { result ≡ (counted_bids self.now).bids j }
-        ensures most { result ≤ length (bids_of self.now.book.now j) }
+        ensures most { result ≤ length (bids_of self.now.book.now (seat self.now j)) }
     {
-        if j == self.skip { 0 } else { self.book.bids(j) }
+        if j == self.skip {
+            0
+        } else {
+            self.book.bids(self.bidder(j))
+        }
+    }
+
+    /// Bid `i` of bidder `j`.
+    pub fn bid(&self, j: u16, i: u16) -> &Bid
+        requires bidder { (0 < j) × (j ≤ length self.now.book.now.bidders) }
+        requires bid { (0 < i) × (i ≤ (counted_bids self.now).bids j) }
+        ensures lots { result.now.package ≡ (counted_bids self.now).lots j i }
+        ensures categories { length result.now.package ≡ length self.now.book.now.supply }
+    {
+        let _bids = self.bids(j);
+        self.book.bid(self.bidder(j), i)
     }
 
     /// What bid `i` of bidder `j` counts.
@@ -44,7 +71,9 @@ impl<'a> Lowering<'a> {
         ensures worth { result ≡ counted self.now j i }
         ensures size { unsigned_abs result ≤ 2 ^ 120 }
     {
-        lowered_worth(self.den, self.book.net(j, i), self.surplus[j as usize - 1])
+        let _bids = self.bids(j);
+        let net = self.book.net(self.bidder(j), i);
+        lowered_worth(self.den, net, self.surplus[j as usize - 1])
     }
 
     /// What bidder `j` counts where it isn't used.
@@ -65,7 +94,7 @@ impl<'a> Lowering<'a> {
     {
         let _bidders = self.book.bidders();
         let _bids = self.bids(j);
-        if self.den >= 0 && self.book.better(j, i) != 0 {
+        if self.den >= 0 && self.book.better(self.bidder(j), i) != 0 {
             return true;
         }
         self.worth(j, i) <= self.idle(j)
@@ -78,6 +107,16 @@ impl<'a> Lowering<'a> {
         let _bidders = self.book.bidders();
         self.den.unsigned_abs() <= NARROW_DEN && are_narrow(self.surplus)
     }
+}
+
+/// Which of so many bidders has number `j`, from the first on or turned round.
+fn bidder_of(turned: bool, bidders: usize, j: u16) -> u16
+    requires few { bidders < 2 ^ 16 }
+    requires bidder { (0 < j) × (j ≤ bidders) }
+    ensures bidder { result ≡ bidder_at turned bidders j }
+    ensures inside { (0 < result) × (result ≤ bidders) }
+{
+    if turned { bidders as u16 - j + 1 } else { j }
 }
 
 /// Whether no number is larger than a narrow surplus.

@@ -61,7 +61,7 @@ fn count_narrow_bids(lowering: &Lowering, j: u16, line: &mut [i64], below: &[i64
             continue;
         }
         let worth = lowering.worth(j, i + 1) as i64;
-        let bid = lowering.book.bid(j, i + 1);
+        let bid = lowering.bid(j, i + 1);
         add_narrow_bid(lowering.book.supply(), line, below, &bid.package, worth);
     }
 }

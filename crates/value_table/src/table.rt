@@ -54,6 +54,7 @@ impl ValueTable {
     {
         let lowering = Lowering {
             book,
+            turned: false,
             skip,
             den,
             surplus,
@@ -81,6 +82,7 @@ impl ValueTable {
         let surplus = Vec::from_slice(alloc, &self.surplus)?;
         let lowering = Lowering {
             book,
+            turned: false,
             skip: j,
             den: 1,
             surplus: &surplus,
@@ -119,6 +121,7 @@ impl ValueTable {
     {
         let lowering = Lowering {
             book,
+            turned: false,
             skip: self.skip,
             den: self.den,
             surplus: &self.surplus,
@@ -133,6 +136,7 @@ impl ValueTable {
     {
         let lowering = Lowering {
             book,
+            turned: false,
             skip: self.skip,
             den: self.den,
             surplus: &self.surplus,
@@ -142,7 +146,7 @@ impl ValueTable {
     }
 }
 
-fn zeros(alloc: Global, count: usize) -> Result<Vec<i128>, AllocError>
+pub fn zeros(alloc: Global, count: usize) -> Result<Vec<i128>, AllocError>
     requires { count ≤ MOST_BIDDERS }
     ensures count { IfOk result (λ v. length v.items ≡ count) }
     ensures zeros { IfOk result (λ v. (k : ℕ) → slice_index_or v.items k (pos 0) ≡ pos 0) }

@@ -1,10 +1,11 @@
 ghost use Rattle.std.specs.Prelude.{IsTrue, pos};
 ghost use Rattle.auction_model.specs.Book.{market_of};
 ghost use Rattle.choices.specs.Lowering.{CanLower};
+ghost use Rattle.value_table.specs.SideValues.{AreSidesOf};
 
-use crate::{BookChooser, ValueTable, win};
-use bid_book::read_book;
-use choices::{Chooser, Found, value};
+use crate::{BookChooser, Sides, ValueTable, win};
+use bid_book::{BidBook, read_book};
+use choices::{Chooser, Found, first_by_listing, value};
 use std::alloc::{AllocError, Global};
 
 /// One lot of each of two categories; b1 and b2 win it.
@@ -85,5 +86,74 @@ fn a_bidder_that_pays_more_than_its_bid_counts_where_it_is_not_used(
     }
     assert!(rt; grid.line(0) == [5i128, 6, 15, 17].as_slice());
     assert!(rt; grid.line(1) == [0i128, 1, 0, 12].as_slice());
+    Ok(())
+}
+
+/// The greatest value without each bidder of the book: without b1, b2 and b4 win, without b2, b1 and b5.
+const WITHOUT_ONE: &[i128] = &[34, 40, 48, 48, 48];
+
+// Whether these are the values without each bidder.
+fn are_values_without(book: &BidBook, sides: &Sides, values: &[i128]) -> bool
+    requires { AreSidesOf book.now sides.now }
+{
+    if values.len() != book.bidders() {
+        return false;
+    }
+    for k in 0..values.len() {
+        if sides.without(k as u16 + 1) != values[k] {
+            return false;
+        }
+    }
+    true
+}
+
+#[test]
+fn sides_give_the_values_without_each_bidder(rt: HostRuntime) -> Result<(), AllocError> {
+    let Ok(book) = read_book(rt.alloc(), BOOK.as_bytes()) else {
+        panic!(rt; "this is a book");
+    };
+    let sides = Sides::build(rt.alloc(), &book)?;
+    assert!(rt; are_values_without(&book, &sides, WITHOUT_ONE));
+    if book.bidders() < 2 || book.supply().states() != 4 {
+        panic!(rt; "there are five bidders, and one lot of each of two categories");
+    }
+    assert_eq!(rt; sides.left(2, 3), 48);
+    assert_eq!(rt; sides.right(2, 3), 32);
+    let table = sides.table_without(rt.alloc(), &book, 1)?;
+    assert_eq!(rt; table.most(&book), 34);
+    Ok(())
+}
+
+/// Two lots of one category with a reserve of 1, and one lot of another.
+const THREE: &str =
+    "book 1\nsupply 2 1\nreserve 1 0\nbidder a\nbid 1 0 10\nbid 2 0 16\nbidder b\nbid 0 1 5\nbid 1 1 12\nbidder c\nbid 1 0 5\nbid 1 1 9\nend\n";
+
+/// The same book without a, without b and without c.
+const TWO_OF_THREE: &[&str] = &[
+    "book 1\nsupply 2 1\nreserve 1 0\nbidder b\nbid 0 1 5\nbid 1 1 12\nbidder c\nbid 1 0 5\nbid 1 1 9\nend\n",
+    "book 1\nsupply 2 1\nreserve 1 0\nbidder a\nbid 1 0 10\nbid 2 0 16\nbidder c\nbid 1 0 5\nbid 1 1 9\nend\n",
+    "book 1\nsupply 2 1\nreserve 1 0\nbidder a\nbid 1 0 10\nbid 2 0 16\nbidder b\nbid 0 1 5\nbid 1 1 12\nend\n",
+];
+
+// The value of the winning choice of each book, by going through all choices.
+fn listed_values(alloc: Global, texts: &[&str]) -> Result<Vec<i128>, AllocError> {
+    let mut values = Vec::new(alloc);
+    for text in texts {
+        if let Ok(book) = read_book(alloc, text.as_bytes()) {
+            let winners = first_by_listing(alloc, &book)?;
+            values.push(value(&book, &winners))?;
+        }
+    }
+    Ok(values)
+}
+
+#[test]
+fn sides_agree_with_a_listing(rt: HostRuntime) -> Result<(), AllocError> {
+    let Ok(book) = read_book(rt.alloc(), THREE.as_bytes()) else {
+        panic!(rt; "this is a book");
+    };
+    let sides = Sides::build(rt.alloc(), &book)?;
+    let values = listed_values(rt.alloc(), TWO_OF_THREE)?;
+    assert!(rt; are_values_without(&book, &sides, &values));
     Ok(())
 }

@@ -5,7 +5,6 @@ ghost use Rattle.auction_model.specs.Place.{states_of, place_of, left_at};
 ghost use Rattle.auction_model.specs.Market.{sum_after};
 ghost use Rattle.auction_model.specs.Menu.{fits_after};
 ghost use Rattle.auction_model.specs.Greatest.{IsFirstGreatest};
-ghost use Rattle.auction_model.specs.Book.{lots_of};
 ghost use Rattle.auction_model.specs.Table.{IsEntry};
 ghost use Rattle.auction_model.specs.Steps.{sum_with, IsFirstNumber};
 ghost use Rattle.value_table.specs.Counted.{counted_bids, counted, IsCountedLine, IsCountedTable};
@@ -20,11 +19,11 @@ fn sum_at(lowering: &Lowering, j: u16, i: u16, place: usize, below: &[i128]) -> 
     requires bid { (0 < i) × (i ≤ (counted_bids lowering.now).bids j) }
     requires place { place < states_of lowering.now.book.now.supply }
     requires below { IsCountedLine lowering.now j below.now }
-    ensures fits { IfSome result (λ _. IsTrue (is_within (lots_of lowering.now.book.now j i) (left_at lowering.now.book.now.supply place))) }
+    ensures fits { IfSome result (λ _. IsTrue (is_within ((counted_bids lowering.now).lots j i) (left_at lowering.now.book.now.supply place))) }
     ensures sum { IfSome result (λ z. z ≡ sum_with (counted_bids lowering.now) (counted lowering.now) lowering.now.book.now.supply j place below.now i) }
-    ensures exceeds { IfNone result (IsFalse (is_within (lots_of lowering.now.book.now j i) (left_at lowering.now.book.now.supply place))) }
+    ensures exceeds { IfNone result (IsFalse (is_within ((counted_bids lowering.now).lots j i) (left_at lowering.now.book.now.supply place))) }
 {
-    let bid = lowering.book.bid(j, i);
+    let bid = lowering.bid(j, i);
     match lowering.book.supply().minus(place, &bid.package) {
         Some(rest) => Some(lowering.worth(j, i) + below[rest]),
         None => None,
@@ -55,12 +54,12 @@ fn place_left(lowering: &Lowering, j: u16, i: u16, place: usize) -> usize
     requires bidder { (0 < j) × (j ≤ length lowering.now.book.now.bidders) }
     requires bid { i ≤ (counted_bids lowering.now).bids j }
     requires place { place < states_of lowering.now.book.now.supply }
-    requires fits { IsTrue (is_within (lots_of lowering.now.book.now j i) (left_at lowering.now.book.now.supply place)) }
-    ensures place { result ≡ place_of lowering.now.book.now.supply (less (left_at lowering.now.book.now.supply place) (lots_of lowering.now.book.now j i)) }
+    requires fits { IsTrue (is_within ((counted_bids lowering.now).lots j i) (left_at lowering.now.book.now.supply place)) }
+    ensures place { result ≡ place_of lowering.now.book.now.supply (less (left_at lowering.now.book.now.supply place) ((counted_bids lowering.now).lots j i)) }
     ensures below { result < states_of lowering.now.book.now.supply }
 {
     let _bids = lowering.bids(j);
-    place_after(lowering.book, j, i, place).unwrap()
+    place_after(lowering.book, lowering.bidder(j), i, place).unwrap()
 }
 
 /// The first of the greatest choices, from the lines of its table.

@@ -1,8 +1,8 @@
-use Rattle.std.proofs.Common.{◌≡◌, ◌∙◌, ◌<◌, ◌-◌, ◌+◌, sym, ap, arith, get_or, length, map, [], suc}
+use Rattle.std.proofs.Common.{◌≡◌, ◌∙◌, ◌<◌, ◌-◌, ◌+◌, sym, ap, subst, arith, rules, get_or, length, map, List, [], ◌∷◌, suc, ℤ, Vec, Global}
 use Rattle.std.proofs.lemmas.List.{get_or-map, length-map}
 use Rattle.auction_model.proofs.LinesLaws.{line-first, lines-some}
 use Rattle.value_table.proofs.TableLines.{entries}
-use Rattle.value_table.specs.Counted.{counted_bids, counted}
+use Rattle.value_table.specs.Counted.{counted_bids, counted, IsCountedLine, AreCountedLines}
 use Rattle.value_table.proofs.lines.lines_down.Goals as goal
 
 pub next_line-requires-clause-below : goal.next_line-requires-clause-below
@@ -16,3 +16,15 @@ next_line-requires-clause-below c =
     let is : get_or (map entries lines) 0 [] ≡ c.deref.result.now =
     get_or-map entries lines 0 c.index.result.now [] (omega (arith, length-map lines entries)) ∙ ap entries (sym c.index.ensures) ∙ sym c.deref.ensures.value in
     rw up (rw is at first)
+
+pub loop-k-preserved : goal.loop-k-preserved
+loop-k-preserved c =
+    let l = c.args.lowering.now in
+    let line = c.in_ok-line.line in
+    let lines = c.loop-k.lines.items in
+    let made : c.insert.new.self.items ≡ line ∷ lines = search rules in
+    let down : c.loop-k.k - 1 + 1 - 1 ≡ c.loop-k.k - 1 = omega arith in
+    let up : c.loop-k.k ≡ suc (c.loop-k.k - 1) = omega (arith, c.loop-k-test.true) in
+    let own : IsCountedLine l (c.loop-k.k - 1) line.items = rw down at c.in_ok-line.ensures in
+    let rest : AreCountedLines l (suc c.args.top) (suc (c.loop-k.k - 1)) (map entries lines) = subst (λ k. AreCountedLines l (suc c.args.top) k (map entries lines)) up c.loop-k.invariant in
+    subst (λ (items : List (Vec ℤ Global)). AreCountedLines l (suc c.args.top) (c.loop-k.k - 1) (map entries items)) (sym made) (own, rest)

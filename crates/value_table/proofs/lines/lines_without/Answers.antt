@@ -3,6 +3,7 @@ use Rattle.auction_model.specs.Book.{menu_of}
 use Rattle.auction_model.specs.Table.{IsLine, AreLinesTo}
 use Rattle.auction_model.proofs.LinesLaws.{lines-more, table-from_lines}
 use Rattle.auction_model.proofs.SkipLaws.{line-past_skip, line-at_skip}
+use Rattle.value_table.specs.Turned.{in_order}
 use Rattle.value_table.specs.Counted.{counted_bids, counted}
 use Rattle.value_table.proofs.lines.lines_without.Goals as goal
 
@@ -13,8 +14,8 @@ lines_down-requires-clause-first c =
     let line = get_or c.args.whole.now j [] in
     let is : c.in_ok-first.first.items ≡ line = c.in_ok-first.ensures.items ∙ c.line.ensures.line in
     let own : IsLine (counted_bids l) (counted l) l.book.now.supply j line =
-    line-past_skip (menu_of l.book.now) (counted l) l.book.now.supply j j line (omega arith) (c.requires.whole.exact j c.requires.bidder.1) in
-    rw is (line-at_skip (menu_of l.book.now) (counted l) l.book.now.supply j line c.requires.bidder.0 c.requires.bidder.1 refl c.requires.idle own)
+    line-past_skip (in_order l.turned (menu_of l.book.now)) (counted l) l.book.now.supply j j line (omega arith) (c.requires.whole.exact j c.requires.bidder.1) in
+    rw is (line-at_skip (in_order l.turned (menu_of l.book.now)) (counted l) l.book.now.supply j line c.requires.bidder.0 c.requires.bidder.1 refl c.requires.idle own)
 
 pub loop-k-preserved : goal.loop-k-preserved
 loop-k-preserved c =
@@ -28,7 +29,7 @@ loop-k-preserved c =
     let up : k + 1 ≡ suc k = omega arith in
     let inside : k ≤ m.bidders = omega (arith, c.requires.whole.lines, c.lines-k-end.ensures) in
     let past : j ≤ k = omega (arith, c.requires.bidder.0) in
-    let own : IsLine m counts supply k line = line-past_skip (menu_of l.book.now) counts supply j k line past (c.requires.whole.exact k inside) in
+    let own : IsLine m counts supply k line = line-past_skip (in_order l.turned (menu_of l.book.now)) counts supply j k line past (c.requires.whole.exact k inside) in
     let made : c.push_shared.new.self ≡ c.loop-k.grid ++ line ∷ [] = c.in_ok-push_shared.ensures.pushed in
     let all : AreLinesTo m counts supply (suc k) 0 c.push_shared.new.self = subst (AreLinesTo m counts supply (suc k) 0) (sym made) (lines-more m counts supply k 0 c.loop-k.grid line c.loop-k.invariant own) in
     subst (λ n. AreLinesTo m counts supply n 0 c.push_shared.new.self) (sym up) all

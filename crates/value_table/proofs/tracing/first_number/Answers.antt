@@ -1,7 +1,6 @@
 use Rattle.std.proofs.Common.{◌≡◌, ◌∙◌, ◌<◌, ◌≤◌, ◌+◌, ℕ, IsTrue, sym, ap, refl, arith, rules, below_more, ℤ, ◌<ℤ◌, ◌≤ℤ◌}
 use Rattle.std.proofs.lemmas.Int.{to_z-of_z, ints, by_lt_z}
 use Rattle.std.proofs.lemmas.Bool.{false≢true}
-use Rattle.auction_model.specs.Book.{lots_of}
 use Rattle.auction_model.specs.Package.{is_within}
 use Rattle.auction_model.specs.Place.{left_at}
 use Rattle.auction_model.specs.Steps.{sum_with}
@@ -38,9 +37,9 @@ loop-i-preserved c =
     let here_same = to_z-of_z w128 c.args.here here_fits in
     let known : c.loop-i.i + 1 ≤ m.bids c.args.j = omega (arith, c.bids-i-end.ensures.bids) in
     let sum_of = sum_with m counts supply c.args.j c.args.place c.args.below.now in
-    let was : (h : ℕ) → h < c.loop-i.i → IsTrue (is_within (lots_of l.book.now c.args.j (h + 1)) (left_at supply c.args.place)) → sum_of (h + 1) <ℤ c.args.here = rw here_same at c.loop-i.invariant in
+    let was : (h : ℕ) → h < c.loop-i.i → IsTrue (is_within (m.lots c.args.j (h + 1)) (left_at supply c.args.place)) → sum_of (h + 1) <ℤ c.args.here = rw here_same at c.loop-i.invariant in
     rw here_same
-    (below_more (λ h. IsTrue (is_within (lots_of l.book.now c.args.j (h + 1)) (left_at supply c.args.place)) → sum_of (h + 1) <ℤ c.args.here) c.loop-i.i was
+    (below_more (λ h. IsTrue (is_within (m.lots c.args.j (h + 1)) (left_at supply c.args.place)) → sum_of (h + 1) <ℤ c.args.here) c.loop-i.i was
     (elim c.match-sum_at.branch [
       | in-Some+else-sum-here w ↦ λ own.
           below_from_other (sum_of (c.loop-i.i + 1)) c.args.here

@@ -1,5 +1,4 @@
 use Rattle.std.proofs.Common.{◌+◌, ◌<◌, ℕ, IsTrue, ◌<ℤ◌}
-use Rattle.auction_model.specs.Book.{lots_of}
 use Rattle.auction_model.specs.Package.{is_within}
 use Rattle.auction_model.specs.Place.{left_at}
 use Rattle.auction_model.specs.Steps.{sum_with}
@@ -7,4 +6,4 @@ use Rattle.value_table.specs.Counted.{counted_bids, counted}
 use Rattle.value_table.proofs.tracing.first_number.Given as goal
 
 abbrev pub invariant-loop-i : goal.invariant-loop-i
-invariant-loop-i l = (h : ℕ) → h < l.i → IsTrue (is_within (lots_of l.lowering.book.now l.j (h + 1)) (left_at l.lowering.book.now.supply l.place)) → sum_with (counted_bids l.lowering) (counted l.lowering) l.lowering.book.now.supply l.j l.place l.below (h + 1) <ℤ l.here
+invariant-loop-i l = (h : ℕ) → h < l.i → IsTrue (is_within ((counted_bids l.lowering).lots l.j (h + 1)) (left_at l.lowering.book.now.supply l.place)) → sum_with (counted_bids l.lowering) (counted l.lowering) l.lowering.book.now.supply l.j l.place l.below (h + 1) <ℤ l.here

@@ -1,9 +1,8 @@
 use Rattle.std.proofs.Common.{◌≡◌, ◌∙◌, ◌≤◌, ◌^◌, ap, arith, rules, get_or, pos, ◌+ℤ◌, unsigned_abs}
 use Rattle.std.proofs.lemmas.Int.{to_z-of_z, fits_signed_from_abs}
-use Rattle.auction_model.specs.Book.{lots_of}
 use Rattle.auction_model.specs.Package.{less}
 use Rattle.auction_model.specs.Place.{left_at, place_of}
-use Rattle.value_table.specs.Counted.{counted}
+use Rattle.value_table.specs.Counted.{counted_bids, counted}
 use Rattle.value_table.proofs.Sizes.{line-small}
 use mir.Val.{SFits}
 use mir.Syntax.{w128}
@@ -26,7 +25,7 @@ returns-in-Some-clause-sum c =
     let below_fits : SFits w128 b = fits_signed_from_abs w128 b (omega (arith, small)) in
     let worth_fits : SFits w128 c.worth.result = search rules in
     let sum_fits : SFits w128 (c.worth.result +ℤ b) = search rules in
-    let rest : c.in-Some.rest ≡ place_of supply (less (left_at supply c.args.place) (lots_of l.book.now c.args.j c.args.i)) =
+    let rest : c.in-Some.rest ≡ place_of supply (less (left_at supply c.args.place) ((counted_bids l).lots c.args.j c.args.i)) =
     simp (c.supply.ensures.supply, c.bid-bid.ensures.lots) at c.in-Some.ensures.left in
     rw (to_z-of_z w128 b below_fits, to_z-of_z w128 c.worth.result worth_fits, to_z-of_z w128 (c.worth.result +ℤ b) sum_fits)
     (ap (λ z. z +ℤ b) c.worth.ensures.worth ∙ ap (λ r. counted l c.args.j c.args.i +ℤ get_or c.args.below.now r (pos 0)) rest)

@@ -1,7 +1,8 @@
-use Rattle.std.proofs.Common.{◌<◌, ◌≤◌, ◌≤ℤ◌, arith, rules, length, pos}
+use Rattle.std.proofs.Common.{ℕ, subst, ◌<◌, ◌≤◌, ◌≤ℤ◌, arith, rules, length, pos}
 use Rattle.std.proofs.lemmas.Int.{to_z-of_z, ints}
 use Rattle.auction_model.specs.Book.{bids_of}
-use Rattle.value_table.specs.Counted.{counted}
+use Rattle.bid_book.specs.Better.{IsBetter}
+use Rattle.value_table.specs.Counted.{seat, counted}
 use Rattle.value_table.proofs.Needless.{needless-better, needless-idle}
 use mir.Val.{SFits}
 use mir.Syntax.{w128}
@@ -14,8 +15,8 @@ returns-then-better-ne0 c = λ _.
     let test = simp to_z-of_z at c.if-self-ge0.true in
     let den : pos 0 ≤ℤ l.den = grind (arith, ints, test) in
     let some : 0 < c.better.result = omega (arith, c.if-better-ne0.true) in
-    let known : c.args.i ≤ length (bids_of l.book.now c.args.j) = omega (arith, c.requires.bid.1, c.bids-bids.ensures.bids, c.bids-bids.ensures.most) in
-    needless-better l c.args.j c.args.i c.better.result c.bidders-bidders.ensures.kept known some den (c.better.ensures some)
+    let known : c.args.i ≤ length (bids_of l.book.now (seat l c.args.j)) = omega (arith, c.requires.bid.1, c.bids-bids.ensures.bids, c.bids-bids.ensures.most) in
+    needless-better l c.args.j c.args.i c.better.result c.bidders-bidders.ensures.kept known some den (subst (λ (j : ℕ). IsBetter l.book.now j c.args.i c.better.result) c.bidder.ensures.bidder (c.better.ensures some))
 
 pub returns : goal.returns
 returns c = λ test.

@@ -1,0 +1,141 @@
+// Tables from two sides.
+ghost use Rattle.std.specs.Prelude.{◌≡◌, ℕ, ◌+◌, ◌^◌, ◌≤◌, ◌<◌, length, IfOk, slice_index_or, pos, unsigned_abs};
+ghost use Rattle.auction_model.specs.Book.{Book, market_of};
+ghost use Rattle.auction_model.specs.Greatest.{IsGreatestValue};
+ghost use Rattle.auction_model.specs.Market.{value_of};
+ghost use Rattle.auction_model.specs.Place.{left_at};
+ghost use Rattle.auction_model.specs.Prices.{allowed_without};
+ghost use Rattle.value_table.specs.SideValues.{AreSidesOf, IsLeftEntry, IsRightEntry, IsTurnedTable, IsGreatestPair, AreFullLines};
+ghost use Rattle.value_table.specs.TableValue.{IsTableOf, IsPlainWithout};
+
+use crate::lines::all_lines;
+use crate::lowering::Lowering;
+use crate::table::{ValueTable, plain_table, zeros};
+use bid_book::BidBook;
+use choices::Grid;
+use std::alloc::{AllocError, Global};
+use std::marker::Model;
+
+/// The greatest net values from both sides of a book: of the bidders up to one, and of the bidders after it, within each remaining
+/// supply. Together they give the value without any bidder, and the tables without it.
+#[derive(Drop)]
+pub struct Sides {
+    bidders: usize,
+    states: usize,
+    right: ValueTable,
+    left: Grid,
+}
+
+impl Model for Sides {
+    ghost use Rattle.value_table.specs.SideValues.{SidesValue, AreFullSides};
+
+    ghost Value = { SidesValue };
+
+    ghost view = { λ s. record { bidders = s.bidders; states = s.states; right = s.right; left = s.left } };
+
+    ghost invariant = { λ s. AreFullSides (record { bidders = s.bidders; states = s.states; right = s.right; left = s.left }) };
+}
+
+impl Sides {
+    /// The sides of a book: two tables. The only error is want of memory.
+    pub fn build(alloc: Global, book: &BidBook) -> Result<Sides, AllocError>
+        ensures { IfOk result (λ s. AreSidesOf book.now s) }
+    {
+        let right = plain_table(alloc, book)?;
+        let left = turned_lines(alloc, book)?;
+        Ok(Sides {
+            bidders: book.bidders(),
+            states: book.supply().states(),
+            right,
+            left,
+        })
+    }
+
+    /// The greatest net value of a choice that uses only bidders after `k`, within what a place leaves: the entry of the exact
+    /// table.
+    pub fn right(&self, k: usize, place: usize) -> i128
+        requires bidder { k ≤ self.now.bidders }
+        requires place { place < self.now.states }
+        ensures { (book : Book) → AreSidesOf book self.now → IsRightEntry book k (left_at book.supply place) result }
+    {
+        self.right.entry(k, place)
+    }
+
+    /// The greatest net value of a choice that uses only bidders 1 to `k`, within what a place leaves.
+    pub fn left(&self, k: usize, place: usize) -> i128
+        requires bidder { k ≤ self.now.bidders }
+        requires place { place < self.now.states }
+        ensures { (book : Book) → AreSidesOf book self.now → IsLeftEntry book k (left_at book.supply place) result }
+    {
+        let line = self.left.line(self.bidders - k);
+        line[place]
+    }
+
+    /// The greatest value of a choice that doesn't use bidder `j`.
+    pub fn without(&self, j: u16) -> i128
+        requires { (0 < j) × (j ≤ self.now.bidders) }
+        ensures most { (book : Book) → AreSidesOf book self.now → IsGreatestValue (allowed_without (market_of book) j) (value_of (market_of book)) result }
+        ensures size { unsigned_abs result ≤ 2 ^ 121 }
+    {
+        let before = self.left.line(self.bidders - (j as usize - 1));
+        let after = self.right.grid().line(j as usize);
+        greatest_pair(before, after)
+    }
+
+    /// The exact table of the net amounts without bidder `j`, as `ValueTable::build` gives it. The lines from `j` on are shared
+    /// with the table of all bids, and only those below are worked out. The book is the one that the sides were built from.
+    pub fn table_without(
+        &self,
+        alloc: Global,
+        book: &BidBook,
+        j: u16,
+    ) -> Result<ValueTable, AllocError>
+        requires bidder { (0 < j) × (j ≤ length book.now.bidders) }
+        requires sides { AreSidesOf book.now self.now }
+        ensures plain { IfOk result (λ t. IsPlainWithout j t) }
+        ensures exact { IfOk result (λ t. IsTableOf book.now t) }
+    {
+        let table = self.right.without(alloc, book, j)?;
+        Ok(table)
+    }
+
+    /// The exact table of all bids.
+    pub fn table(&self) -> &ValueTable
+        ensures { result.now ≡ self.now.right }
+    {
+        &self.right
+    }
+}
+
+/// The exact table of the net amounts with the bidders turned round: line `k` counts the bidders up to the `k`th from the end.
+fn turned_lines(alloc: Global, book: &BidBook) -> Result<Grid, AllocError>
+    ensures exact { IfOk result (λ g. IsTurnedTable book.now g) }
+{
+    let surplus = zeros(alloc, book.bidders())?;
+    let lowering = Lowering {
+        book,
+        turned: true,
+        skip: 0,
+        den: 1,
+        surplus: &surplus,
+    };
+    let lines = all_lines(alloc, &lowering)?;
+    Ok(lines)
+}
+
+/// The greatest sum of a number of one line and the number of the other as far from its end.
+fn greatest_pair(before: &[i128], after: &[i128]) -> i128
+    requires some { 0 < length before.now }
+    requires places { length before.now ≡ length after.now }
+    requires before { (s : ℕ) → unsigned_abs (slice_index_or before.now s (pos 0)) ≤ 2 ^ 120 }
+    requires after { (s : ℕ) → unsigned_abs (slice_index_or after.now s (pos 0)) ≤ 2 ^ 120 }
+    ensures most { IsGreatestPair (length before.now) before.now after.now result }
+    ensures size { unsigned_abs result ≤ 2 ^ 121 }
+{
+    let last = before.len() - 1;
+    let mut most = before[0] + after[last];
+    for s in 1..before.len() {
+        most = most.max(before[s] + after[last - s]);
+    }
+    most
+}
