@@ -155,5 +155,5 @@ tables-more book bidders tables j table all one = record {
 pub left-size : (all own : ℤ) → unsigned_abs all ≤ 2 ^ 120 → unsigned_abs own ≤ 2 ^ 42 → unsigned_abs (all -ℤ own) < 2 ^ 127
 left-size all own p q = omega (arith, ints)
 
-pub price-size : (others all own : ℤ) → unsigned_abs others ≤ 2 ^ 120 → unsigned_abs all ≤ 2 ^ 120 → unsigned_abs own ≤ 2 ^ 42 → unsigned_abs (others -ℤ (all -ℤ own)) < 2 ^ 127
+pub price-size : (others all own : ℤ) → unsigned_abs others ≤ 2 ^ 121 → unsigned_abs all ≤ 2 ^ 120 → unsigned_abs own ≤ 2 ^ 42 → unsigned_abs (others -ℤ (all -ℤ own)) < 2 ^ 127
 price-size others all own p q r = omega (arith, ints)

@@ -2,6 +2,7 @@
 #![tactic(auto)]
 
 mod pricing;
+mod source;
 #[cfg(test)]
 mod tests;
 mod winners;

@@ -5,7 +5,7 @@ use Rattle.choices.specs.declared.chooser.Single.{Single}
 use Rattle.choices.specs.Singles.{winners_after, IsSingle}
 use Rattle.value_table.specs.TableValue.{TableValue}
 use Rattle.vickrey.specs.VickreyValue.{AreTablesWithout}
-use Rattle.vickrey.proofs.pricing.vickrey_from.Given as goal
+use Rattle.vickrey.proofs.pricing.each_winner.Given as goal
 
 abbrev pub invariant-loop-k : goal.invariant-loop-k
 invariant-loop-k l = record {

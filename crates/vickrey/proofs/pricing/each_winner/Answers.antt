@@ -5,8 +5,8 @@ use Rattle.choices.specs.declared.chooser.Single.{Single}
 use Rattle.choices.specs.Singles.{winners_after, IsSingle}
 use Rattle.value_table.specs.TableValue.{TableValue}
 use Rattle.vickrey.proofs.VickreyLaws.{winners-count, winners-skip, winners-take, each-more, tables-more}
-use Rattle.vickrey.proofs.pricing.vickrey_from.Goals as goal
-use Rattle.vickrey.proofs.pricing.vickrey_from.Goals.{then-number-ne0+in_ok-one+in_ok-push+in_ok-push-2, else-number-ne0}
+use Rattle.vickrey.proofs.pricing.each_winner.Goals as goal
+use Rattle.vickrey.proofs.pricing.each_winner.Goals.{then-number-ne0+in_ok-one+in_ok-push+in_ok-push-2, else-number-ne0}
 
 pub number-requires : goal.number-requires
 number-requires c = (omega arith, omega (arith, c.bidders-k-end.ensures.bidders, winners-count c.args.book.now c.args.winners.now c.requires.winners))
