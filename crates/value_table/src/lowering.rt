@@ -1,7 +1,7 @@
 // What bids count in a table.
-ghost use Rattle.std.specs.Prelude.{IsTrue, ℕ, slice_index_or, ◌≡◌, ◌+◌, ◌*◌, ◌^◌, ◌≤◌, ◌<◌, length, pos, neg_ℤ, ◌-ℤ◌, ◌*ℤ◌, unsigned_abs};
+ghost use Rattle.std.specs.Prelude.{IsTrue, ℕ, slice_index_or, ◌≡◌, ◌+◌, ◌*◌, ◌^◌, ◌≤◌, length, pos, neg_ℤ, ◌-ℤ◌, ◌*ℤ◌, unsigned_abs};
 ghost use Rattle.std.specs.Int.{int_max};
-ghost use Rattle.value_table.specs.Turned.{bidder_at, IsOrderInRange};
+ghost use Rattle.value_table.specs.Turned.{IsOrderInRange};
 
 use bid_book::BidBook;
 use lots::Bid;
@@ -37,7 +37,11 @@ impl<'a> Lowering<'a> {
         ensures bidder { result ≡ seat self.now j }
         ensures inside { (0 < result) × (result ≤ length self.now.book.now.bidders) }
     {
-        bidder_of(self.turned, self.book.bidders(), j)
+        if self.turned {
+            self.book.bidders() as u16 - j + 1
+        } else {
+            j
+        }
     }
 
     /// How many bids of bidder `j` count.
@@ -60,7 +64,6 @@ impl<'a> Lowering<'a> {
         ensures lots { result.now.package ≡ (counted_bids self.now).lots j i }
         ensures categories { length result.now.package ≡ length self.now.book.now.supply }
     {
-        let _bids = self.bids(j);
         self.book.bid(self.bidder(j), i)
     }
 
@@ -71,7 +74,6 @@ impl<'a> Lowering<'a> {
         ensures worth { result ≡ counted self.now j i }
         ensures size { unsigned_abs result ≤ 2 ^ 120 }
     {
-        let _bids = self.bids(j);
         let net = self.book.net(self.bidder(j), i);
         lowered_worth(self.den, net, self.surplus[j as usize - 1])
     }
@@ -107,16 +109,6 @@ impl<'a> Lowering<'a> {
         let _bidders = self.book.bidders();
         self.den.unsigned_abs() <= NARROW_DEN && are_narrow(self.surplus)
     }
-}
-
-/// Which of so many bidders has number `j`, from the first on or turned round.
-fn bidder_of(turned: bool, bidders: usize, j: u16) -> u16
-    requires few { bidders < 2 ^ 16 }
-    requires bidder { (0 < j) × (j ≤ bidders) }
-    ensures bidder { result ≡ bidder_at turned bidders j }
-    ensures inside { (0 < result) × (result ≤ bidders) }
-{
-    if turned { bidders as u16 - j + 1 } else { j }
 }
 
 /// Whether no number is larger than a narrow surplus.
