@@ -16,7 +16,8 @@ use Rattle.auction_rules.proofs.Drafts.{draft_list-other}
 use Rattle.auction_rules.proofs.Standings.{IsFinal, stopped, IsFinal-final_round, held_in-close}
 use Rattle.auction_rules.proofs.States.{length-listing, get_or-listing, listing-same, state-parts}
 
-sum_of-within : (none : List ℕ) (f g : ℕ → List ℕ) (n : ℕ) → ((j : ℕ) → 1 ≤ j → j ≤ n → f j ≡ g j) → sum_of none f n ≡ sum_of none g n
+-- a sum over bidders of lots that are the same for each
+pub sum_of-within : (none : List ℕ) (f g : ℕ → List ℕ) (n : ℕ) → ((j : ℕ) → 1 ≤ j → j ≤ n → f j ≡ g j) → sum_of none f n ≡ sum_of none g n
 sum_of-within none f g zero same = refl
 sum_of-within none f g (suc n) same = rw (sum_of-within none f g n (λ j low high. same j low (omega arith)), same (suc n) (omega arith) (omega arith)) refl
 

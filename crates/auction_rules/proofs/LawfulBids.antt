@@ -8,6 +8,7 @@ use Rattle.std.proofs.lemmas.List.Sums.{sum_by-cons}
 use Rattle.std.proofs.Math.Nat.{mul-le-mul, mul-le-mul_left}
 use Rattle.auction_model.specs.Book.{BookBid}
 use Rattle.auction_model.specs.Package.{is_within, cost_of}
+use Rattle.auction_model.proofs.ListLaws.{each-push}
 use Rattle.auction_rules.specs.declared.Event.{Event}
 use Rattle.auction_rules.specs.declared.Event.TheVariants.{Bid, Draft, Drop, Submit, Close}
 use Rattle.auction_rules.specs.declared.Reply.TheVariants as reply
@@ -27,10 +28,6 @@ use Rattle.auction_rules.proofs.Drafts.{draft_list-other, draft_list-own}
 use Rattle.auction_rules.proofs.Standings.{after_close, own_now, standing-own, standing-other, standing-close}
 use Rattle.auction_rules.proofs.Views.{a_close, an_own, another, cases_line, with_line-ok, with_line-refused, is_close-true, is_of-parts}
 use Rattle.auction_rules.proofs.Sound.{prices_after-rises}
-
-each-append : {A : Type 0} (P : A → Type 0) (xs : List A) (x : A) → AllByRecursion P xs → P x → AllByRecursion P (xs ++ x ∷ [])
-each-append P [] x each last = (last, tt)
-each-append P (y ∷ xs) x each last = (each.0, each-append P xs x each.1 last)
 
 -- a package that may be held
 pub record IsLawfulPackage (terms : Terms) (lots : List ℕ) : Type 0 where
@@ -271,10 +268,10 @@ record IsBelowTop (s : Standing) : Type 0 where
   now : AreBelowTop s.prices
 
 below_top-close : (terms : Terms) (s : Standing) (prices : Option (List ℕ)) → ((p : List ℕ) → prices ≡ Some p → AreBelowTop p) → IsBelowTop s → IsBelowTop (after_close terms s prices)
-below_top-close terms s (Some p) posts below = record { rounds = each-append (λ (r : OwnRound). AreBelowTop r.prices) s.rounds (own_now s) below.rounds below.now; now = posts p refl }
+below_top-close terms s (Some p) posts below = record { rounds = each-push (λ (r : OwnRound). AreBelowTop r.prices) s.rounds (own_now s) below.rounds below.now; now = posts p refl }
 below_top-close terms s None posts below =
     elim (cases_Bool (is_clock s.stage)) [
-      | inl clock ↦ record { rounds = rw clock (each-append (λ (r : OwnRound). AreBelowTop r.prices) s.rounds (own_now s) below.rounds below.now); now = below.now }
+      | inl clock ↦ record { rounds = rw clock (each-push (λ (r : OwnRound). AreBelowTop r.prices) s.rounds (own_now s) below.rounds below.now); now = below.now }
       | inr other ↦ record { rounds = rw other below.rounds; now = below.now }
     ]
 
@@ -322,7 +319,7 @@ record IsHeldLawfully (terms : Terms) (r : OwnRound) : Type 0 where
 own_rounds-lawful : (terms : Terms) (held : ℕ → ℕ → List ℕ) (j n : ℕ) → ((r : ℕ) → IsLawfulPackage terms (held r j)) → AllByRecursion (IsHeldLawfully terms) (own_rounds terms held j n)
 own_rounds-lawful terms held j zero lawful = tt
 own_rounds-lawful terms held j (suc n) lawful =
-    each-append (IsHeldLawfully terms) (own_rounds terms held j n) (own_round terms held j (suc n)) (own_rounds-lawful terms held j n lawful)
+    each-push (IsHeldLawfully terms) (own_rounds terms held j n) (own_round terms held j (suc n)) (own_rounds-lawful terms held j n lawful)
     (record { lots = lawful (suc n); floor = reserves-floor terms held (suc n - 1) (held (suc n) j) })
 
 clock_bid-lawful : (terms : Terms) (r : OwnRound) → AreLimited terms → IsHeldLawfully terms r → AreBelowTop r.prices → IsLawfulBid terms (clock_bid r)

@@ -15,7 +15,8 @@ use Rattle.std.proofs.lemmas.Str.Ascii.{IsAscii-from_all}
 use Rattle.auction_model.specs.Book.{Book, BookBid, Bidder, no_bidder, bidder_of}
 use Rattle.auction_model.specs.Package.{is_within}
 use Rattle.book_form.specs.BookForm.{IsNameByte, IsName, IsBid}
-use Rattle.book_form.specs.BookLines.{numbers_text, bid_excess, bidder_excess, bid_line}
+use Rattle.book_form.specs.BookLines.{bid_excess, bidder_excess, bid_line}
+use Rattle.text_lines.specs.Decimals.{decimals_text}
 use Rattle.limits.specs.declared.LimitKind.TheVariants.{Bidders, Bids}
 use Rattle.lots.specs.Limits.{IsSupply}
 use Rattle.bid_book.specs.declared.read.Stage.{Stage}
@@ -23,7 +24,8 @@ use Rattle.bid_book.specs.declared.read.Stage.TheVariants.{Listing}
 use Rattle.bid_book.specs.Stages.{Step, Adds, AddsBidder, AddsBid, bidder_with, with_bidders, with_bid, last_bids, lots_before, last_excess}
 use Rattle.bid_book.specs.Stops.{AreNumbers}
 use Rattle.bid_book.proofs.Numbers.{snoc_one}
-use Rattle.bid_book.proofs.FieldReads.{each_all, each_push}
+use Rattle.auction_model.proofs.ListLaws.{each-push}
+use Rattle.bid_book.proofs.FieldReads.{each_all}
 use Rattle.bid_book.proofs.Spelled.{within_parts}
 use Rattle.bid_book.proofs.Growth.{parts_of, last_of, with_last, last_excess-push, bids_excess-push}
 use Rattle.bid_book.proofs.HeadLaws.{one_list}
@@ -51,7 +53,7 @@ ok_some (Err e) o P Q Z is match other = absurd (other e match)
 pub unused_more : (bidders : List Bidder) (name : List ℕ) (j : ℕ) → j < length bidders → AllByRecursion (λ b. b.name ≢ name) (take j bidders) → (get_or bidders j no_bidder).name ≢ name
     → AllByRecursion (λ b. b.name ≢ name) (take (j + 1) bidders)
 unused_more bidders name j lt all other =
-    subst (AllByRecursion (λ (b : Bidder). b.name ≢ name)) (sym (take_more bidders j no_bidder lt)) (each_push (λ (b : Bidder). b.name ≢ name) (take j bidders) (get_or bidders j no_bidder) all other)
+    subst (AllByRecursion (λ (b : Bidder). b.name ≢ name)) (sym (take_more bidders j no_bidder lt)) (each-push (λ (b : Bidder). b.name ≢ name) (take j bidders) (get_or bidders j no_bidder) all other)
 
 pub name_at : (book : Book) (j : ℕ) → (bidder_of book (j + 1)).name ≡ (get_or book.bidders j no_bidder).name
 name_at book j = ap (λ (k : ℕ). (get_or book.bidders k no_bidder).name) (omega arith)
@@ -79,7 +81,7 @@ module _ (supply reserves before : List ℕ) (kept : IsSupply supply) (line : Li
   pub bid_numbers : AreNumbers (bid.lots ++ bid.amount ∷ [])
   bid_numbers = low_numbers bid.lots bid.amount (within_low bid.lots supply valid.categories valid.within kept.lots) valid.top
 
-  module _ (numbers : List ℕ) (are : AreNumbers numbers) (stated : line ≡ codes "bid" ++ numbers_text numbers) where
+  module _ (numbers : List ℕ) (are : AreNumbers numbers) (stated : line ≡ codes "bid" ++ decimals_text numbers) where
     numbers_are : numbers ≡ bid.lots ++ bid.amount ∷ []
     numbers_are = one_list line (codes "bid") numbers (bid.lots ++ bid.amount ∷ []) stated are spelled bid_numbers
 

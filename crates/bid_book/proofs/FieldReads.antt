@@ -5,9 +5,10 @@ use Rattle.std.specs.Fmt.{decimal}
 use Rattle.std.proofs.lemmas.List.{append-nil}
 use Rattle.std.proofs.lemmas.List.Elements.{All-nil, All-cons, All-head, All-tail}
 use Rattle.wide_num.proofs.Decimal.{decimal_one}
-use Rattle.book_form.specs.BookLines.{numbers_text}
-use Rattle.bid_book.specs.Stops.{AreNumbers, Stops, IsField}
-use Rattle.bid_book.proofs.Numbers.{one_field, number_own, numbers_stops}
+use Rattle.text_lines.specs.Decimals.{decimals_text}
+use Rattle.text_lines.specs.Fields.{FieldEnds}
+use Rattle.bid_book.specs.Stops.{AreNumbers, IsField}
+use Rattle.text_lines.proofs.DecimalFields.{one_field, number_own, decimals_stop}
 
 pub each_all : {X : Type 0} (P : X → Type 0) (xs : List X) → AllByRecursion P xs → All P xs
 each_all P [] all = All-nil P
@@ -17,20 +18,16 @@ pub all_each : {X : Type 0} (P : X → Type 0) (xs : List X) → All P xs → Al
 all_each P [] all = tt
 all_each P (x ∷ xs) all = (All-head P x xs all, all_each P xs (All-tail P x xs all))
 
-pub each_push : {X : Type 0} (P : X → Type 0) (xs : List X) (x : X) → AllByRecursion P xs → P x → AllByRecursion P (xs ++ x ∷ [])
-each_push P [] x all is = (is, tt)
-each_push P (y ∷ xs) x all is = (all.0, each_push P xs x all.1 is)
-
-pub numbers_push : (had : List ℕ) (n : ℕ) → numbers_text (had ++ n ∷ []) ≡ numbers_text had ++ 32 ∷ decimal n
+pub numbers_push : (had : List ℕ) (n : ℕ) → decimals_text (had ++ n ∷ []) ≡ decimals_text had ++ 32 ∷ decimal n
 numbers_push [] n = append-nil (32 ∷ decimal n)
-numbers_push (m ∷ had) n = ap (λ (l : List ℕ). 32 ∷ decimal m ++ l) (numbers_push had n) ∙ sym (append_assoc (32 ∷ decimal m) (numbers_text had) (32 ∷ decimal n))
+numbers_push (m ∷ had) n = ap (λ (l : List ℕ). 32 ∷ decimal m ++ l) (numbers_push had n) ∙ sym (append_assoc (32 ∷ decimal m) (decimals_text had) (32 ∷ decimal n))
 
 -- these numbers are read, and the rest spells those that follow
 pub record GoesOn (had rest ns : List ℕ) : Type 0 where
   pub more : List ℕ
   pub whole : ns ≡ had ++ more
   pub small : AreNumbers more
-  pub rest_is : rest ≡ numbers_text more
+  pub rest_is : rest ≡ decimals_text more
 
 -- the first of the numbers that a text spells, and the others
 pub record FirstNumber (field more ns : List ℕ) : Type 0 where
@@ -40,14 +37,14 @@ pub record FirstNumber (field more ns : List ℕ) : Type 0 where
   pub small : number ≤ 2 ^ 42
   pub later_small : AreNumbers later
   pub field_is : field ≡ decimal number
-  pub more_is : more ≡ numbers_text later
+  pub more_is : more ≡ decimals_text later
 
-pub first_number : (text field more ns : List ℕ) → IsField text field more → text ≡ numbers_text ns → AreNumbers ns → FirstNumber field more ns
+pub first_number : (text field more ns : List ℕ) → IsField text field more → text ≡ decimals_text ns → AreNumbers ns → FirstNumber field more ns
 first_number text field more [] is text_is small = let e : 32 ∷ field ++ more ≡ [] = sym is.spelled ∙ text_is in absurd (cc e)
 first_number text field more (n ∷ ns) is text_is small =
-    let e : 32 ∷ field ++ more ≡ 32 ∷ decimal n ++ numbers_text ns = sym is.spelled ∙ text_is in
-    let tails : field ++ more ≡ decimal n ++ numbers_text ns = cc in
-    let parts = one_field field (decimal n) more (numbers_text ns) is.own (number_own n (omega (arith, small.0))) is.stops (numbers_stops ns) tails in
+    let e : 32 ∷ field ++ more ≡ 32 ∷ decimal n ++ decimals_text ns = sym is.spelled ∙ text_is in
+    let tails : field ++ more ≡ decimal n ++ decimals_text ns = cc in
+    let parts = one_field field (decimal n) more (decimals_text ns) is.own (number_own n (omega (arith, small.0))) is.stops (decimals_stop ns) tails in
     record { number = n; later = ns; whole = refl; small = small.0; later_small = small.1; field_is = parts.0; more_is = parts.1 }
 
 pub goes_further : (had rest field more ns : List ℕ) (n : ℕ) → IsField rest field more → field ≡ decimal n → n ≤ 2 ^ 42 → GoesOn had rest ns → GoesOn (had ++ n ∷ []) more ns
@@ -62,16 +59,16 @@ goes_further had rest field more ns n is spelled small on =
     }
 
 -- the text read so far, with one field more
-pub spelled_further : (text had rest field more : List ℕ) (n : ℕ) → text ≡ numbers_text had ++ rest → IsField rest field more → field ≡ decimal n → text ≡ numbers_text (had ++ n ∷ []) ++ more
+pub spelled_further : (text had rest field more : List ℕ) (n : ℕ) → text ≡ decimals_text had ++ rest → IsField rest field more → field ≡ decimal n → text ≡ decimals_text (had ++ n ∷ []) ++ more
 spelled_further text had rest field more n spelled is field_is =
-    spelled ∙ ap (λ (l : List ℕ). numbers_text had ++ l) (is.spelled ∙ ap (λ (l : List ℕ). 32 ∷ l ++ more) field_is)
-    ∙ sym (append_assoc (numbers_text had) (32 ∷ decimal n) more)
+    spelled ∙ ap (λ (l : List ℕ). decimals_text had ++ l) (is.spelled ∙ ap (λ (l : List ℕ). 32 ∷ l ++ more) field_is)
+    ∙ sym (append_assoc (decimals_text had) (32 ∷ decimal n) more)
     ∙ ap (λ (l : List ℕ). l ++ more) (sym (numbers_push had n))
 
-pub not_spaced : (rest : List ℕ) (ns : List ℕ) → 0 < length rest → ((behind : List ℕ) → rest ≡ 32 ∷ behind → ⊥) → rest ≡ numbers_text ns → ⊥
+pub not_spaced : (rest : List ℕ) (ns : List ℕ) → 0 < length rest → ((behind : List ℕ) → rest ≡ 32 ∷ behind → ⊥) → rest ≡ decimals_text ns → ⊥
 not_spaced rest [] long other is = omega (arith, ap length is)
-not_spaced rest (n ∷ ns) long other is = other (decimal n ++ numbers_text ns) is
+not_spaced rest (n ∷ ns) long other is = other (decimal n ++ decimals_text ns) is
 
-pub space_first : (cs : List ℕ) → 0 < length cs → get_or cs 0 0 ≡ 32 → Stops cs
+pub space_first : (cs : List ℕ) → 0 < length cs → get_or cs 0 0 ≡ 32 → FieldEnds cs
 space_first [] long is = tt
 space_first (c ∷ cs) long is = is

@@ -5,7 +5,8 @@ use Rattle.std.specs.List.{AllByRecursion, list_any}
 use Rattle.std.proofs.lemmas.List.{append_cancel_left}
 use Rattle.std.proofs.lemmas.Bool.Decides.{nat_tests}
 use Rattle.book_form.specs.BookForm.{IsOffer, AreReserves}
-use Rattle.book_form.specs.BookLines.{numbers_text, supply_line, reserve_line}
+use Rattle.book_form.specs.BookLines.{supply_line, reserve_line}
+use Rattle.text_lines.specs.Decimals.{decimals_text}
 use Rattle.limits.specs.declared.LimitKind.{LimitKind}
 use Rattle.lots.specs.declared.LotStop.{LotStop}
 use Rattle.lots.specs.declared.LotStop.TheVariants as lots
@@ -31,14 +32,14 @@ numbers_small [] all = tt
 numbers_small (n ∷ ns) all = (omega (arith, all.0), numbers_small ns all.1)
 
 -- behind its word a line has one list of numbers
-pub one_list : (line word ms ns : List ℕ) → line ≡ word ++ numbers_text ms → AreNumbers ms → line ≡ word ++ numbers_text ns → AreNumbers ns → ms ≡ ns
+pub one_list : (line word ms ns : List ℕ) → line ≡ word ++ decimals_text ms → AreNumbers ms → line ≡ word ++ decimals_text ns → AreNumbers ns → ms ≡ ns
 one_list line word ms ns a are_ms b are_ns =
-    numbers_one ms ns (numbers_small ms are_ms) (numbers_small ns are_ns) (append_cancel_left word (numbers_text ms) (numbers_text ns) (sym a ∙ b))
+    numbers_one ms ns (numbers_small ms are_ms) (numbers_small ns are_ns) (append_cancel_left word (decimals_text ms) (decimals_text ns) (sym a ∙ b))
 
-pub supply_read : (line ns supply : List ℕ) → AreNumbers ns → line ≡ codes "supply" ++ numbers_text ns → line ≡ (supply_line supply).0 → IsOffer supply → ns ≡ supply
+pub supply_read : (line ns supply : List ℕ) → AreNumbers ns → line ≡ codes "supply" ++ decimals_text ns → line ≡ (supply_line supply).0 → IsOffer supply → ns ≡ supply
 supply_read line ns supply are a b offer = one_list line (codes "supply") ns supply a are b (offer_numbers supply offer.each)
 
-pub reserves_read : (line ns supply reserves : List ℕ) → AreNumbers ns → line ≡ codes "reserve" ++ numbers_text ns → line ≡ (reserve_line reserves).0 → AreReserves supply reserves → ns ≡ reserves
+pub reserves_read : (line ns supply reserves : List ℕ) → AreNumbers ns → line ≡ codes "reserve" ++ decimals_text ns → line ≡ (reserve_line reserves).0 → AreReserves supply reserves → ns ≡ reserves
 reserves_read line ns supply reserves are a b all = one_list line (codes "reserve") ns reserves a are b (reserve_numbers reserves all.each)
 
 pub none_zero : (ns : List ℕ) → AllByRecursion (λ n. (1 ≤ n) × (n ≤ 999)) ns → list_any (λ n. nat_eq n 0) ns ≡ false

@@ -4,7 +4,8 @@ use Rattle.std.specs.Prelude.{codes}
 use Rattle.std.specs.Fmt.{decimal}
 use Rattle.auction_model.specs.Book.{BookBid, Book}
 use Rattle.book_form.specs.BookForm.{IsOffer, AreReserves}
-use Rattle.book_form.specs.BookLines.{numbers_text, bid_line}
+use Rattle.book_form.specs.BookLines.{bid_line}
+use Rattle.text_lines.specs.Decimals.{decimals_text}
 use Rattle.bid_book.specs.Stages.{with_bid, bidder_with, with_bidders, AddsBidder, AddsBid, Adds}
 use Rattle.bid_book.proofs.Numbers.{AreSmall, numbers_one, snoc_one}
 use Rattle.bid_book.proofs.Spelled.{small_supply, small_reserves, small_counts}
@@ -13,11 +14,11 @@ pub record Spaced (l : List ℕ) : Type 0 where
   pub rest : List ℕ
   pub is : l ≡ 32 ∷ rest
 
-pub spaced : (counts : List ℕ) (amount : ℕ) → Spaced (numbers_text (counts ++ amount ∷ []))
+pub spaced : (counts : List ℕ) (amount : ℕ) → Spaced (decimals_text (counts ++ amount ∷ []))
 spaced [] amount = record { rest = decimal amount ++ []; is = refl }
-spaced (c ∷ cs) amount = record { rest = decimal c ++ numbers_text (cs ++ amount ∷ []); is = refl }
+spaced (c ∷ cs) amount = record { rest = decimal c ++ decimals_text (cs ++ amount ∷ []); is = refl }
 
-pub not_bid : (name counts : List ℕ) (amount : ℕ) → codes "bidder " ++ name ≡ codes "bid" ++ numbers_text (counts ++ amount ∷ []) → ⊥
+pub not_bid : (name counts : List ℕ) (amount : ℕ) → codes "bidder " ++ name ≡ codes "bid" ++ decimals_text (counts ++ amount ∷ []) → ⊥
 not_bid name counts amount is =
     let sp = spaced counts amount in
     let e : codes "bidder " ++ name ≡ codes "bid" ++ 32 ∷ sp.rest = is ∙ ap (λ (l : List ℕ). codes "bid" ++ l) sp.is in cc
@@ -30,18 +31,18 @@ end_no_bid l fields a b = omega (arith, ap (λ (x : List ℕ). get_or x 0 0) (sy
 
 pub end_adds_none : (book new : Book) (l : List ℕ) → l ≡ codes "end" → Adds book new l → ⊥
 end_adds_none book new l last (inl adds) = end_no_bidder l adds.name last adds.spelled
-end_adds_none book new l last (inr adds) = end_no_bid l (numbers_text (adds.bid.lots ++ adds.bid.amount ∷ [])) last adds.spelled
+end_adds_none book new l last (inr adds) = end_no_bid l (decimals_text (adds.bid.lots ++ adds.bid.amount ∷ [])) last adds.spelled
 
-pub supplies_one : (l a b : List ℕ) → IsOffer a → IsOffer b → l ≡ codes "supply" ++ numbers_text a → l ≡ codes "supply" ++ numbers_text b → a ≡ b
+pub supplies_one : (l a b : List ℕ) → IsOffer a → IsOffer b → l ≡ codes "supply" ++ decimals_text a → l ≡ codes "supply" ++ decimals_text b → a ≡ b
 supplies_one l a b sa sb la lb =
-    let e : codes "supply" ++ numbers_text a ≡ codes "supply" ++ numbers_text b = sym la ∙ lb in
-    let same : numbers_text a ≡ numbers_text b = cc in
+    let e : codes "supply" ++ decimals_text a ≡ codes "supply" ++ decimals_text b = sym la ∙ lb in
+    let same : decimals_text a ≡ decimals_text b = cc in
     numbers_one a b (small_supply a sa.each) (small_supply b sb.each) same
 
-pub reserves_one : (supply l a b : List ℕ) → AreReserves supply a → AreReserves supply b → l ≡ codes "reserve" ++ numbers_text a → l ≡ codes "reserve" ++ numbers_text b → a ≡ b
+pub reserves_one : (supply l a b : List ℕ) → AreReserves supply a → AreReserves supply b → l ≡ codes "reserve" ++ decimals_text a → l ≡ codes "reserve" ++ decimals_text b → a ≡ b
 reserves_one supply l a b ra rb la lb =
-    let e : codes "reserve" ++ numbers_text a ≡ codes "reserve" ++ numbers_text b = sym la ∙ lb in
-    let same : numbers_text a ≡ numbers_text b = cc in
+    let e : codes "reserve" ++ decimals_text a ≡ codes "reserve" ++ decimals_text b = sym la ∙ lb in
+    let same : decimals_text a ≡ decimals_text b = cc in
     numbers_one a b (small_reserves a ra.each) (small_reserves b rb.each) same
 
 pub two_bidders : (old a b : Book) (l : List ℕ) → AddsBidder old a l → AddsBidder old b l → a ≡ b
@@ -52,8 +53,8 @@ two_bidders old a b l x y =
 
 pub bid_one : (l : List ℕ) (a b : BookBid) → AreSmall (a.lots ++ a.amount ∷ []) → AreSmall (b.lots ++ b.amount ∷ []) → l ≡ (bid_line 0 a).0 → l ≡ (bid_line 0 b).0 → a ≡ b
 bid_one l a b sa sb la lb =
-    let e : codes "bid" ++ numbers_text (a.lots ++ a.amount ∷ []) ≡ codes "bid" ++ numbers_text (b.lots ++ b.amount ∷ []) = sym la ∙ lb in
-    let same : numbers_text (a.lots ++ a.amount ∷ []) ≡ numbers_text (b.lots ++ b.amount ∷ []) = cc in
+    let e : codes "bid" ++ decimals_text (a.lots ++ a.amount ∷ []) ≡ codes "bid" ++ decimals_text (b.lots ++ b.amount ∷ []) = sym la ∙ lb in
+    let same : decimals_text (a.lots ++ a.amount ∷ []) ≡ decimals_text (b.lots ++ b.amount ∷ []) = cc in
     let parts = snoc_one a.lots b.lots a.amount b.amount (numbers_one (a.lots ++ a.amount ∷ []) (b.lots ++ b.amount ∷ []) sa sb same) in
     λ i. record { lots = parts.0 i; amount = parts.1 i }
 

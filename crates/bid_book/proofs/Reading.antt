@@ -6,12 +6,14 @@ use Rattle.std.proofs.lemmas.List.{append-nil, take_at, take_all, length-replica
 use Rattle.line_text.proofs.Runs.{Runs, Reads, runs_append}
 use Rattle.auction_model.specs.Book.{BookBid, Bidder, Book}
 use Rattle.book_form.specs.BookForm.{IsOffer, IsBid, AreBids, empty_package, IsBidder, AreBidders, IsBook}
-use Rattle.book_form.specs.BookLines.{Line, numbers_text, bidder_excess, bid_excess, bid_line, bid_lines, bidder_line, bidder_lines, supply_line, reserve_line, head_lines, lines}
+use Rattle.book_form.specs.BookLines.{Line, bidder_excess, bid_excess, bid_line, bid_lines, bidder_line, bidder_lines, supply_line, reserve_line, head_lines, lines}
+use Rattle.text_lines.specs.Decimals.{decimals_text}
 use Rattle.bid_book.specs.declared.read.Stage.{Stage}
 use Rattle.bid_book.specs.declared.read.Stage.TheVariants.{Start, Headed, Supplied, Listing, Ended}
 use Rattle.bid_book.specs.Stages.{last_lots, bidder_with, with_bidders, opened, AddsBid, Step, last_excess, excess}
 use Rattle.bid_book.proofs.Numbers.{AreSmall}
-use Rattle.bid_book.proofs.Spelled.{line_append, numbers_line, name_line, small_supply, small_reserves, small_counts, book_word, supply_word, reserve_word, bidder_word, bid_word, end_word}
+use Rattle.line_text.proofs.Lines.{line_append}
+use Rattle.bid_book.proofs.Spelled.{numbers_line, name_line, small_supply, small_reserves, small_counts, book_word, supply_word, reserve_word, bidder_word, bid_word, end_word}
 use Rattle.bid_book.proofs.Growth.{listed, last_excess-push, bids_excess-push, last_lots-push, last_of, with_last, adds_one}
 use Rattle.bid_book.proofs.OneLine.{end_adds_none, supplies_one, reserves_one, new_one}
 
@@ -114,7 +116,7 @@ bids_run book front name had (b ∷ bs) supply all =
     let mark : bid_excess (length had + 1) ≡ last_excess 0 (front ++ bidder_with name (had ++ b ∷ []) ∷ []) =
     sym (last_excess-push 0 front (bidder_with name (had ++ b ∷ [])) ∙ bids_excess-push (0 + length front + 1) had b) in (
       Listing (with_bidders book (front ++ bidder_with name (had ++ b ∷ []) ∷ [])),
-      line_append (codes "bid") (numbers_text (b.lots ++ b.amount ∷ [])) bid_word (numbers_line _ small),
+      line_append (codes "bid") (decimals_text (b.lots ++ b.amount ∷ [])) bid_word (numbers_line _ small),
       inr (
         with_bidders book (front ++ bidder_with name (had ++ b ∷ []) ∷ []),
         inr (bid_added_line book front name had b all.0),
@@ -161,10 +163,10 @@ complete book valid =
       refl,
       (
         Supplied book.supply,
-        line_append (codes "supply") (numbers_text book.supply) supply_word (numbers_line book.supply (small_supply book.supply valid.supply.each)),
+        line_append (codes "supply") (decimals_text book.supply) supply_word (numbers_line book.supply (small_supply book.supply valid.supply.each)),
         (book.supply, refl, valid.supply, refl),
         refl,
-        (Listing free, line_append (codes "reserve") (numbers_text book.reserves) reserve_word (numbers_line book.reserves (small_reserves book.reserves valid.reserves.each)), (book.reserves, refl, valid.reserves, refl), refl, refl),
+        (Listing free, line_append (codes "reserve") (decimals_text book.reserves) reserve_word (numbers_line book.reserves (small_reserves book.reserves valid.reserves.each)), (book.reserves, refl, valid.reserves, refl), refl, refl),
       ),
     ) in
     let body = bidders_run book [] book.bidders valid.supply valid.bidders in

@@ -6,25 +6,22 @@ use Rattle.std.proofs.lemmas.Bool.Decides.{nat_tests}
 use Rattle.std.specs.Fmt.{decimal}
 use Rattle.wide_num.proofs.Decimal.{numeral_decimal, AreDigits}
 use Rattle.line_text.specs.LineText.{IsLine}
+use Rattle.line_text.proofs.Lines.{line_append}
 use Rattle.auction_model.specs.Package.{is_within}
 use Rattle.book_form.specs.BookForm.{IsNameByte, IsName}
-use Rattle.book_form.specs.BookLines.{numbers_text}
+use Rattle.text_lines.specs.Decimals.{decimals_text}
 use Rattle.bid_book.proofs.Numbers.{AreSmall}
 
 pub digits_line : (ds : List ℕ) → AreDigits ds → IsLine ds
 digits_line [] all = tt
 digits_line (d ∷ ds) all = ((λ is. absurd (omega (arith, all.0))), digits_line ds all.1)
 
-pub line_append : (xs ys : List ℕ) → IsLine xs → IsLine ys → IsLine (xs ++ ys)
-line_append [] ys x y = y
-line_append (c ∷ xs) ys x y = (x.0, line_append xs ys x.1 y)
-
 pub number_line : (n : ℕ) → n < 2 ^ 120 → IsLine (decimal n)
 number_line n small = digits_line (decimal n) (numeral_decimal n (omega arith)).digits
 
-pub numbers_line : (ns : List ℕ) → AreSmall ns → IsLine (numbers_text ns)
+pub numbers_line : (ns : List ℕ) → AreSmall ns → IsLine (decimals_text ns)
 numbers_line [] small = tt
-numbers_line (n ∷ ns) small = ((λ is. absurd (omega arith)), line_append (decimal n) (numbers_text ns) (number_line n small.0) (numbers_line ns small.1))
+numbers_line (n ∷ ns) small = ((λ is. absurd (omega arith)), line_append (decimal n) (decimals_text ns) (number_line n small.0) (numbers_line ns small.1))
 
 pub name_byte : (c : ℕ) → IsNameByte c → c ≢ 10
 name_byte c (inl letter) is = omega arith

@@ -4,37 +4,17 @@ use Rattle.std.specs.Fmt.{decimal}
 use Rattle.std.proofs.Common.{refl, sym, ap, ◌∙◌, arith, append_assoc}
 use Rattle.std.proofs.lemmas.List.{append-nil, at_drop_more, drop_all}
 use Rattle.line_text.specs.LineText.{text_of, Says, stated}
+use Rattle.line_text.proofs.Lines.{text_of-append}
 use Rattle.auction_model.specs.Book.{Book, BookBid, Bidder, no_bid, no_bidder, bidder_of, bids_of, bid_of, lots_of}
 use Rattle.book_form.specs.BookForm.{IsBook}
-use Rattle.book_form.specs.BookLines.{Line, bid_line, bid_lines, bidder_line, bidder_lines, lines, numbers_text}
+use Rattle.book_form.specs.BookLines.{Line, bid_line, bid_lines, bidder_line, bidder_lines, lines}
+use Rattle.text_lines.specs.Decimals.{decimals_text}
+use Rattle.text_lines.proofs.Runs.{one_more}
 use Rattle.book_form.proofs.TextLaws.{numbers-append}
 use Rattle.lots.specs.declared.package.Bid.{Bid}
 use Rattle.bid_book.specs.Kept.{IsBidBook}
 use Rattle.bid_book.specs.Lists as given
 use Rattle.bid_book.specs.Written.{bid_text, bidder_text, bidders_text}
-
--- A piece for each item makes up the text of all: one item more.
-pub one_more : {X : Type 0} (F : List X → List ℕ) (xs : List X) (i : ℕ) (d : X) (whole before behind piece : List ℕ) → i < length xs → F (get_or xs i d ∷ drop (i + 1) xs) ≡ piece ++ F (drop (i + 1) xs)
-    → before ++ F (drop i xs) ≡ whole → behind ≡ before ++ piece → behind ++ F (drop (i + 1) xs) ≡ whole
-one_more F xs i d whole before behind piece inside splits so_far step =
-    ap (λ (t : List ℕ). t ++ F (drop (i + 1) xs)) step
-    ∙ append_assoc before piece (F (drop (i + 1) xs))
-    ∙ ap (λ (t : List ℕ). before ++ t) (sym splits ∙ sym (at_drop_more F xs i d inside))
-    ∙ so_far
-
--- all pieces
-pub all_added : {X : Type 0} (F : List X → List ℕ) (xs : List X) (i : ℕ) (whole before : List ℕ) → length xs ≤ i → F [] ≡ [] → before ++ F (drop i xs) ≡ whole → before ≡ whole
-all_added F xs i whole before end empty so_far =
-    sym (append-nil before) ∙ ap (λ (t : List ℕ). before ++ t) (sym (ap F (drop_all i xs end) ∙ empty)) ∙ so_far
-
--- the next of some numbers
-pub next_number : (ns : List ℕ) (i : ℕ) (whole before behind : List ℕ) → i < length ns → before ++ numbers_text (drop i ns) ≡ whole → behind ≡ before ++ 32 ∷ decimal (get_or ns i 0) → behind ++ numbers_text (drop (i + 1) ns) ≡ whole
-next_number ns i whole before behind inside so_far step = one_more numbers_text ns i 0 whole before behind (32 ∷ decimal (get_or ns i 0)) inside refl so_far step
-
--- the text of lines, and then of more
-pub text_append : (xs ys : List Line) → text_of (xs ++ ys) ≡ text_of xs ++ text_of ys
-text_append [] ys = refl
-text_append (l ∷ ls) ys = ap (λ (b : List ℕ). l.0 ++ 10 ∷ b) (text_append ls ys) ∙ sym (append_assoc l.0 (10 ∷ text_of ls) (text_of ys))
 
 -- the text of bids doesn't depend on how many stand before them
 bids_text : (m n : ℕ) (bs : List BookBid) → text_of (bid_lines m bs) ≡ text_of (bid_lines n bs)
@@ -45,9 +25,9 @@ bids_text m n (b ∷ bs) = ap (λ (t : List ℕ). (bid_line 0 b).0 ++ 10 ∷ t) 
 bidders_same : (m n : ℕ) (bs : List Bidder) → text_of (bidder_lines m bs) ≡ text_of (bidder_lines n bs)
 bidders_same m n [] = refl
 bidders_same m n (b ∷ bs) =
-    text_append (bidder_line m b.name ∷ bid_lines 0 b.bids) (bidder_lines (m + 1) bs)
+    text_of-append (bidder_line m b.name ∷ bid_lines 0 b.bids) (bidder_lines (m + 1) bs)
     ∙ ap (λ (t : List ℕ). bidder_text b ++ t) (bidders_same (m + 1) (n + 1) bs)
-    ∙ sym (text_append (bidder_line n b.name ∷ bid_lines 0 b.bids) (bidder_lines (n + 1) bs))
+    ∙ sym (text_of-append (bidder_line n b.name ∷ bid_lines 0 b.bids) (bidder_lines (n + 1) bs))
 
 -- the bid of the next number
 pub next_bid : (bs : List BookBid) (i : ℕ) (whole before behind : List ℕ) → i < length bs → before ++ text_of (bid_lines 0 (drop i bs)) ≡ whole → behind ≡ before ++ bid_text (get_or bs i no_bid) → behind ++ text_of (bid_lines 0 (drop (i + 1) bs)) ≡ whole
@@ -64,7 +44,7 @@ next_bidder bs k whole before behind inside so_far step =
     let b = get_or bs k no_bidder in
     let more = drop (k + 1) bs in
     let split : bidders_text (b ∷ more) ≡ bidder_text b ++ bidders_text more =
-    text_append (bidder_line 0 b.name ∷ bid_lines 0 b.bids) (bidder_lines 1 more) ∙ ap (λ (t : List ℕ). bidder_text b ++ t) (bidders_same 1 0 more) in
+    text_of-append (bidder_line 0 b.name ∷ bid_lines 0 b.bids) (bidder_lines 1 more) ∙ ap (λ (t : List ℕ). bidder_text b ++ t) (bidders_same 1 0 more) in
     one_more bidders_text bs k no_bidder whole before behind (bidder_text b) inside split so_far step
 
 -- the bid that a call gave, among those of its bidder
@@ -79,9 +59,9 @@ pub bidder_is : (book : Book) (k : ℕ) → bidder_of book (k + 1) ≡ get_or bo
 bidder_is book k = ap (λ (n : ℕ). get_or book.bidders n no_bidder) (omega arith)
 
 -- the line of a bid, piece by piece
-pub whole_bid : (bid : BookBid) (a b c d e : List ℕ) → b ≡ a ++ codes "bid" → c ≡ b ++ numbers_text bid.lots → d ≡ c ++ 32 ∷ decimal bid.amount → e ≡ d ++ codes "\n" → e ≡ a ++ bid_text bid
+pub whole_bid : (bid : BookBid) (a b c d e : List ℕ) → b ≡ a ++ codes "bid" → c ≡ b ++ decimals_text bid.lots → d ≡ c ++ 32 ∷ decimal bid.amount → e ≡ d ++ codes "\n" → e ≡ a ++ bid_text bid
 whole_bid bid a b c d e one two three four =
-    let last : numbers_text (bid.lots ++ bid.amount ∷ []) ≡ numbers_text bid.lots ++ 32 ∷ decimal bid.amount = numbers-append bid.lots (bid.amount ∷ []) ∙ ap (λ (t : List ℕ). numbers_text bid.lots ++ 32 ∷ t) (append-nil (decimal bid.amount)) in
+    let last : decimals_text (bid.lots ++ bid.amount ∷ []) ≡ decimals_text bid.lots ++ 32 ∷ decimal bid.amount = numbers-append bid.lots (bid.amount ∷ []) ∙ ap (λ (t : List ℕ). decimals_text bid.lots ++ 32 ∷ t) (append-nil (decimal bid.amount)) in
     rw (four, three, two, one, last) (simp append_assoc)
 
 -- the lines of a bidder: the first, and those of its bids
@@ -89,7 +69,7 @@ pub whole_bidder : (bidder : Bidder) (a b c d e : List ℕ) → b ≡ a ++ codes
 whole_bidder bidder a b c d e one two three four = rw (four, three, two, one) (simp append_assoc)
 
 -- the whole text, piece by piece
-pub whole_text : (book : Book) (a b c d e f g : List ℕ) → a ≡ codes "book 1\nsupply" → b ≡ a ++ numbers_text book.supply → c ≡ b ++ codes "\nreserve" → d ≡ c ++ numbers_text book.reserves → e ≡ d ++ codes "\n" → f ≡ e ++ bidders_text book.bidders → g ≡ f ++ codes "end\n"
+pub whole_text : (book : Book) (a b c d e f g : List ℕ) → a ≡ codes "book 1\nsupply" → b ≡ a ++ decimals_text book.supply → c ≡ b ++ codes "\nreserve" → d ≡ c ++ decimals_text book.reserves → e ≡ d ++ codes "\n" → f ≡ e ++ bidders_text book.bidders → g ≡ f ++ codes "end\n"
     → IsBidBook book → Says IsBook lines g (stated book)
 whole_text book a b c d e f g one two three four five six seven kept =
     record {
@@ -99,7 +79,7 @@ whole_text book a b c d e f g one two three four five six seven kept =
     }
   where
     tail : text_of (bidder_lines 0 book.bidders ++ (codes "end", None) ∷ []) ≡ bidders_text book.bidders ++ codes "end\n"
-    tail = text_append (bidder_lines 0 book.bidders) ((codes "end", None) ∷ [])
+    tail = text_of-append (bidder_lines 0 book.bidders) ((codes "end", None) ∷ [])
 
     spelled : g ≡ text_of (lines book)
     spelled = rw (seven, six, five, four, three, two, one, tail) (simp append_assoc)

@@ -3,6 +3,7 @@ use Rattle.std.specs.Prelude.{◌≡◌, ◌≢◌, ℕ, ◌≤◌, List, [], �
 use Rattle.std.specs.List.{AllByRecursion}
 use Rattle.limits.specs.declared.TheConstants.{MOST_AMOUNT}
 use Rattle.limits.specs.declared.LimitKind.TheVariants.{Categories, Lots, States}
+use Rattle.text_lines.specs.Fields.{FieldEnds}
 use Rattle.lots.specs.declared.LotStop.{LotStop}
 use Rattle.lots.specs.declared.LotStop.TheVariants as lots
 use Rattle.bid_book.specs.declared.BookStop.{BookStop}
@@ -14,16 +15,11 @@ use Rattle.bid_book.specs.declared.stop.LineStop.TheVariants.{Form, Limit, Memor
 abbrev pub AreNumbers : List ℕ → Type 0
 AreNumbers ns = AllByRecursion (λ n. n ≤ MOST_AMOUNT) ns
 
--- nothing, or a space first
-abbrev pub Stops : List ℕ → Type 0
-Stops [] = Unit {0}
-Stops (c ∷ cs) = c ≡ 32
-
 -- the text is a space, a field without spaces, and what follows it
 pub record IsField (text field more : List ℕ) : Type 0 where
   pub spelled : text ≡ 32 ∷ field ++ more
   pub own : AllByRecursion (λ c. c ≢ 32) field
-  pub stops : Stops more
+  pub stops : FieldEnds more
 
 -- a count without lots is a fault of form
 abbrev pub line_stop : LotStop → LineStop

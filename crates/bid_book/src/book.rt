@@ -132,6 +132,11 @@ impl BidBook {
         Ok(())
     }
 
+    /// The rules that each book keeps. Nothing is done: proofs read the clause.
+    pub fn kept(&self)
+        ensures { IsBidBook self.now }
+    {}
+
     /// What is sold.
     pub fn supply(&self) -> &Supply
         ensures supply { result.now ≡ self.now.supply }

@@ -1,17 +1,16 @@
 // From a book to its text.
-ghost use Rattle.std.specs.Prelude.{◌≡◌, ◌≤◌, ◌<◌, ◌∷◌, ◌++◌, IfOk, OnOk, length};
-ghost use Rattle.std.specs.Fmt.{decimal};
+ghost use Rattle.std.specs.Prelude.{◌≡◌, ◌≤◌, ◌<◌, ◌++◌, IfOk, OnOk, length};
 ghost use Rattle.line_text.specs.LineText.{Says, stated};
 ghost use Rattle.auction_model.specs.Book.{bidder_of};
 ghost use Rattle.book_form.specs.BookForm.{IsBook};
-ghost use Rattle.book_form.specs.BookLines.{lines, numbers_text};
+ghost use Rattle.book_form.specs.BookLines.{lines};
 ghost use Rattle.bid_book.specs.Lists.{bid_of};
 ghost use Rattle.bid_book.specs.Written.{bid_text, bidder_text, bidders_text};
 
 use crate::BidBook;
-use itoa::Buffer;
 use lots::Bid;
 use std::alloc::{AllocError, Global};
+use text_lines::{add_amounts, add_number, add_numbers};
 use wide_num::Text;
 
 /// The one text of a book, which states it. The only error is want of memory.
@@ -20,9 +19,9 @@ pub fn write_book(alloc: Global, book: &BidBook) -> Result<Text, AllocError>
 {
     let mut text = Text::new(alloc);
     text.add(b"book 1\nsupply")?;
-    add_counts(&mut text, book.supply().counts())?;
+    add_numbers(&mut text, book.supply().counts())?;
     text.add(b"\nreserve")?;
-    add_numbers(&mut text, book.reserves())?;
+    add_amounts(&mut text, book.reserves())?;
     text.push(b'\n')?;
     add_bidders(&mut text, book)?;
     text.add(b"end\n")?;
@@ -58,38 +57,8 @@ fn add_bid(text: &mut Text, bid: &Bid) -> Result<(), AllocError>
     ensures { OnOk result (text.new ≡ text.old ++ bid_text (bid_of bid.now)) }
 {
     text.add(b"bid")?;
-    add_counts(text, bid.package.counts())?;
+    add_numbers(text, bid.package.counts())?;
     add_number(text, bid.amount)?;
     text.push(b'\n')?;
-    Ok(())
-}
-
-/// Counts of lots, each behind one space.
-fn add_counts(text: &mut Text, counts: &[u16]) -> Result<(), AllocError>
-    ensures { OnOk result (text.new ≡ text.old ++ numbers_text counts.now) }
-{
-    for count in counts {
-        add_number(text, *count as u64)?;
-    }
-    Ok(())
-}
-
-/// Numbers, each behind one space.
-fn add_numbers(text: &mut Text, numbers: &[u64]) -> Result<(), AllocError>
-    ensures { OnOk result (text.new ≡ text.old ++ numbers_text numbers.now) }
-{
-    for number in numbers {
-        add_number(text, *number)?;
-    }
-    Ok(())
-}
-
-/// A number behind one space.
-fn add_number(text: &mut Text, number: u64) -> Result<(), AllocError>
-    ensures { OnOk result (text.new ≡ text.old ++ 32 ∷ decimal number) }
-{
-    let mut buffer = Buffer::new();
-    text.push(b' ')?;
-    text.add(buffer.format(number).as_bytes())?;
     Ok(())
 }

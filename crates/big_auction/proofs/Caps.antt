@@ -12,6 +12,7 @@ use Rattle.auction_rules.specs.Rounds.{OwnRound}
 use Rattle.auction_rules.specs.Caps.{no_round, last_round, enough, constraining, clock_bid, greatest, highest, cap_by, cap_of, excess_cap, first_excess, list_fault}
 use Rattle.auction_rules.specs.Lines.{with_entry}
 use Rattle.auction_rules.proofs.PackageLaws.{is_same-refl}
+use Rattle.auction_rules.proofs.BookCaps.{cost_of-empty}
 use Rattle.big_auction.specs.MadeAward.{made_terms}
 
 pub last_or-append : {A : Type 0} (d : A) (xs : List A) (x : A) → last_or d (xs ++ x ∷ []) ≡ x
@@ -46,19 +47,11 @@ greatest-last : (b : BookBid) (bids : List BookBid) → b.amount ≤ greatest b.
 greatest-last b [] = rw (is_same-refl b.lots) (omega arith)
 greatest-last b (c ∷ bids) = omega (arith, greatest-last b bids)
 
-pub cost-empty : (prices lots : List ℕ) → is_empty lots ≡ true → cost_of prices lots ≡ 0
-cost-empty [] lots empty = refl
-cost-empty (p ∷ prices) [] empty = refl
-cost-empty (p ∷ prices) (a ∷ lots) empty =
-    let both : ((a == 0) ≡ true) × (is_within lots [] ≡ true) = and_parts (a == 0) (is_within lots []) empty in
-    let none : a ≡ 0 = eqb-true a 0 both.0 in
-    rw none (omega (arith, cost-empty prices lots both.1))
-
 -- what was bid in the last round is at most the highest amount for it
 pub highest-last : (before : List OwnRound) (r : OwnRound) (list : List BookBid) → cost_of r.prices r.held ≤ highest (before ++ r ∷ []) list r.held
 highest-last before r list =
     elim (cases_Bool (is_empty r.held)) [
-      | inl empty ↦ rw empty (omega (arith, cost-empty r.prices r.held empty))
+      | inl empty ↦ rw empty (omega (arith, cost_of-empty r.prices r.held empty))
       | inr some ↦
           let bids : map clock_bid (before ++ r ∷ []) ≡ map clock_bid before ++ clock_bid r ∷ [] = map-append clock_bid before (r ∷ []) in
           let there : cost_of r.prices r.held ≤ greatest r.held (map clock_bid before ++ clock_bid r ∷ []) = greatest-last (clock_bid r) (map clock_bid before) in

@@ -9,6 +9,7 @@ use Rattle.auction_rules.specs.declared.Event.{Event}
 use Rattle.auction_rules.specs.declared.Event.TheVariants.{Bid, Submit, Close}
 use Rattle.auction_rules.specs.Rounds.{listing, sum_of, demand, prices_after, raised_prices}
 use Rattle.auction_rules.specs.Terms.{no_lots}
+use Rattle.auction_rules.proofs.Closing.{sum_of-within}
 use Rattle.auction_rules.proofs.States.{get_or-listing, length-listing}
 use Rattle.big_auction.specs.declared.values.Lots.{Lots}
 use Rattle.big_auction.specs.Draws.{behind, drawn_package, first_state}
@@ -97,10 +98,6 @@ packages-same number = refl
 
 -- ---- prices
 
-sum-same : (none : List ℕ) (f g : ℕ → List ℕ) (n : ℕ) → ((j : ℕ) → 1 ≤ j → j ≤ n → f j ≡ g j) → sum_of none f n ≡ sum_of none g n
-sum-same none f g zero same = refl
-sum-same none f g (suc n) same = rw (sum-same none f g n (λ j low high. same j low (omega arith)), same (suc n) (omega arith) (omega arith)) refl
-
 at-package : (number j : ℕ) → 1 ≤ j → j ≤ 12 → slice_index_or (made_packages number) (j - 1) [] ≡ package_of number j
 at-package number j low high = let e : suc (j - 1) ≡ j = omega arith in get_or-listing (package_of number) 12 (j - 1) [] (omega arith) ∙ ap (package_of number) e
 
@@ -108,7 +105,7 @@ prices-by : (number n : ℕ) → n ≤ 9 → prices_after made_terms (held_from 
 prices-by number zero few = refl
 prices-by number (suc n) few =
     let asks : demand made_terms (held_from (made_packages number)) (suc n) ≡ demand made_terms (held_by number) (suc n) =
-    sum-same (no_lots made_terms) (held_from (made_packages number) (suc n)) (held_by number (suc n)) 12 (λ j low high. at-package number j low high ∙ sym (held-early number (suc n) j few)) in
+    sum_of-within (no_lots made_terms) (held_from (made_packages number) (suc n)) (held_by number (suc n)) 12 (λ j low high. at-package number j low high ∙ sym (held-early number (suc n) j few)) in
     ap (λ (p : List ℕ). raised_prices 1 ((1, 100) ∷ (5, 200) ∷ []) p (demand made_terms (held_from (made_packages number)) (suc n)) made_terms.supply) (prices-by number n (omega arith))
     ∙ ap (λ (d : List ℕ). raised_prices 1 ((1, 100) ∷ (5, 200) ∷ []) (prices_after made_terms (held_by number) n) d made_terms.supply) asks
 

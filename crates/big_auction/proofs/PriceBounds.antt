@@ -82,12 +82,6 @@ no_price_top category (p ∷ prices) are =
     let low : p ≤ 68719476736 = omega (arith, are.0.top) in
     rw (le-leb p 68719476736 low) (no_price_top (suc category) prices are.1)
 
-pub length-raised : (tick : ℕ) (ts : List (ℕ × ℕ)) (prices d supply : List ℕ) → length (raised_prices tick ts prices d supply) ≡ length prices
-length-raised tick ts [] d supply = refl
-length-raised tick ts (p ∷ prices) [] supply = refl
-length-raised tick ts (p ∷ prices) (n ∷ d) [] = refl
-length-raised tick ts (p ∷ prices) (n ∷ d) (s ∷ supply) = omega (arith, length-raised tick ts prices d supply)
-
 -- what a package costs never falls
 pub cost-rises : (held : ℕ → ℕ → List ℕ) (m n : ℕ) (lots : List ℕ) → cost_of (prices_after made_terms held m) lots ≤ cost_of (prices_after made_terms held (n + m)) lots
 cost-rises held m zero lots = let e : m ≡ 0 + m = omega arith in subst (λ (k : ℕ). cost_of (prices_after made_terms held m) lots ≤ cost_of (prices_after made_terms held k) lots) e (omega arith)

@@ -3,8 +3,8 @@ use Rattle.std.specs.Prelude.{◌≡◌, ℕ, List, [], ◌∷◌, ◌++◌, cod
 use Rattle.std.proofs.Common.{sym, ◌∙◌, ap, append_assoc}
 use Rattle.std.proofs.lemmas.List.{append-nil}
 use Rattle.std.specs.Fmt.{decimal}
-use Rattle.book_form.specs.BookLines.{numbers_text}
+use Rattle.text_lines.specs.Decimals.{decimals_text}
 
-pub numbers-append : (ms ns : List ℕ) → numbers_text (ms ++ ns) ≡ numbers_text ms ++ numbers_text ns
+pub numbers-append : (ms ns : List ℕ) → decimals_text (ms ++ ns) ≡ decimals_text ms ++ decimals_text ns
 numbers-append [] ns = refl
-numbers-append (m ∷ ms) ns = ap (λ (l : List ℕ). 32 ∷ decimal m ++ l) (numbers-append ms ns) ∙ sym (append_assoc (32 ∷ decimal m) (numbers_text ms) (numbers_text ns))
+numbers-append (m ∷ ms) ns = ap (λ (l : List ℕ). 32 ∷ decimal m ++ l) (numbers-append ms ns) ∙ sym (append_assoc (32 ∷ decimal m) (decimals_text ms) (decimals_text ns))

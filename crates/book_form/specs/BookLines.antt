@@ -8,6 +8,7 @@ use Rattle.book_form.specs.BookForm.{IsBook}
 use Rattle.limits.specs.declared.TheConstants.{MOST_BIDDERS, MOST_BIDS, MOST_CATEGORIES, MOST_LOTS, MOST_STATES}
 use Rattle.limits.specs.declared.LimitKind.{LimitKind}
 use Rattle.limits.specs.declared.LimitKind.TheVariants.{Categories, Lots, States, Bidders, Bids}
+use Rattle.text_lines.specs.Decimals.{decimals_text}
 
 -- a quantity above its limit, with its count
 abbrev pub Excess : Type 0
@@ -15,11 +16,6 @@ Excess = LimitKind × ℕ
 
 abbrev pub Line : Type 0
 Line = List ℕ × Option Excess
-
--- numbers, each behind one space
-abbrev pub numbers_text : List ℕ → List ℕ
-numbers_text [] = []
-numbers_text (n ∷ ns) = 32 ∷ decimal n ++ numbers_text ns
 
 abbrev pub supply_excess : List ℕ → Option Excess
 supply_excess supply =
@@ -34,14 +30,14 @@ abbrev pub bid_excess : ℕ → Option Excess
 bid_excess count = if nat_le count MOST_BIDS then None else Some (Bids, MOST_BIDS + 1)
 
 abbrev pub supply_line : List ℕ → Line
-supply_line supply = (codes "supply" ++ numbers_text supply, supply_excess supply)
+supply_line supply = (codes "supply" ++ decimals_text supply, supply_excess supply)
 
 abbrev pub reserve_line : List ℕ → Line
-reserve_line reserves = (codes "reserve" ++ numbers_text reserves, None)
+reserve_line reserves = (codes "reserve" ++ decimals_text reserves, None)
 
 -- the bid behind so many others of its bidder
 abbrev pub bid_line : ℕ → BookBid → Line
-bid_line before b = (codes "bid" ++ numbers_text (b.lots ++ b.amount ∷ []), bid_excess (before + 1))
+bid_line before b = (codes "bid" ++ decimals_text (b.lots ++ b.amount ∷ []), bid_excess (before + 1))
 
 abbrev pub bid_lines : ℕ → List BookBid → List Line
 bid_lines before [] = []

@@ -33,7 +33,7 @@ pub(crate) fn certificate(
         → IfOk result (λ c. IsPricedCert book.now (weight_of weights) (cert_value c)) }
     ensures shape { IfOk result (IsFor (bidders_of book.now) (states book.now)) }
 {
-    let _bidders = book.bidders();
+    book.kept();
     let value = whole.most(book);
     let table = shared(alloc, whole.grid())?;
     let withouts = all_parts(alloc, alone)?;

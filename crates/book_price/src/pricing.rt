@@ -87,7 +87,7 @@ fn priced_book(
     ensures last_turn { IfOk result (λ p. IsLastPoint (turns_of p.cert.choice p.turns) (cert_point (cert_value p.cert))) }
     ensures stops { IfErr result (IsBookStop book.now weights.now) }
 {
-    let _bidders = book.bidders();
+    book.kept();
     let alone = vickrey_from(alloc, book, &winners, whole)?;
     let chooser = BookChooser::new(book, winners.copied(alloc)?);
     let priced = price(alloc, &chooser, alone.singles(), weights)?;

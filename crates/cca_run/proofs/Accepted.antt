@@ -25,9 +25,10 @@ use Rattle.cert_laws.specs.BookSizes.{IsWithinSizes}
 use Rattle.cert_laws.specs.Priced.{IsPricedCert}
 use Rattle.cert_laws.specs.Sound.{cert_point, cert_prices}
 use Rattle.cert_laws.specs.Tests.{FailsFirst, Holds, bidders_of, states}
-use Rattle.limits.specs.declared.TheConstants.{AWARD_BYTES, BOOK_BYTES, CERT_BYTES, LOG_BYTES, MOST_AMOUNT, MOST_WINNERS}
+use Rattle.limits.specs.declared.TheConstants.{AWARD_BYTES, BOOK_BYTES, CERT_BYTES, LOG_BYTES, MOST_WINNERS}
 use Rattle.print_form.specs.Prices.{IsPriceText}
 use Rattle.row_laws.specs.Winners.{winners_in}
+use Rattle.value_table.proofs.Plain.{net-small}
 use Rattle.cca_inputs.specs.Answers.{AwardAnswers, BookAnswers, CertAnswers, LogAnswers, book_answer, cert_answer}
 use Rattle.cca_inputs.specs.Command.{form_with, price, check, award, audit}
 use Rattle.cca_inputs.specs.Outcome.{Answer, AnswerGives, FileAnswers, InputGives, Outcome, stopped, stops, value}
@@ -64,20 +65,16 @@ book-kept bytes book (said, says, is) = by said says is
     by (faulty place) says is = absurd cc
     by (beyond e) says is = absurd cc
 
--- a number from 0 to a bound has a size of at most that
-size-most : (x : ℤ) (n : ℕ) → pos 0 ≤ℤ x → x ≤ℤ pos n → unsigned_abs x ≤ n
-size-most x n low high = omega (arith, ints, low, high)
-
 -- and is within the sizes that bound the text of a certificate
 pub sizes-of : (book : Book) → IsBidBook book → IsWithinSizes book
 sizes-of book rules = record {
   bidders = rules.bidders;
   states = rules.supply.states;
-  amounts = λ j i le. size-most (net_of book j i) MOST_AMOUNT (rules.not_negative j i le) (rules.most j i le);
+  amounts = λ j i le. net-small book j i rules le;
 }
 
 -- a value that stands within the limit of bytes is what the text says
-within-says : {V : Type 0} (most : ℕ) (says : List ℕ → Answer V → Type 0) (bytes : List ℕ) (v : V) → FileAnswers most says bytes (value v) → says bytes (value v)
+pub within-says : {V : Type 0} (most : ℕ) (says : List ℕ → Answer V → Type 0) (bytes : List ℕ) (v : V) → FileAnswers most says bytes (value v) → says bytes (value v)
 within-says most says bytes v answers =
     elim (cases_lt most (length bytes)) [
       | inl over ↦ (let no = answers.long over in absurd cc)

@@ -37,7 +37,7 @@ use Rattle.cca_inputs.specs.declared.status.Status.{Status}
 use Rattle.cca_inputs.specs.declared.status.Status.TheVariants.{Done}
 use Rattle.cca_run.specs.Gives.{BookOfLogGives, CertGives, EndGives, FilesGive, IsYesText, LogGives, PriceGives, VerdictGives, cert_file, ones}
 use Rattle.cca_run.specs.Headline.{IsAudited, IsAwarded}
-use Rattle.cca_run.proofs.Accepted.{sizes-of}
+use Rattle.cca_run.proofs.Accepted.{sizes-of, within-says}
 use Rattle.cca_run.proofs.LogBooks.{logged}
 
 -- an input of a run that is done has a value, from which the run went on
@@ -57,14 +57,6 @@ within-most most says bytes v answers =
       | inr short ↦ short
     ]
 
--- and is what the text says
-says-within : {V : Type 0} (most : ℕ) (says : List ℕ → Answer V → Type 0) (bytes : List ℕ) (v : V) → FileAnswers most says bytes (value v) → says bytes (value v)
-says-within most says bytes v answers =
-    elim (cases_lt most (length bytes)) [
-      | inl over ↦ (let no = answers.long over in absurd cc)
-      | inr short ↦ answers.text short
-    ]
-
 -- no stop is Done
 never-done : {V : Type 0} (most : ℕ) (says : List ℕ → Answer V → Type 0) (bytes : List ℕ) (s : Status) → ((bytes : List ℕ) → says bytes (stops Done) → ⊥) → FileAnswers most says bytes (stops s) → s ≡ Done → ⊥
 never-done {V} most says bytes s none answers is =
@@ -79,7 +71,7 @@ has-value kind most says None follows o none gives ends = let no = sym (ap (λ (
 has-value {V} kind most says (Some bytes) follows o none (answer, answers, gives) ends = by answer answers gives
   where
     by : (answer : Answer V) → FileAnswers most says bytes answer → AnswerGives answer follows o → HasValue most says (Some bytes) follows o
-    by (value v) answers gives = record { bytes = bytes; of = v; here = refl; short = within-most most says bytes v answers; says_it = says-within most says bytes v answers; goes_on = gives }
+    by (value v) answers gives = record { bytes = bytes; of = v; here = refl; short = within-most most says bytes v answers; says_it = within-says most says bytes v answers; goes_on = gives }
     by (stops s) answers gives = absurd (never-done most says bytes s none answers (sym (ap (λ (x : Outcome). x.status) gives) ∙ ends))
 
 -- the bytes of an award never say Done

@@ -42,18 +42,43 @@ run-audit law command old new before now result ends terms log cert is told done
     let gives = subst (λ (k : Option CommandValue). WordsGive k old.file d.outcome) is d.gives in
     (d.outcome.printed, (law old.file terms log cert d.outcome gives d.ends).0, d.puts)
 
+-- what an outcome of `award` that is Done shows of its files
+abbrev pub AwardLaw : Type 0
+AwardLaw = (file : List ℕ → Option (List ℕ)) (terms log cert : List ℕ) (form : PriceForm) (o : Outcome) → FilesGive (award terms log cert form) file o → o.status ≡ Done
+    → (text : List ℕ) × IsAwarded file terms log text × (o.appended ≡ cert_file text ∷ [])
+
 -- an `award` that is done
-pub run-award : (law : (file : List ℕ → Option (List ℕ)) (terms log cert : List ℕ) (form : PriceForm) (o : Outcome) → FilesGive (award terms log cert form) file o → o.status ≡ Done
-    → (text : List ℕ) × IsAwarded file terms log text × (o.appended ≡ cert_file text ∷ []))
-    → (command : Option CommandValue) (old new : Folder) (before now : Output) (result : Status) → RunEnds command old new before now result
-    → (terms log cert : List ℕ) (form : PriceForm) → command ≡ Some (award terms log cert form) → IsTrue old.told → result ≡ Done
-    → (text : List ℕ) × IsAwarded old.file terms log text × AppendsAll (award terms log cert form) (cert_file text ∷ []) old new
-run-award law command old new before now result ends terms log cert form is told done =
+record IsAwardDone (old new : Folder) (terms log cert : List ℕ) (form : PriceForm) : Type 0 where
+  outcome : Outcome
+  gives : FilesGive (award terms log cert form) old.file outcome
+  text : List ℕ
+  awarded : IsAwarded old.file terms log text
+  appended : outcome.appended ≡ cert_file text ∷ []
+  appends : AppendsAll (award terms log cert form) (cert_file text ∷ []) old new
+
+award-done : AwardLaw → (command : Option CommandValue) (old new : Folder) (before now : Output) (result : Status) → RunEnds command old new before now result
+    → (terms log cert : List ℕ) (form : PriceForm) → command ≡ Some (award terms log cert form) → IsTrue old.told → result ≡ Done → IsAwardDone old new terms log cert form
+award-done law command old new before now result ends terms log cert form is told done =
     let d = is-done command old new before now result ends told done in
     let gives = subst (λ (k : Option CommandValue). WordsGive k old.file d.outcome) is d.gives in
     let shows = law old.file terms log cert form d.outcome gives d.ends in
     let appends = subst (λ (k : Option CommandValue). Appended k d.outcome.appended old new) is d.appends in
-    (shows.0, shows.1, subst (λ (texts : List FileText). AppendsAll (award terms log cert form) texts old new) shows.2 appends)
+    record {
+      outcome = d.outcome;
+      gives = gives;
+      text = shows.0;
+      awarded = shows.1;
+      appended = shows.2;
+      appends = subst (λ (texts : List FileText). AppendsAll (award terms log cert form) texts old new) shows.2 appends;
+    }
+
+-- it appends a certificate that bears the headline
+pub run-award : AwardLaw → (command : Option CommandValue) (old new : Folder) (before now : Output) (result : Status) → RunEnds command old new before now result
+    → (terms log cert : List ℕ) (form : PriceForm) → command ≡ Some (award terms log cert form) → IsTrue old.told → result ≡ Done
+    → (text : List ℕ) × IsAwarded old.file terms log text × AppendsAll (award terms log cert form) (cert_file text ∷ []) old new
+run-award law command old new before now result ends terms log cert form is told done =
+    let d = award-done law command old new before now result ends terms log cert form is told done in
+    (d.text, d.awarded, d.appends)
 
 -- a fault of reading was counted
 no-read : (command : Option CommandValue) (old new : Folder) (before now : Output) (kind : FileKind) → HasNoFault command old new before now → IsReadFault command old new kind → ⊥
@@ -131,16 +156,10 @@ appended-cert terms log cert text form old new o apart told some nothing (betwee
     in_new : (name : List ℕ) → new.file name ≡ between.file name
     in_new name = ap (λ (f : List ℕ → Option (List ℕ)). f name) kept.file
 
--- an `award` that is done over a certificate's file that held nothing hands it on
-pub run-hands-on : (law : (file : List ℕ → Option (List ℕ)) (terms log cert : List ℕ) (form : PriceForm) (o : Outcome) → FilesGive (award terms log cert form) file o → o.status ≡ Done
-    → (text : List ℕ) × IsAwarded file terms log text × (o.appended ≡ cert_file text ∷ []))
-    → (words : List (List ℕ)) (old new : Folder) (before now : Output) (result : Status) → RunEnds (command_of words) old new before now result
+-- over a certificate's file that held nothing it hands it on
+pub run-hands-on : AwardLaw → (words : List (List ℕ)) (old new : Folder) (before now : Output) (result : Status) → RunEnds (command_of words) old new before now result
     → (terms log cert : List ℕ) (form : PriceForm) → command_of words ≡ Some (award terms log cert form) → IsTrue old.told → result ≡ Done → HoldsNothing (old.file cert)
     → (o : Outcome) × FilesGive (award terms log cert form) old.file o × HoldsCert (terms ∷ log ∷ []) cert old.file new.file o
 run-hands-on law words old new before now result ends terms log cert form is told done nothing =
-    let d = is-done (command_of words) old new before now result ends told done in
-    let gives = subst (λ (k : Option CommandValue). WordsGive k old.file d.outcome) is d.gives in
-    let shows = law old.file terms log cert form d.outcome gives d.ends in
-    let appends = subst (λ (k : Option CommandValue). Appended k d.outcome.appended old new) is d.appends in
-    let whole = subst (λ (texts : List FileText). AppendsAll (award terms log cert form) texts old new) shows.2 appends in
-    (d.outcome, gives, appended-cert terms log cert shows.0 form old new d.outcome (apart-in words terms log cert form is) told shows.2 nothing whole)
+    let d = award-done law (command_of words) old new before now result ends terms log cert form is told done in
+    (d.outcome, d.gives, appended-cert terms log cert d.text form old new d.outcome (apart-in words terms log cert form is) told d.appended nothing d.appends)

@@ -4,6 +4,7 @@ use Rattle.std.specs.Prelude.{ℤ, pos, negsuc, map, replicate, ◌&&◌, not, �
 use Rattle.std.proofs.lemmas.Int.{ints}
 use Rattle.std.proofs.lemmas.Bool.{and_parts, not-true, eqb-false}
 use Rattle.line_text.specs.LineText.{IsLine, Said, Says}
+use Rattle.line_text.proofs.Lines.{line_append}
 use Rattle.line_text.proofs.Runs.{Reads}
 use Rattle.line_text.proofs.OneAnswer.{one_answer}
 use Rattle.text_lines.specs.Numeral.{numeral, signed_numeral, numbers_text}
@@ -21,10 +22,6 @@ has_no_feed (c ∷ cs) = not (c == 10) && has_no_feed cs
 no_feeds : (cs : List ℕ) → IsTrue (has_no_feed cs) → IsLine cs
 no_feeds [] t = tt
 no_feeds (c ∷ cs) t = let p = and_parts (not (c == 10)) (has_no_feed cs) t in (eqb-false c 10 (not-true (c == 10) p.0), no_feeds cs p.1)
-
-line_append : (xs ys : List ℕ) → IsLine xs → IsLine ys → IsLine (xs ++ ys)
-line_append [] ys a b = b
-line_append (x ∷ xs) ys a b = (a.0, line_append xs ys a.1 b)
 
 digits_line : (cs : List ℕ) → AreDigits cs → IsLine cs
 digits_line [] d = tt

@@ -100,6 +100,6 @@ pub fn worth(book: &BidBook, j: u16, i: u16) -> i128
     ensures not_negative { pos 0 ≤ℤ result }
     ensures size { unsigned_abs result ≤ MOST_AMOUNT }
 {
-    let _bidders = book.bidders();
+    book.kept();
     if i == 0 { 0 } else { book.net(j, i) }
 }

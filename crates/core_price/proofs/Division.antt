@@ -34,7 +34,8 @@ factor_size (pos zero) x p = absurd (omega (arith, ints))
 factor_size (pos (suc g)) x p = let e = unsigned_abs-mul (pos (suc g)) x in omega (arith, e)
 factor_size (negsuc g) x p = absurd (omega (arith, ints))
 
-size-below : (x : ℤ) (n : ℕ) → unsigned_abs x < n → x <ℤ pos n
+-- a number is below what its size is below
+pub size-below : (x : ℤ) (n : ℕ) → unsigned_abs x < n → x <ℤ pos n
 size-below (pos x) n h = omega (arith, ints)
 size-below (negsuc x) n h = omega (arith, ints)
 

@@ -19,6 +19,7 @@ use Rattle.row_laws.proofs.Surplus.{surpluses-are, surpluses-length}
 use Rattle.row_laws.proofs.Winners.{all-bidders, loser-zero, paid-zip}
 use Rattle.wide_num.specs.Sums.{nth, total}
 use Rattle.core_price.specs.Turns.{point_of}
+use Rattle.core_price.proofs.Division.{size-below}
 use Rattle.core_price.proofs.Places.{place-of}
 use Rattle.core_price.proofs.Points.{asks-winners, at-bidder}
 
@@ -41,10 +42,6 @@ abs-of : (x : ℤ) (b : ℕ) → x ≤ℤ pos b → (pos 0 -ℤ pos b) ≤ℤ x 
 abs-of (pos a) b p q = omega (arith, ints)
 abs-of (negsuc a) b p q = omega (arith, ints)
 
-below-of : (x : ℤ) (b : ℕ) → unsigned_abs x < b → x <ℤ pos b
-below-of (pos a) b p = omega (arith, ints)
-below-of (negsuc a) b p = omega (arith, ints)
-
 whole-range : (n d v s : ℕ) → n ≤ 64 → d ≤ 320 ^ 4 → v ≤ 2 ^ 46 → s ≤ n * 2 ^ 110 → n * d * v + s < 2 ^ 120
 whole-range n d v s a b c e =
     let p : n * d ≤ 64 * 320 ^ 4 = (let x : d ≤ 320 ^ 4 = omega arith in mul-le-mul a x) in
@@ -61,7 +58,7 @@ module _ (m : Market) (lawful : IsMarket m) (z : List ℕ) (win : IsWinning m z)
   len = lawful.lengths z win.passed
 
   high : (i : ℕ) → i < winners_in z → nth at i <ℤ pos (2 ^ 109)
-  high i lt = below-of (nth at i) (2 ^ 109) (below i (omega (arith, long)))
+  high i lt = size-below (nth at i) (2 ^ 109) (below i (omega (arith, long)))
 
   each : (k : ℕ) → k < m.bidders → (pos 0 ≤ℤ of_bidder (for_bidders z at) (suc k)) × (of_bidder (for_bidders z at) (suc k) <ℤ pos (2 ^ 109))
   each k lt = by (cases_Bool (uses z (suc k)))

@@ -9,6 +9,7 @@ use Rattle.std.proofs.lemmas.Bool.{eqb-true, ne_eqb, or_from, or_cases, cases_eq
 use Rattle.std.proofs.lemmas.List.{get_or-map, length-map}
 use Rattle.std.proofs.lemmas.Map.Keys.{IsDistinct-push}
 use Rattle.std.proofs.lemmas.Map.Steps.{length-le_from_distinct_below}
+use Rattle.auction_model.proofs.ListLaws.{each-push}
 use Rattle.auction_model.proofs.PriceLaws.{vickrey-one}
 use Rattle.auction_model.specs.Market.{Market, value_of, worth_in}
 use Rattle.auction_model.specs.Greatest.{IsWinning}
@@ -45,10 +46,6 @@ use Rattle.core_price.proofs.Runs.{turn-point}
 use lib.ListN.{length-append, get_or-append}
 use lib.Seq.{get_or-append_seam}
 use mathlib.Core.List.{map-append}
-
-all-push : {A : Type 0} (p : A → Type 0) (xs : List A) (x : A) → AllByRecursion p xs → p x → AllByRecursion p (xs ++ x ∷ [])
-all-push p [] x all own = (own, tt)
-all-push p (y ∷ xs) x all own = (all.0, all-push p xs x all.1 own)
 
 any-none : (xs : List ℕ) (y : ℕ) → ((i : ℕ) → i < length xs → get_or xs i 0 ≢ y) → list_any (eqb y) xs ≡ false
 any-none [] y h = refl
@@ -203,7 +200,7 @@ module _ (m : Market) (lawful : IsMarket m) (z : List ℕ) (win : IsWinning m z)
     row_bounds = record { not_negative = λ i lt. (limit i (inside i lt)).0; small = λ i lt. (limit i (inside i lt)).1 };
     below_value = λ i lt. (limit i (inside i lt)).2;
     singles = λ j lt. (let q = far.singles j lt in (q.0, let l = length-append rows (b.row ∷ []) in omega (arith, q.1), ap (λ (x : Row). x.members) (old q.0 q.1) ∙ q.2));
-    each = all-push (IsPointOfTurn z weights) past turn far.each (subst (IsPointOfTurn z weights) (sym is) (point-of-turn b block));
+    each = each-push (IsPointOfTurn z weights) past turn far.each (subst (IsPointOfTurn z weights) (sym is) (point-of-turn b block));
     run = λ v ps rest go. subst (λ l. GoOn m (weight_of weights) z v (single_rows v 0 z) l) (turns-more rest)
         (far.run v ps (turn_of z turn ∷ rest) (rw is (turn-point m z len rows weights can.weighing prices can.long den at first second answer v (priced v ps), (block.block, subst (λ l. GoOn m (weight_of weights) z v l rest) (map-append (row_in z) rows (b.row ∷ [])) go))));
   }
@@ -241,7 +238,7 @@ module _ (m : Market) (lawful : IsMarket m) (z : List ℕ) (win : IsWinning m z)
     answer = answer;
     not_negative = at-nonneg;
     lowest = lowest;
-    each = all-push (IsPointOfTurn z weights) past (last_turn den at) far.each (record { den_positive = den-positive; den_small = answer.small_den; den_of_ones = of-ones; winners = answer.long_at ∙ can.long; not_negative = at-nonneg; small = answer.small_at; excess = tt; small_excess = tt });
+    each = each-push (IsPointOfTurn z weights) past (last_turn den at) far.each (record { den_positive = den-positive; den_small = answer.small_den; den_of_ones = of-ones; winners = answer.long_at ∙ can.long; not_negative = at-nonneg; small = answer.small_at; excess = tt; small_excess = tt });
     few_turns = let l = length-append past (last_turn den at ∷ []) in let t = turns-few m z weights rows choices past far in omega arith;
     last = (past, refl);
     free = free;

@@ -16,6 +16,11 @@ first_excess-append [] ys = refl
 first_excess-append ((l, None) ∷ xs) ys = first_excess-append xs ys
 first_excess-append ((l, Some o) ∷ xs) ys = refl
 
+-- two parts of a line make a line
+pub line_append : (xs ys : List ℕ) → IsLine xs → IsLine ys → IsLine (xs ++ ys)
+line_append [] ys x y = y
+line_append (c ∷ xs) ys x y = (x.0, line_append xs ys x.1 y)
+
 -- a text has one first line
 pub one_line : (a b x y : List ℕ) → IsLine a → IsLine b → a ++ 10 ∷ x ≡ b ++ 10 ∷ y → (a ≡ b) × (x ≡ y)
 one_line [] [] x y la lb is = (refl, cc)

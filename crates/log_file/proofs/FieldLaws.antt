@@ -3,38 +3,12 @@ use Rattle.std.proofs.Common.{◌≡◌, ◌≢◌, ℕ, suc, ◌-◌, ◌≤◌
 use Rattle.std.specs.List.{AllByRecursion}
 use Rattle.std.specs.Fmt.{decimal}
 use Rattle.std.proofs.lemmas.List.{take_all}
-use Rattle.wide_num.proofs.Decimal.{numeral_decimal, AreDigits}
-use Rattle.book_form.specs.BookLines.{numbers_text}
+use Rattle.text_lines.specs.Decimals.{decimals_text}
 use Rattle.text_lines.specs.Fields.{FieldEnds}
+use Rattle.text_lines.proofs.DecimalFields.{NoSpace, one_field, decimals_stop, number_own}
 use Rattle.log_file.specs.LogForm.{AreCounts, counts_text}
 
 -- ---- counts
-
-abbrev pub NoSpace : List ℕ → Type 0
-NoSpace cs = AllByRecursion (λ c. c ≢ 32) cs
-
--- a text falls apart at its first space in one way
-pub one_field : (a b x y : List ℕ) → NoSpace a → NoSpace b → FieldEnds x → FieldEnds y → a ++ x ≡ b ++ y → (a ≡ b) × (x ≡ y)
-one_field [] [] x y na nb sx sy is = (refl, is)
-one_field [] (d ∷ b) [] y na nb sx sy is = absurd (cc is)
-one_field [] (d ∷ b) (c ∷ x) y na nb sx sy is = let e : c ≡ d = cc in absurd (nb.0 (sym e ∙ sx))
-one_field (d ∷ a) [] x [] na nb sx sy is = absurd (cc is)
-one_field (d ∷ a) [] x (c ∷ y) na nb sx sy is = let e : d ≡ c = cc in absurd (na.0 (e ∙ sy))
-one_field (c ∷ a) (d ∷ b) x y na nb sx sy is =
-    let heads : c ≡ d = cc in
-    let tails : a ++ x ≡ b ++ y = cc in
-    let rest = one_field a b x y na.1 nb.1 sx sy tails in (cc (heads, rest.0), rest.1)
-
-pub numbers_stops : (ns : List ℕ) → FieldEnds (numbers_text ns)
-numbers_stops [] = tt
-numbers_stops (n ∷ ns) = refl
-
-digits_own : (ds : List ℕ) → AreDigits ds → NoSpace ds
-digits_own [] all = tt
-digits_own (d ∷ ds) all = ((λ space. omega (arith, all.0)), digits_own ds all.1)
-
-pub number_own : (n : ℕ) → n ≤ 65535 → NoSpace (decimal n)
-number_own n small = digits_own (decimal n) (numeral_decimal n (omega (arith, small))).digits
 
 -- the first count that a text spells stands before its first space
 pub record FirstCount (field more ns : List ℕ) : Type 0 where
@@ -44,12 +18,12 @@ pub record FirstCount (field more ns : List ℕ) : Type 0 where
   pub low : count ≤ 65535
   pub all_low : AllByRecursion (λ n. n ≤ 65535) later
   pub field_is : field ≡ decimal count
-  pub more_is : more ≡ numbers_text later
+  pub more_is : more ≡ decimals_text later
 
 pub first_count : (categories : ℕ) (text field more ns : List ℕ) → 0 < categories → text ≡ field ++ more → NoSpace field → FieldEnds more → AreCounts categories ns → text ≡ counts_text ns → FirstCount field more ns
 first_count categories text field more [] some split own stops are is = absurd (omega (arith, some, are.0))
 first_count categories text field more (n ∷ ns) some split own stops are is =
-    let parts = one_field field (decimal n) more (numbers_text ns) own (number_own n are.1.0) stops (numbers_stops ns) (sym split ∙ is) in
+    let parts = one_field field (decimal n) more (decimals_text ns) own (number_own n (omega (arith, are.1.0))) stops (decimals_stop ns) (sym split ∙ is) in
     record { count = n; later = ns; whole = refl; low = are.1.0; all_low = are.1.1; field_is = parts.0; more_is = parts.1 }
 
 -- the text falls apart at its first space
@@ -72,7 +46,7 @@ first_of categories text field more ns some at are is = first_count categories t
 pub only_count : (categories : ℕ) (field more ns : List ℕ) → FirstCount field more ns → AreCounts categories ns → length more < 1 → categories ≡ 1
 only_count categories field more ns first are short = only categories more first.later short first.more_is (sym are.0 ∙ ap length first.whole)
   where
-    only : (categories : ℕ) (more later : List ℕ) → length more < 1 → more ≡ numbers_text later → categories ≡ suc (length later) → categories ≡ 1
+    only : (categories : ℕ) (more later : List ℕ) → length more < 1 → more ≡ decimals_text later → categories ≡ suc (length later) → categories ≡ 1
     only categories more [] short is count = count
     only categories more (n ∷ later) short is count = absurd (omega (arith, short, ap length is))
 
@@ -84,12 +58,12 @@ other_counts categories field more ns first are long =
     let spaced = other more first.later long first.more_is in
     (omega (arith, count, spaced.0), (omega (arith, count), first.all_low), spaced.1)
   where
-    other : (more later : List ℕ) → 1 ≤ length more → more ≡ numbers_text later → (0 < length later) × (take (length more - 1) (drop 1 more) ≡ counts_text later)
+    other : (more later : List ℕ) → 1 ≤ length more → more ≡ decimals_text later → (0 < length later) × (take (length more - 1) (drop 1 more) ≡ counts_text later)
     other more [] long is = absurd (omega (arith, long, ap length is))
-    other more (n ∷ later) long is = (omega arith, ap (λ (l : List ℕ). take (length l - 1) (drop 1 l)) is ∙ take_all (length (numbers_text (n ∷ later)) - 1) (counts_text (n ∷ later)) (omega arith))
+    other more (n ∷ later) long is = (omega arith, ap (λ (l : List ℕ). take (length l - 1) (drop 1 l)) is ∙ take_all (length (decimals_text (n ∷ later)) - 1) (counts_text (n ∷ later)) (omega arith))
 
 -- counts behind a space are spelled as those behind the first count
-pub behind_space : (ns : List ℕ) → 0 < length ns → numbers_text ns ≡ 32 ∷ counts_text ns
+pub behind_space : (ns : List ℕ) → 0 < length ns → decimals_text ns ≡ 32 ∷ counts_text ns
 behind_space [] some = absurd (omega (arith, some))
 behind_space (n ∷ ns) some = refl
 

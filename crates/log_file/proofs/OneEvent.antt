@@ -3,25 +3,25 @@ use Rattle.std.proofs.Common.{◌≡◌, ℕ, suc, ◌+◌, ◌*◌, ◌≤◌, 
 use Rattle.std.specs.List.{AllByRecursion}
 use Rattle.std.specs.Fmt.{decimal}
 use Rattle.wide_num.proofs.Decimal.{decimal_one}
-use Rattle.book_form.specs.BookLines.{numbers_text}
+use Rattle.text_lines.specs.Decimals.{decimals_text}
 use Rattle.auction_rules.specs.Terms.{Terms}
 use Rattle.auction_rules.specs.declared.Event.{Event}
 use Rattle.auction_rules.specs.declared.Event.TheVariants.{Bid, Draft, Drop, Submit, Close}
 use Rattle.award_file.specs.Award.{number_of}
 use Rattle.log_file.specs.LogForm.{AreCounts, IsNameOf, States, counts_text, four}
-use Rattle.log_file.proofs.FieldLaws.{one_field, numbers_stops, number_own}
+use Rattle.text_lines.proofs.DecimalFields.{one_field, decimals_stop, number_own}
 
-one_number : (m n : ℕ) (ms ns : List ℕ) → m ≤ 65535 → n ≤ 65535 → decimal m ++ numbers_text ms ≡ decimal n ++ numbers_text ns → (m ≡ n) × (numbers_text ms ≡ numbers_text ns)
+one_number : (m n : ℕ) (ms ns : List ℕ) → m ≤ 65535 → n ≤ 65535 → decimal m ++ decimals_text ms ≡ decimal n ++ decimals_text ns → (m ≡ n) × (decimals_text ms ≡ decimals_text ns)
 one_number m n ms ns lm ln is =
-    let parts = one_field (decimal m) (decimal n) (numbers_text ms) (numbers_text ns) (number_own m lm) (number_own n ln) (numbers_stops ms) (numbers_stops ns) is in
+    let parts = one_field (decimal m) (decimal n) (decimals_text ms) (decimals_text ns) (number_own m lm) (number_own n ln) (decimals_stop ms) (decimals_stop ns) is in
     (decimal_one m n (omega (arith, lm)) (omega (arith, ln)) parts.0, parts.1)
 
-numbers_one : (ms ns : List ℕ) → AllByRecursion (λ n. n ≤ 65535) ms → AllByRecursion (λ n. n ≤ 65535) ns → numbers_text ms ≡ numbers_text ns → ms ≡ ns
+numbers_one : (ms ns : List ℕ) → AllByRecursion (λ n. n ≤ 65535) ms → AllByRecursion (λ n. n ≤ 65535) ns → decimals_text ms ≡ decimals_text ns → ms ≡ ns
 numbers_one [] [] lm ln is = refl
 numbers_one [] (n ∷ ns) lm ln is = absurd (cc is)
 numbers_one (m ∷ ms) [] lm ln is = absurd (cc is)
 numbers_one (m ∷ ms) (n ∷ ns) lm ln is =
-    let tails : decimal m ++ numbers_text ms ≡ decimal n ++ numbers_text ns = cc in
+    let tails : decimal m ++ decimals_text ms ≡ decimal n ++ decimals_text ns = cc in
     let first = one_number m n ms ns lm.0 ln.0 tails in
     let rest = numbers_one ms ns lm.1 ln.1 first.1 in cc (first.0, rest)
 

@@ -3,7 +3,7 @@ use Rattle.std.specs.Prelude.{◌≡◌, ℕ, ◌≤◌, ◌^◌, Option, Some, 
 use Rattle.std.specs.List.{AllByRecursion}
 use Rattle.std.specs.Fmt.{decimal}
 use Rattle.book_form.specs.BookForm.{IsName}
-use Rattle.book_form.specs.BookLines.{numbers_text}
+use Rattle.text_lines.specs.Decimals.{decimals_text}
 use Rattle.auction_rules.specs.Terms.{Terms}
 use Rattle.auction_rules.specs.declared.Event.{Event}
 use Rattle.auction_rules.specs.declared.Event.TheVariants.{Bid, Draft, Drop, Submit, Close}
@@ -12,7 +12,7 @@ use Rattle.award_file.specs.Award.{number_of}
 -- counts, with one space between each two
 abbrev pub counts_text : List ℕ → List ℕ
 counts_text [] = []
-counts_text (n ∷ ns) = decimal n ++ numbers_text ns
+counts_text (n ∷ ns) = decimal n ++ decimals_text ns
 
 -- the counts of a package: one of at most 65,535 for each category
 abbrev pub AreCounts : ℕ → List ℕ → Type 0

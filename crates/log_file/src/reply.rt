@@ -1,7 +1,7 @@
 // The lines of replies.
 ghost use Rattle.std.specs.Prelude.{◌≡◌, ◌∷◌, ◌++◌, [], codes, IfOk, OnOk};
 ghost use Rattle.std.specs.Fmt.{decimal};
-ghost use Rattle.book_form.specs.BookLines.{numbers_text};
+ghost use Rattle.text_lines.specs.Decimals.{decimals_text};
 ghost use Rattle.log_file.specs.ReplyText.{admitted_text, reply_line, reply_text};
 
 use crate::CloseDone;
@@ -78,7 +78,7 @@ fn add_admitted(text: &mut Text, done: Option<CloseDone>, prices: &[u64]) -> Res
 
 /// Adds the text of a new round with its prices.
 fn add_round(text: &mut Text, round: u32, prices: &[u64]) -> Result<(), AllocError>
-    ensures { OnOk result (text.new ≡ text.old ++ (codes "round " ++ decimal round ++ numbers_text prices.now)) }
+    ensures { OnOk result (text.new ≡ text.old ++ (codes "round " ++ decimal round ++ decimals_text prices.now)) }
 {
     text.add(b"round ")?;
     add_decimal(text, round as u128)?;
@@ -98,7 +98,7 @@ fn add_word(text: &mut Text, word: &[u8]) -> Result<(), AllocError>
 
 /// Adds a word and a number behind it.
 fn add_one(text: &mut Text, word: &[u8], n: u64) -> Result<(), AllocError>
-    ensures { OnOk result (text.new ≡ text.old ++ (word.now ++ numbers_text (n ∷ []))) }
+    ensures { OnOk result (text.new ≡ text.old ++ (word.now ++ decimals_text (n ∷ []))) }
 {
     text.add(word)?;
     add_number(text, n)?;
@@ -107,7 +107,7 @@ fn add_one(text: &mut Text, word: &[u8], n: u64) -> Result<(), AllocError>
 
 /// Adds a word and two numbers behind it.
 fn add_two(text: &mut Text, word: &[u8], m: u64, n: u64) -> Result<(), AllocError>
-    ensures { OnOk result (text.new ≡ text.old ++ (word.now ++ numbers_text (m ∷ n ∷ []))) }
+    ensures { OnOk result (text.new ≡ text.old ++ (word.now ++ decimals_text (m ∷ n ∷ []))) }
 {
     text.add(word)?;
     add_number(text, m)?;

@@ -9,7 +9,7 @@ use Rattle.wide_num.proofs.Sums.{total-zero, total-same}
 use Rattle.point_laws.proofs.Order.{mul_nonneg}
 use Rattle.point_laws.specs.Points.{MeetsRows}
 use Rattle.point_laws.specs.Multipliers.{AreFirst, AreSecond, SumsTo}
-use Rattle.nearest_point.proofs.Forced.{zero_times}
+use Rattle.point_laws.proofs.PointLaws.{times_zero}
 use Rattle.nearest_point.proofs.Parts.{dot-at_t, far_nonneg, plain, columns_first, spread_sum, FarSign, sign-at_t, spread_first, spread_second, spread_listed, spread_few}
 
 -- the answer of `nearest`
@@ -41,7 +41,7 @@ answer m r a b target weight wp entries single t tp rows den pf pn lf ln small_p
         positive = p.far.positive;
         above = λ k lt. (let g = h.meets k (omega arith) lt in
             let o = dot-at_t m (a k) t pf pn in
-            let z : dot m (a k) pf ≡ pos 0 = total-zero m (λ j. a k j *ℤ pf j) (λ j lj. zero_times (a k j) (pf j) (zero_far j lj)) in
+            let z : dot m (a k) pf ≡ pos 0 = total-zero m (λ j. a k j *ℤ pf j) (λ j lj. times_zero (a k j) (pf j) (zero_far j lj)) in
             let zt : dot m (a k) pf *ℤ t ≡ pos 0 *ℤ t = ap (λ (w : ℤ). w *ℤ t) z in
             omega (arith, ints));
       };

@@ -9,7 +9,7 @@ use Rattle.wide_num.specs.Sums.{total, dot}
 use Rattle.nearest_point.specs.Search.{Solved, Taken}
 use Rattle.wide_num.proofs.Sums.{total-same, total-zero, total-scale}
 use Rattle.point_laws.proofs.Sums.{total-sub, total-nonneg, total-le, term-le, dual}
-use Rattle.point_laws.proofs.PointLaws.{gap_of, dot-gap}
+use Rattle.point_laws.proofs.PointLaws.{gap_of, dot-gap, times_zero}
 
 pub nothing_left : (w u : ℤ) → pos 0 <ℤ w → (w *ℤ (u *ℤ u)) ≤ℤ pos 0 → u ≡ pos 0
 nothing_left w u p h =
@@ -57,9 +57,6 @@ coincide m target weight wp rx ax dx x lx sx ry ay dy y ly sy hx hy j lt =
     let one : q j ≤ℤ total m q = term-le m q squares j lt in
     let flat : u j ≡ pos 0 = nothing_left (weight j) (u j) (wp j lt) (omega (arith, ints)) in
     by_weight j lt ∙ ap (λ (k : ℤ). weight j *ℤ k) flat ∙ omega (arith, ints)
-
-pub zero_times : (a b : ℤ) → b ≡ pos 0 → a *ℤ b ≡ pos 0
-zero_times a b e = ap (λ (k : ℤ). a *ℤ k) e ∙ omega (arith, ints)
 
 -- dot-gap at a row that is tight at x, and the other way round
 at_tight_x : (m : ℕ) (a : ℕ → ℤ) (b dx dy : ℤ) (x y : ℕ → ℤ) → dot m a x ≡ dx *ℤ b → dot m a (gap_of dy y dx x) ≡ dx *ℤ (dy *ℤ b -ℤ dot m a y)
@@ -110,8 +107,8 @@ newly_forced m k target weight wp rx ax bx dx x lx sx tx ry ay by dy y ly sy ty 
     let up_k : pos 0 <ℤ dot m (ax k) z = (let b = mul_positive dx (dy *ℤ bx k -ℤ dot m (ax k) y) sx.positive (omega (arith, ints)) in omega (arith, ints)) in
     by_lt_z (pos 0) (lx k) (λ h. h) (λ (low : lx k ≤ℤ pos 0).
     let hx : (i : ℕ) → i < rx → (lx i *ℤ dot m (ax i) z) ≤ℤ pos 0 = λ i li. elim (cases_at i k) [
-      | inl b ↦ (let e : dot m (ax i) z ≡ pos 0 = at_tight_x m (ax i) (bx i) dx dy x y (tx.tight i li) ∙ zero_times dx (dy *ℤ bx i -ℤ dot m (ax i) y) (let f = fx i b in omega (arith, ints)) in
-          let f = zero_times (lx i) (dot m (ax i) z) e in omega (arith, ints))
+      | inl b ↦ (let e : dot m (ax i) z ≡ pos 0 = at_tight_x m (ax i) (bx i) dx dy x y (tx.tight i li) ∙ times_zero dx (dy *ℤ bx i -ℤ dot m (ax i) y) (let f = fx i b in omega (arith, ints)) in
+          let f = times_zero (lx i) (dot m (ax i) z) e in omega (arith, ints))
       | inr c ↦ elim c [
         | inl e ↦ (let p : lx i *ℤ dot m (ax i) z ≡ lx k *ℤ dot m (ax k) z = ap (λ (n : ℕ). lx n *ℤ dot m (ax n) z) e in
             let o = nonpos_product (dot m (ax k) z) (lx k) (omega (arith, ints)) low in
@@ -122,13 +119,13 @@ newly_forced m k target weight wp rx ax bx dx x lx sx tx ry ay by dy y ly sy ty 
       ]
     ] in
     let hy : (i : ℕ) → i < ry → pos 0 ≤ℤ (ly i *ℤ dot m (ay i) z) = λ i li. elim (cases_at i k) [
-      | inl b ↦ (let e : dot m (ay i) z ≡ pos 0 = at_tight_y m (ay i) (by i) dx dy x y (ty.tight i li) ∙ zero_times dy (dot m (ay i) x -ℤ dx *ℤ by i) (let f = fy i b in omega (arith, ints)) in
-          let f = zero_times (ly i) (dot m (ay i) z) e in omega (arith, ints))
+      | inl b ↦ (let e : dot m (ay i) z ≡ pos 0 = at_tight_y m (ay i) (by i) dx dy x y (ty.tight i li) ∙ times_zero dy (dot m (ay i) x -ℤ dx *ℤ by i) (let f = fy i b in omega (arith, ints)) in
+          let f = times_zero (ly i) (dot m (ay i) z) e in omega (arith, ints))
       | inr c ↦ (let ki : k ≤ i = elim c [ inl e ↦ omega arith | inr b ↦ omega arith ] in
           mul_nonneg (ly i) (dot m (ay i) z) (ty.sign i ki li)
           (let e = at_tight_y m (ay i) (by i) dx dy x y (ty.tight i li) in
           let o = mul_nonneg dy (dot m (ay i) x -ℤ dx *ℤ by i) py (let f = oy i ki li in omega (arith, ints)) in omega (arith, ints)))
     ] in
     let flat : (j : ℕ) → j < m → z j ≡ pos 0 = coincide m target weight wp rx ax dx x lx sx ry ay dy y ly sy hx hy in
-    let none : dot m (ax k) z ≡ pos 0 = total-zero m (λ j. ax k j *ℤ z j) (λ j lj. zero_times (ax k j) (z j) (flat j lj)) in
+    let none : dot m (ax k) z ≡ pos 0 = total-zero m (λ j. ax k j *ℤ z j) (λ j lj. times_zero (ax k j) (z j) (flat j lj)) in
     absurd (omega (arith, ints)))

@@ -13,7 +13,7 @@ use Rattle.wide_num.proofs.Ints.{mul-zero_cases}
 use Rattle.wide_num.proofs.Sums.{total-same, total-zero, total-add, total-scale, total-swap}
 use Rattle.point_laws.proofs.Sums.{total-nonneg, term-le}
 use Rattle.nearest_point.proofs.Places.{lt_or}
-use Rattle.nearest_point.proofs.Forced.{zero_times}
+use Rattle.point_laws.proofs.PointLaws.{times_zero}
 use Rattle.nearest_point.proofs.Vectors.{gram_times, zeros_or}
 
 -- the equations of the solver give the point: gram * mult = den * (b - over a target), part by part
@@ -77,8 +77,8 @@ plain m n a den far first weight wp s tight entries low j lt = by_row (zeros_or 
   where
     by_row : ((i : ℕ) → i < n → a i j ≡ pos 0) ⊎ ((q : ℕ) × (q < n) × ¬ (a q j ≡ pos 0)) → far j ≡ pos 0
     by_row (inl none) =
-        let c : total n (λ i. first i *ℤ a i j) ≡ pos 0 = total-zero n (λ i. first i *ℤ a i j) (λ i li. zero_times (first i) (a i j) (none i li)) in
-        let z = zero_times (weight j) (total n (λ i. first i *ℤ a i j)) c in
+        let c : total n (λ i. first i *ℤ a i j) ≡ pos 0 = total-zero n (λ i. first i *ℤ a i j) (λ i li. times_zero (first i) (a i j) (none i li)) in
+        let z = times_zero (weight j) (total n (λ i. first i *ℤ a i j)) c in
         let p = mul_positive den (weight j) s.positive (wp j lt) in
         let e : den *ℤ (pos 0 -ℤ weight j) ≡ pos 0 -ℤ den *ℤ weight j = ring (den ∷ weight j ∷ []) (mul (var 0) (sub (con (pos 0)) (var 1))) (sub (con (pos 0)) (mul (var 0) (var 1))) refl in
         let f = s.at j lt in let g = low j lt in

@@ -11,7 +11,8 @@ use Rattle.nearest_point.specs.Search.{Independent, gram}
 use Rattle.wide_num.proofs.Sums.{total-same, total-zero, total-add, total-scale}
 use Rattle.point_laws.proofs.Sums.{total-sub, term-le, dual}
 use Rattle.nearest_point.proofs.Places.{lt_or}
-use Rattle.nearest_point.proofs.Forced.{nothing_left, zero_times}
+use Rattle.point_laws.proofs.PointLaws.{times_zero}
+use Rattle.nearest_point.proofs.Forced.{nothing_left}
 
 -- f below n, k from n on
 abbrev pub cut : ℕ → (ℕ → ℤ) → ℤ → ℕ → ℤ
@@ -99,7 +100,7 @@ more_rows_depend (suc m) a = by_last (λ b. more_rows_depend m b) (zeros_or (suc
               (λ j lt. sum-cut (suc m) c' k (λ i. a i j) ∙ both j
                   ∙ elim (skip_hits m q j qm lt) [
                     | inl e ↦ total-zero (suc m) (λ i. c i *ℤ (v q *ℤ a i j -ℤ a i q *ℤ v j)) (λ i li.
-                        zero_times (c i) (v q *ℤ a i j -ℤ a i q *ℤ v j) (ap (λ (t : ℕ). v q *ℤ a i t -ℤ a i q *ℤ v t) e
+                        times_zero (c i) (v q *ℤ a i j -ℤ a i q *ℤ v j) (ap (λ (t : ℕ). v q *ℤ a i t -ℤ a i q *ℤ v t) e
                         ∙ ring (v q ∷ a i q ∷ []) (sub (mul (var 0) (var 1)) (mul (var 1) (var 0))) (con (pos 0)) refl))
                     | inr (j', lj, e) ↦ ap (λ (t : ℕ). total (suc m) (λ i. c i *ℤ (v q *ℤ a i t -ℤ a i q *ℤ v t))) (sym e) ∙ zero_at j' lj
                   ]),
@@ -125,7 +126,7 @@ independent_more m n a z h flat apart = record { only_zero = all }
         let d : total m (λ j. total (suc n) (λ i. c i *ℤ a i j) *ℤ z j) ≡ total (suc n) (λ i. c i *ℤ dot m (a i) z) = dual m (suc n) a c z in
         let e : total m (λ j. total (suc n) (λ i. c i *ℤ a i j) *ℤ z j) ≡ pos 0 = total-zero m (λ j. total (suc n) (λ i. c i *ℤ a i j) *ℤ z j)
         (λ j lj. ap (λ (t : ℤ). t *ℤ z j) (hc j lj) ∙ omega (arith, ints)) in
-        let f : total n (λ i. c i *ℤ dot m (a i) z) ≡ pos 0 = total-zero n (λ i. c i *ℤ dot m (a i) z) (λ i li. zero_times (c i) (dot m (a i) z) (flat i li)) in
+        let f : total n (λ i. c i *ℤ dot m (a i) z) ≡ pos 0 = total-zero n (λ i. c i *ℤ dot m (a i) z) (λ i li. times_zero (c i) (dot m (a i) z) (flat i li)) in
         let g : dot m (a n) z *ℤ c n ≡ pos 0 = *ℤ_comm (dot m (a n) z) (c n) ∙ omega (arith, ints) in
         let last : c n ≡ pos 0 = mul-zero_cases (dot m (a n) z) (c n) g apart in
         let rest : (i : ℕ) → i < n → c i ≡ pos 0 = h.only_zero c (λ j lj. let p = hc j lj in let q : c n *ℤ a n j ≡ pos 0 = ap (λ (t : ℤ). t *ℤ a n j) last ∙ omega (arith, ints) in omega (arith, ints)) in
@@ -151,7 +152,7 @@ never_dependent m n a weight c wp h z i lt =
     let s : total m q ≡ pos 0 =
     total-same m q (λ j. y j *ℤ (weight j *ℤ y j)) (λ j lj. ring (weight j ∷ y j ∷ []) (mul (var 0) (mul (var 1) (var 1))) (mul (var 1) (mul (var 0) (var 1))) refl)
     ∙ dual m n a c (λ j. weight j *ℤ y j)
-    ∙ total-zero n (λ i. c i *ℤ dot m (a i) (λ j. weight j *ℤ y j)) (λ i li. zero_times (c i) (dot m (a i) (λ j. weight j *ℤ y j)) (sym (gram_times m n a weight c i) ∙ z i li)) in
+    ∙ total-zero n (λ i. c i *ℤ dot m (a i) (λ j. weight j *ℤ y j)) (λ i li. times_zero (c i) (dot m (a i) (λ j. weight j *ℤ y j)) (sym (gram_times m n a weight c i) ∙ z i li)) in
     let squares : (j : ℕ) → j < m → pos 0 ≤ℤ q j = λ j lj. mul_nonneg (weight j) (y j *ℤ y j) (let b = wp j lj in omega (arith, ints)) (square_nonneg (y j)) in
     let flat : (j : ℕ) → j < m → y j ≡ pos 0 = λ j lj. nothing_left (weight j) (y j) (wp j lj) (let b = term-le m q squares j lj in omega (arith, ints)) in
     h.only_zero c flat i lt

@@ -12,7 +12,7 @@ use Rattle.std.proofs.lemmas.List.Elements.{All-from_recursion}
 use Rattle.std.proofs.lemmas.Str.Ascii.{IsAscii-from_all}
 use Rattle.auction_model.specs.Prices.{Point}
 use Rattle.auction_model.specs.PricingRun.{Block, Turn}
-use Rattle.book_form.specs.BookLines.{numbers_text}
+use Rattle.text_lines.specs.Decimals.{decimals_text}
 use Rattle.print_form.specs.Fractions.{IsFractionText, parts_text}
 use Rattle.print_form.specs.Turns.{ArePoints, IsTurnEnd, IsTurnLine}
 use Rattle.row_laws.specs.Winners.{members_of}
@@ -67,9 +67,9 @@ decimal-plain : (n : ℕ) → IsPlain (decimal n)
 unfolding digits
 decimal-plain n = digits-plain 64 n [] refl
 
-numbers-plain : (ns : List ℕ) → IsPlain (numbers_text ns)
+numbers-plain : (ns : List ℕ) → IsPlain (decimals_text ns)
 numbers-plain [] = refl
-numbers-plain (n ∷ ns) = plain-append (decimal n) (numbers_text ns) (decimal-plain n) (numbers-plain ns)
+numbers-plain (n ∷ ns) = plain-append (decimal n) (decimals_text ns) (decimal-plain n) (numbers-plain ns)
 
 pub parts-plain : (whole rest parts : ℕ) → IsPlain (parts_text whole rest parts)
 parts-plain whole zero parts = decimal-plain whole
@@ -98,10 +98,10 @@ IsPlainLine line = (front : List ℕ) × (line ≡ front ++ codes "\n") × IsPla
 end-plain : (bidders : ℕ) (den : ℤ) (block : Option Block) (text : List ℕ) → IsTurnEnd bidders den block text → IsPlainLine text
 end-plain bidders den None text is = (codes " end", is, refl)
 end-plain bidders den (Some b) text is =
-    let members = numbers_text (members_of b.row.members bidders) in (
-      codes " row" ++ members ++ codes " choice" ++ numbers_text b.choice ++ codes " excess " ++ is.0,
+    let members = decimals_text (members_of b.row.members bidders) in (
+      codes " row" ++ members ++ codes " choice" ++ decimals_text b.choice ++ codes " excess " ++ is.0,
       is.2,
-      six-plain (codes " row") members (codes " choice") (numbers_text b.choice) (codes " excess ") is.0 refl (numbers-plain (members_of b.row.members bidders)) refl (numbers-plain b.choice) refl (fraction-plain b.excess den is.0 is.1),
+      six-plain (codes " row") members (codes " choice") (decimals_text b.choice) (codes " excess ") is.0 refl (numbers-plain (members_of b.row.members bidders)) refl (numbers-plain b.choice) refl (fraction-plain b.excess den is.0 is.1),
     )
 
 -- the line of a turn

@@ -52,6 +52,6 @@ pub(crate) fn paid_in_all(book: &BidBook, cert: &Certificate, prices: &[WinnerPr
     requires prices { AreWinnerPrices book.now cert.now.choice (cert_prices book.now (cert_value cert.now)) (cert_point (cert_value cert.now)) (winners_after 0 cert.now.choice) prices.now }
     ensures { IsFractionOf (revenue_of book.now cert.now.choice (cert_point (cert_value cert.now)) (bidders_of book.now)) cert.now.den result }
 {
-    let _bidders = book.bidders();
+    book.kept();
     revenue(prices, cert.den, cert.pay.items())
 }

@@ -83,7 +83,7 @@ fn outcome_value(
     requires turns { IfSome turns (λ t. AllByRecursion (CanPrintTurn cert.now.choice) t.now) }
     ensures { IfOk result (λ v. IsOutcome book.now cert.now.choice (cert_prices book.now (cert_value cert.now)) (cert_point (cert_value cert.now)) (option_map (λ t. turns_of cert.now.choice t.now) turns.entry) (view v)) }
 {
-    let _bidders = book.bidders();
+    book.kept();
     let prices = winner_prices(alloc, book, cert)?;
     let revenue = fraction_value(alloc, paid_in_all(book, cert, &prices))?;
     let winners = winner_values(alloc, book, &prices)?;

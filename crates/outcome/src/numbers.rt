@@ -1,6 +1,6 @@
 // Numbers in a text.
 ghost use Rattle.std.specs.Prelude.{◌≡◌, ◌++◌, OnOk};
-ghost use Rattle.book_form.specs.BookLines.{numbers_text};
+ghost use Rattle.text_lines.specs.Decimals.{decimals_text};
 ghost use Rattle.print_form.specs.WinText.{net_line};
 
 use std::alloc::AllocError;
@@ -9,7 +9,7 @@ use wide_num::Text;
 
 /// Adds numbers, each behind one space.
 pub(crate) fn add_numbers(text: &mut Text, numbers: &[u16]) -> Result<(), AllocError>
-    ensures { OnOk result (text.new ≡ text.old ++ numbers_text numbers.now) }
+    ensures { OnOk result (text.new ≡ text.old ++ decimals_text numbers.now) }
 {
     for number in numbers {
         add_number(text, *number as u64)?;

@@ -75,7 +75,7 @@ fn vickrey(book: &BidBook, cert: &Certificate, part: &WithoutPart) -> i128
     ensures range { InRange result }
     ensures small { unsigned_abs result ≤ 2 ^ 47 }
 {
-    let _bidders = book.bidders();
+    book.kept();
     let bid = cert.choice.number(part.winner);
     value(book, &part.choice) - cert.value + book.net(part.winner, bid)
 }
@@ -87,7 +87,7 @@ fn reserve(book: &BidBook, j: u16, i: u16) -> u64
     ensures reserve { pos result ≡ reserve_of book.now j i }
     ensures small { result ≤ MOST_AMOUNT }
 {
-    let _supply = book.supply();
+    book.kept();
     let bid = book.bid(j, i);
     bid.package.cost(book.reserves())
 }

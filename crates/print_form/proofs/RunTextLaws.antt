@@ -7,7 +7,7 @@ use Rattle.auction_model.specs.Lowered.{of_bidder}
 use Rattle.auction_model.specs.Market.{Market}
 use Rattle.auction_model.specs.Prices.{Point, SamePoint, AreVickreyPrices}
 use Rattle.auction_model.specs.PricingRun.{Block, Turn, IsPricingRun, single_rows}
-use Rattle.book_form.specs.BookLines.{numbers_text}
+use Rattle.text_lines.specs.Decimals.{decimals_text}
 use Rattle.print_form.specs.Turns.{ArePoints, IsTurnEnd, IsTurnLine, AreTurnLines}
 use Rattle.row_laws.specs.Turns.{IsLastPoint}
 use Rattle.row_laws.specs.Winners.{members_of}
@@ -42,9 +42,9 @@ module _ (m : Market) (z : List ℕ) (long : length z ≡ m.bidders) where
       let excess : these.0 ≡ those.0 = one-text b.excess d c.excess e these.0 those.0 dp dq same.excesses these.1 those.1 in
       let members : members_of b.row.members (length z) ≡ members_of c.row.members (length z) = same-members b.row.members c.row.members (length z) (λ j some inside. same.rows.members j some (omega arith)) in
       these.2
-      ∙ ap (λ (l : List ℕ). codes " row" ++ numbers_text l ++ codes " choice" ++ numbers_text b.choice ++ codes " excess " ++ these.0 ++ codes "\n") members
-      ∙ ap (λ (l : List ℕ). codes " row" ++ numbers_text (members_of c.row.members (length z)) ++ codes " choice" ++ numbers_text l ++ codes " excess " ++ these.0 ++ codes "\n") same.choices
-      ∙ ap (λ (l : List ℕ). codes " row" ++ numbers_text (members_of c.row.members (length z)) ++ codes " choice" ++ numbers_text c.choice ++ codes " excess " ++ l ++ codes "\n") excess
+      ∙ ap (λ (l : List ℕ). codes " row" ++ decimals_text l ++ codes " choice" ++ decimals_text b.choice ++ codes " excess " ++ these.0 ++ codes "\n") members
+      ∙ ap (λ (l : List ℕ). codes " row" ++ decimals_text (members_of c.row.members (length z)) ++ codes " choice" ++ decimals_text l ++ codes " excess " ++ these.0 ++ codes "\n") same.choices
+      ∙ ap (λ (l : List ℕ). codes " row" ++ decimals_text (members_of c.row.members (length z)) ++ codes " choice" ++ decimals_text c.choice ++ codes " excess " ++ l ++ codes "\n") excess
       ∙ sym those.2
 
   pub same-line : (number : ℕ) (turn other : Turn) → IsSameTurn m turn other → (t u : List ℕ) → IsTurnLine z number turn t → IsTurnLine z number other u → t ≡ u

@@ -3,7 +3,7 @@ use Rattle.std.specs.Prelude.{◌≡◌, ℕ, List, [], ◌∷◌, ◌++◌, cod
 use Rattle.std.proofs.Common.{sym, ◌∙◌, ap, append_assoc}
 use Rattle.std.proofs.lemmas.List.{append-nil}
 use Rattle.std.specs.Fmt.{decimal}
-use Rattle.book_form.specs.BookLines.{numbers_text}
+use Rattle.text_lines.specs.Decimals.{decimals_text}
 use Rattle.book_form.proofs.TextLaws.{numbers-append}
 use Rattle.print_form.specs.WinText.{winner_line}
 
@@ -12,7 +12,7 @@ regroup t w n l a e = simp append_assoc
 
 -- the line of a winner behind a text
 pub winner-added : (text name lots : List ℕ) (amount : ℕ)
-    → ((((text ++ codes "winner ") ++ name) ++ numbers_text lots) ++ 32 ∷ decimal amount) ++ 10 ∷ [] ≡ text ++ winner_line name (record { lots = lots; amount = amount })
+    → ((((text ++ codes "winner ") ++ name) ++ decimals_text lots) ++ 32 ∷ decimal amount) ++ 10 ∷ [] ≡ text ++ winner_line name (record { lots = lots; amount = amount })
 winner-added text name lots amount =
-    let numbers : numbers_text (lots ++ amount ∷ []) ≡ numbers_text lots ++ 32 ∷ decimal amount = numbers-append lots (amount ∷ []) ∙ ap (λ (l : List ℕ). numbers_text lots ++ l) (append-nil (32 ∷ decimal amount)) in
-    regroup text (codes "winner ") name (numbers_text lots) (32 ∷ decimal amount) (10 ∷ []) ∙ ap (λ (l : List ℕ). text ++ (((codes "winner " ++ name) ++ l) ++ 10 ∷ [])) (sym numbers)
+    let numbers : decimals_text (lots ++ amount ∷ []) ≡ decimals_text lots ++ 32 ∷ decimal amount = numbers-append lots (amount ∷ []) ∙ ap (λ (l : List ℕ). decimals_text lots ++ l) (append-nil (32 ∷ decimal amount)) in
+    regroup text (codes "winner ") name (decimals_text lots) (32 ∷ decimal amount) (10 ∷ []) ∙ ap (λ (l : List ℕ). text ++ (((codes "winner " ++ name) ++ l) ++ 10 ∷ [])) (sym numbers)

@@ -7,7 +7,7 @@ use Rattle.auction_model.specs.Book.{Book, BookBid, bidder_of, bid_of, market_of
 use Rattle.auction_model.specs.Market.{value_of, number_of}
 use Rattle.auction_model.specs.Lowered.{of_bidder}
 use Rattle.auction_model.specs.Prices.{Point, sum_over, everyone}
-use Rattle.book_form.specs.BookLines.{numbers_text}
+use Rattle.text_lines.specs.Decimals.{decimals_text}
 use Rattle.print_form.specs.WinText.{net_line}
 use Rattle.print_form.specs.Fractions.{IsFractionText}
 
@@ -22,7 +22,7 @@ gross_of book z p j = of_bidder p.at j +ℤ (p.den *ℤ reserve_of book j (numbe
 -- the line of a winner: its name, its package, its bid, its Vickrey price and what it pays
 abbrev pub priced_line : List ℕ → BookBid → ℤ → List ℕ → List ℕ
 priced_line name bid vickrey pays =
-    codes "winner " ++ name ++ numbers_text bid.lots ++ codes " bid " ++ decimal bid.amount ++ codes " vickrey " ++ signed_decimal vickrey ++ codes " pays " ++ pays ++ codes "\n"
+    codes "winner " ++ name ++ decimals_text bid.lots ++ codes " bid " ++ decimal bid.amount ++ codes " vickrey " ++ signed_decimal vickrey ++ codes " pays " ++ pays ++ codes "\n"
 
 -- the lines of the winners after bidder k; v are the Vickrey prices, net
 abbrev pub ArePricedLines : Book → List ℕ → (ℕ → ℤ) → Point → ℕ → List ℕ → List ℕ → Type 0

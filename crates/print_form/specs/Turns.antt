@@ -4,7 +4,7 @@ use Rattle.std.specs.Fmt.{decimal}
 use Rattle.auction_model.specs.Lowered.{of_bidder}
 use Rattle.auction_model.specs.Prices.{Point}
 use Rattle.auction_model.specs.PricingRun.{Turn, Block}
-use Rattle.book_form.specs.BookLines.{numbers_text}
+use Rattle.text_lines.specs.Decimals.{decimals_text}
 use Rattle.print_form.specs.Fractions.{IsFractionText}
 use Rattle.row_laws.specs.Winners.{members_of}
 
@@ -20,7 +20,7 @@ abbrev pub IsTurnEnd : ℕ → ℤ → Option Block → List ℕ → Type 0
 IsTurnEnd bidders den None text = text ≡ codes " end\n"
 IsTurnEnd bidders den (Some b) text =
     (excess : List ℕ) × IsFractionText b.excess den excess
-    × (text ≡ codes " row" ++ numbers_text (members_of b.row.members bidders) ++ codes " choice" ++ numbers_text b.choice ++ codes " excess " ++ excess ++ codes "\n")
+    × (text ≡ codes " row" ++ decimals_text (members_of b.row.members bidders) ++ codes " choice" ++ decimals_text b.choice ++ codes " excess " ++ excess ++ codes "\n")
 
 -- the line of the turn of this number
 abbrev pub IsTurnLine : List ℕ → ℕ → Turn → List ℕ → Type 0

@@ -3,10 +3,10 @@ use Rattle.std.specs.Prelude.{ℕ, zero, suc, List, [], ◌∷◌, ◌++◌, cod
 use Rattle.std.specs.Fmt.{signed_decimal}
 use Rattle.auction_model.specs.Book.{BookBid, Book, bidder_of, bid_of, market_of}
 use Rattle.auction_model.specs.Market.{value_of}
-use Rattle.book_form.specs.BookLines.{numbers_text}
+use Rattle.text_lines.specs.Decimals.{decimals_text}
 
 abbrev pub winner_line : List ℕ → BookBid → List ℕ
-winner_line name bid = codes "winner " ++ name ++ numbers_text (bid.lots ++ bid.amount ∷ []) ++ codes "\n"
+winner_line name bid = codes "winner " ++ name ++ decimals_text (bid.lots ++ bid.amount ∷ []) ++ codes "\n"
 
 -- the lines of the winners after bidder k
 abbrev pub winner_lines : Book → ℕ → List ℕ → List ℕ

@@ -9,14 +9,14 @@ use std::test::Fail;
 
 const AUCTION: &[&str] = &["auction", "AWARD", "LOG", "BOOK"];
 
-pub const AWARD_UP_TO_RESERVE: &str =
+pub(crate) const AWARD_UP_TO_RESERVE: &str =
     "version = 1\ntick = 1\n\n[[category]]\nname = \"lot\"\nsupply = 3\npoints = 1\n";
 
 const AWARD_BEHIND_RESERVE: &str =
     "\n[[bidder]]\nname = \"east\"\neligibility = 3\n\n[[bidder]]\nname = \"west\"\neligibility = 2\n\n[[step]]\nexcess = 1\npermille = 200\n";
 
 /// An award of one category, for which two bidders are eligible together for more than there is.
-pub const SAMPLE: &[&str] = &[AWARD_UP_TO_RESERVE, "reserve = 10\n", AWARD_BEHIND_RESERVE];
+pub(crate) const SAMPLE: &[&str] = &[AWARD_UP_TO_RESERVE, "reserve = 10\n", AWARD_BEHIND_RESERVE];
 
 // The same award at the greatest reserve.
 const GREATEST_RESERVE: &[&str] = &[
@@ -27,14 +27,14 @@ const GREATEST_RESERVE: &[&str] = &[
 
 const NO_AWARD: &[&str] = &["version =\n"];
 
-pub const ROUND_1: &str = "bid,east,3,\nbid,west,2,\nclose,,,\n";
+pub(crate) const ROUND_1: &str = "bid,east,3,\nbid,west,2,\nclose,,,\n";
 
 const ROUND_2: &str = "bid,east,1,\nbid,west,2,\nclose,,,\n";
 
 const CLOCK_REPLIES: &str = "1 ok\n2 ok\n3 round 2 12\n4 ok\n5 ok\n6 sealed\n";
 
 /// East's first list is above a cap, and it lowers an entry.
-pub const LOWERED: &[&str] = &[
+pub(crate) const LOWERED: &[&str] = &[
     ROUND_1,
     ROUND_2,
     "draft,east,1,20\ndraft,east,3,45\nsubmit,east,,\ndraft,east,3,44\nsubmit,east,,\nclose,,,\n",
@@ -50,7 +50,7 @@ const LOWERED_BOOK: &[&str] = &[
 ];
 
 /// The same, where it drops the entry.
-pub const DROPPED: &[&str] = &[
+pub(crate) const DROPPED: &[&str] = &[
     ROUND_1,
     ROUND_2,
     "draft,east,1,20\ndraft,east,3,45\nsubmit,east,,\ndrop,east,3,\nsubmit,east,,\nclose,,,\n",
@@ -105,7 +105,7 @@ struct Case<'a> {
 
 /// What a run answers, prints and leaves in its third file.
 #[derive(Drop)]
-pub struct Ended {
+pub(crate) struct Ended {
     pub status: Status,
     pub printed: Vec<u8>,
     pub third: Option<Vec<u8>>,

@@ -5,7 +5,7 @@ use cca_run::{FileKind, Status};
 use std::test::Fail;
 
 // The first 200 bytes of the certificate of two winners.
-pub const DAY_CRAMTON_FRONT: &str =
+pub(crate) const DAY_CRAMTON_FRONT: &str =
     "cert 1\nden 1\nvalue 48\nchoice 1 1 0 0 0\ntable\nt 0 20 28 48\nt 0 20 14 34\n\
     t 0 12 14 32\nt 0 12 14 26\nt 0 12 0 12\nt 0 0 0 0\nwithout 1\nchoice 0 1 0 1 0\ntable\n\
     t 0 20 14 34\nt 0 20 14 34\nt 0 12 14 32\nt 0 12 14";
@@ -24,7 +24,7 @@ const DAY_CRAMTON_ROWS: &str =
     t 0 12 14 32\nt 0 12 14 26\nt 0 12 0 12\nt 0 0 0 0\n";
 
 /// The certificate of two winners, of 476 bytes. Its last line begins at byte 472.
-pub const DAY_CRAMTON_CERT: &[&str] = &[
+pub(crate) const DAY_CRAMTON_CERT: &[&str] = &[
     DAY_CRAMTON_FRONT,
     DAY_CRAMTON_PARTS,
     DAY_CRAMTON_PAY,
@@ -33,7 +33,7 @@ pub const DAY_CRAMTON_CERT: &[&str] = &[
 ];
 
 /// The certificate of a book without bidders, of 69 bytes.
-pub const NOBODY_CERT: &[&str] = &[
+pub(crate) const NOBODY_CERT: &[&str] = &[
     "cert 1\nden 1\nvalue 0\nchoice\ntable\nt 0 0\npay\nrows 0\nlowered\nt 0 0\nend\n",
 ];
 

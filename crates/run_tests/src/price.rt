@@ -9,7 +9,7 @@ use std::alloc::Global;
 use std::process::Abort;
 use std::test::Fail;
 
-pub const TWO_GLOBALS: &str =
+pub(crate) const TWO_GLOBALS: &str =
     "book 1\nsupply 1 1 1\nreserve 0 0 0\nbidder l1\nbid 1 0 0 10\nbidder l2\nbid 0 1 0 10\nbidder l3\nbid 0 0 1 10\nbidder g1\nbid 1 1 0 8\nbidder g2\nbid 0 1 1 8\nend\n";
 
 // On the way the price of the first winner is above its bid.
@@ -107,7 +107,7 @@ const PRICED: [(&str, &str, &str); 12] = [
 ];
 
 /// The words of a run that prices a book.
-pub const PRICE: &[&str] = &["price", "BOOK", "CERT"];
+pub(crate) const PRICE: &[&str] = &["price", "BOOK", "CERT"];
 
 const PRICE_WITH_ROUNDS: &[&str] = &["price", "BOOK", "CERT", "--rounds"];
 
@@ -129,7 +129,7 @@ const DAY_CRAMTON_JSON_WITH_ROUNDS: &[&str] = &[
 ];
 
 /// The words of a run that tests a certificate.
-pub const CHECK: &[&str] = &["check", "BOOK", "CERT"];
+pub(crate) const CHECK: &[&str] = &["check", "BOOK", "CERT"];
 
 // What stands in the certificate's file after a run that ends with Done and prints these pieces.
 fn left_by(

@@ -8,26 +8,26 @@ use cca_run::{FileKind, Status, run};
 use std::alloc::{AllocError, Global};
 use std::test::Fail;
 
-pub const DAY_CRAMTON: &str =
+pub(crate) const DAY_CRAMTON: &str =
     "book 1\nsupply 1 1\nreserve 0 0\nbidder b1\nbid 1 0 28\nbidder b2\nbid 0 1 20\nbidder b3\nbid 1 1 32\nbidder b4\nbid 1 0 14\nbidder b5\nbid 0 1 12\nend\n";
 
-pub const NOBODY: &str = "book 1\nsupply 1\nreserve 0\nend\n";
+pub(crate) const NOBODY: &str = "book 1\nsupply 1\nreserve 0\nend\n";
 
-pub const AT_RESERVE: &str = "book 1\nsupply 1\nreserve 50\nbidder solo\nbid 1 50\nend\n";
+pub(crate) const AT_RESERVE: &str = "book 1\nsupply 1\nreserve 50\nbidder solo\nbid 1 50\nend\n";
 
-pub const LOCALS: &str =
+pub(crate) const LOCALS: &str =
     "book 1\nsupply 1 1 1\nreserve 0 0 0\nbidder l1\nbid 1 0 0 10\nbidder l2\nbid 0 1 0 10\nbidder l3\nbid 0 0 1 10\nbidder g\nbid 1 1 1 11\nend\n";
 
-pub const SPECTRUM: &str =
+pub(crate) const SPECTRUM: &str =
     "book 1\nsupply 4 1 14 9\nreserve 200000 250000 15000 100\nbidder p1\nbid 2 0 0 0 550000\nbidder p2\nbid 0 1 0 0 350000\nbidder p3\nbid 2 0 4 5 710500\nbidder p4\nbid 0 0 7 0 225000\nbidder p5\nbid 0 0 3 4 105400\nbidder p6\nbid 4 0 7 0 1285000\nend\n";
 
-pub const TIE: &str =
+pub(crate) const TIE: &str =
     "book 1\nsupply 2\nreserve 0\nbidder east\nbid 1 5\nbid 2 9\nbidder west\nbid 1 4\nend\n";
 
-pub const ELEVEN: &str =
+pub(crate) const ELEVEN: &str =
     "book 1\nsupply 11\nreserve 0\nbidder c1\nbid 1 5\nbidder c2\nbid 1 5\nbidder c3\nbid 1 5\nbidder c4\nbid 1 5\nbidder c5\nbid 1 5\nbidder c6\nbid 1 5\nbidder c7\nbid 1 5\nbidder c8\nbid 1 5\nbidder c9\nbid 1 5\nbidder c10\nbid 1 5\nbidder c11\nbid 1 5\nend\n";
 
-pub const EQUALS: &str =
+pub(crate) const EQUALS: &str =
     "book 1\nsupply 1\nreserve 0\nbidder n1\nbid 1 9\nbidder n2\nbid 1 9\nbidder n3\nbid 1 9\nbidder n4\nbid 1 9\nend\n";
 
 const GREATEST: &str = "book 1\nsupply 3 3 3 3 7 7\nreserve 0 0 0 0 0 0\nend\n";
@@ -38,7 +38,7 @@ const LEADING_ZERO: &str = "book 1\nsupply 1 1\nreserve 0 0\nbidder east\nbid 1 
 
 /// What the files hold before a run, and the load, the append and the put that fail; 0 for none.
 #[derive(Clone, Copy, Debug)]
-pub struct Setting<'a> {
+pub(crate) struct Setting<'a> {
     /// The bytes of the file that the second word names.
     pub book: Option<&'a [u8]>,
     /// The bytes of the file that the third word names.
@@ -50,14 +50,14 @@ pub struct Setting<'a> {
 
 /// What a run answers, prints and leaves in the file that the third word names.
 #[derive(Drop)]
-pub struct Ended {
+pub(crate) struct Ended {
     pub status: Status,
     pub printed: Vec<u8>,
     pub cert: Option<Vec<u8>>,
 }
 
 /// These words.
-pub fn words_of(alloc: Global, words: &[&str]) -> Result<Vec<String>, AllocError> {
+pub(crate) fn words_of(alloc: Global, words: &[&str]) -> Result<Vec<String>, AllocError> {
     let mut list = Vec::new(alloc);
     for word in words {
         list.push(String::from_str(alloc, word)?)?;
@@ -66,7 +66,7 @@ pub fn words_of(alloc: Global, words: &[&str]) -> Result<Vec<String>, AllocError
 }
 
 /// Files that know the words, and are all missing. At most 100 bytes go in one call.
-pub fn no_files(alloc: Global, words: &[String]) -> Result<MemFiles, AllocError>
+pub(crate) fn no_files(alloc: Global, words: &[String]) -> Result<MemFiles, AllocError>
     ensures { IfOk result (λ files. All (λ w. IsTrue ((mem_folder files.files.items).knows w)) (map string_bytes words.now)) }
 {
     let files = MemFiles::new(alloc, words, 100)?;
@@ -89,7 +89,7 @@ fn set_at(
 }
 
 /// Gives the file that the word at this place names these bytes, where there are such a word and bytes.
-pub fn fill(
+pub(crate) fn fill(
     files: &mut MemFiles,
     words: &[String],
     place: usize,
@@ -115,7 +115,7 @@ fn files_of(alloc: Global, words: &[String], setting: &Setting<'_>) -> Result<Me
 }
 
 /// The bytes of the file that the word at this place names, of different words.
-pub fn left_at(
+pub(crate) fn left_at(
     alloc: Global,
     files: &MemFiles,
     place: usize,
@@ -130,7 +130,11 @@ pub fn left_at(
 }
 
 /// What a run over files in memory answers, prints and leaves.
-pub fn run_on(alloc: Global, words: &[&str], setting: &Setting<'_>) -> Result<Ended, AllocError> {
+pub(crate) fn run_on(
+    alloc: Global,
+    words: &[&str],
+    setting: &Setting<'_>,
+) -> Result<Ended, AllocError> {
     let words = words_of(alloc, words)?;
     let mut files = files_of(alloc, &words, setting)?;
     files.fail_loads.push(setting.fail_load)?;
@@ -146,7 +150,7 @@ pub fn run_on(alloc: Global, words: &[&str], setting: &Setting<'_>) -> Result<En
 }
 
 /// The same where no call fails.
-pub fn run_plain(
+pub(crate) fn run_plain(
     alloc: Global,
     words: &[&str],
     book: &str,
@@ -163,7 +167,7 @@ pub fn run_plain(
 }
 
 /// The bytes of the pieces together.
-pub fn joined(alloc: Global, pieces: &[&str]) -> Result<Vec<u8>, AllocError> {
+pub(crate) fn joined(alloc: Global, pieces: &[&str]) -> Result<Vec<u8>, AllocError> {
     let mut bytes = Vec::new(alloc);
     for piece in pieces {
         bytes.extend_from_slice(piece.as_bytes())?;

@@ -1,5 +1,6 @@
 pub mod Numerals
 pub mod Decimals
+pub mod DecimalFields
 pub mod Fronts
 pub mod Signs
 pub mod FieldRuns

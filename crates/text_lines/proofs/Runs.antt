@@ -1,6 +1,6 @@
 -- Numbers that are written one after the other.
-use Rattle.std.proofs.Common.{◌≡◌, ℕ, zero, suc, ◌+◌, ◌-◌, ◌<◌, ◌^◌, ℤ, pos, List, [], ◌∷◌, ◌++◌, length, get_or, drop, take, refl, sym, ap, subst, ◌∙◌, arith, append_assoc, unsigned_abs}
-use Rattle.std.proofs.lemmas.List.{append-nil, at_drop_more, drop-drop, length-drop, take-append-drop, take_all, take_more}
+use Rattle.std.proofs.Common.{◌≡◌, ℕ, zero, suc, ◌+◌, ◌-◌, ◌≤◌, ◌<◌, ◌^◌, ℤ, pos, List, [], ◌∷◌, ◌++◌, length, get_or, drop, take, refl, sym, ap, subst, ◌∙◌, arith, append_assoc, unsigned_abs}
+use Rattle.std.proofs.lemmas.List.{append-nil, at_drop_more, drop_all, drop-drop, length-drop, take-append-drop, take_all, take_more}
 use Rattle.std.specs.Fmt.{decimal, signed_decimal}
 use Rattle.text_lines.specs.Numeral.{numbers_text, signed_numeral}
 use Rattle.text_lines.specs.Range.{AllInRange}
@@ -15,6 +15,11 @@ one_more F xs i d whole before behind piece inside splits so_far step =
     ∙ append_assoc before piece (F (drop (i + 1) xs))
     ∙ ap (λ (t : List ℕ). before ++ t) (sym splits ∙ sym (at_drop_more F xs i d inside))
     ∙ so_far
+
+-- all pieces
+pub all_added : {X : Type 0} (F : List X → List ℕ) (xs : List X) (i : ℕ) (whole before : List ℕ) → length xs ≤ i → F [] ≡ [] → before ++ F (drop i xs) ≡ whole → before ≡ whole
+all_added F xs i whole before end empty so_far =
+    sym (append-nil before) ∙ ap (λ (t : List ℕ). before ++ t) (sym (ap F (drop_all i xs end) ∙ empty)) ∙ so_far
 
 range_at : (ns : List ℤ) (i : ℕ) → AllInRange ns → i < length ns → unsigned_abs (get_or ns i (pos 0)) < 2 ^ 120
 range_at [] i all inside = absurd (omega arith)

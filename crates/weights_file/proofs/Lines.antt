@@ -6,30 +6,11 @@ use Rattle.std.specs.Fmt.{decimal}
 use Rattle.std.proofs.lemmas.List.{append_cancel_left}
 use Rattle.wide_num.proofs.Decimal.{decimal_one, numeral_decimal, AreDigits}
 use Rattle.line_text.specs.LineText.{IsLine}
+use Rattle.line_text.proofs.Lines.{line_append}
 use Rattle.auction_model.specs.Book.{Bidder, Book, bidder_of, no_bidder}
 use Rattle.book_form.specs.BookForm.{AreBidders, IsName, IsNameByte}
+use Rattle.bid_book.proofs.Spelled.{digits_line, name_line}
 use Rattle.weights_file.specs.WeightsForm.{IsWeight, Line, weight_line, weight_lines}
-
-digits_line : (ds : List ℕ) → AreDigits ds → IsLine ds
-digits_line [] all = tt
-digits_line (d ∷ ds) all = ((λ is. absurd (omega (arith, all.0))), digits_line ds all.1)
-
-line_append : (xs ys : List ℕ) → IsLine xs → IsLine ys → IsLine (xs ++ ys)
-line_append [] ys x y = y
-line_append (c ∷ xs) ys x y = (x.0, line_append xs ys x.1 y)
-
-name_byte : (c : ℕ) → IsNameByte c → c ≢ 10
-name_byte c (inl letter) is = omega arith
-name_byte c (inr (inl digit)) is = omega arith
-name_byte c (inr (inr low)) is = omega arith
-
-name_bytes : (cs : List ℕ) → AllByRecursion IsNameByte cs → IsLine cs
-name_bytes [] all = tt
-name_bytes (c ∷ cs) all = (name_byte c all.0, name_bytes cs all.1)
-
-name_line : (name : List ℕ) → IsName name → IsLine name
-name_line [] is = absurd is
-name_line (c ∷ cs) is = ((λ feed. omega (arith, is.0)), name_bytes cs is.1)
 
 weight_word : IsLine (codes "weight ")
 weight_word = ((λ is. absurd (omega arith)), ((λ is. absurd (omega arith)), ((λ is. absurd (omega arith)), ((λ is. absurd (omega arith)), ((λ is. absurd (omega arith)), ((λ is. absurd (omega arith)), ((λ is. absurd (omega arith)), tt)))))))

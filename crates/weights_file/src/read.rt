@@ -59,7 +59,7 @@ pub fn read_weights(alloc: Global, bytes: &[u8], book: &BidBook) -> Result<Weigh
     ensures text { IfOk result (λ weights. WeightsSay book.now bytes.now (stated weights)) }
     ensures form { (place : ℕ) → result ≡ Err (WeightStop.Form place) → WeightsSay book.now bytes.now (faulty place) }
 {
-    let _bidders = book.bidders();
+    book.kept();
     let mut stage = Stage::Start;
     let mut place = 0;
     while let Some(len) = line_len(&bytes[place..]) {
@@ -119,7 +119,7 @@ fn take_weight(mut weights: Weights, book: &BidBook, line: &[u8]) -> Result<Stag
     ensures ok { IfOk result (Weighs book.now weights line.now) }
     ensures form { result ≡ Err LineStop.Form → (t : Stage) → Weighs book.now weights line.now t → ⊥ }
 {
-    let _bidders = book.bidders();
+    book.kept();
     let j = weights.items().len() as u16 + 1;
     let Some(weight) = line_weight(line, book.name(j)) else {
         return Err(LineStop::Form);

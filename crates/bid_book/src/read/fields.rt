@@ -3,20 +3,20 @@ ghost use Rattle.std.specs.Prelude.{IfErr, IfNone, IfOk, IfSome, IsTrue, List, d
 ghost use Rattle.std.specs.List.{AllByRecursion};
 ghost use Rattle.std.specs.Fmt.{decimal};
 ghost use Rattle.book_form.specs.BookForm.{IsName, IsNameByte};
-ghost use Rattle.book_form.specs.BookLines.{numbers_text};
-ghost use Rattle.bid_book.specs.Stops.{AreNumbers, IsField, Stops};
+ghost use Rattle.text_lines.specs.Decimals.{decimals_text};
+ghost use Rattle.bid_book.specs.Stops.{AreNumbers, IsField};
 ghost use Rattle.limits.specs.declared.TheConstants.{MOST_AMOUNT, MOST_COUNT};
 
 use crate::LimitKind;
 use crate::stop::{LineStop, NoNumber};
 use limits::{MOST_AMOUNT, MOST_COUNT, MOST_NAME_BYTES};
 use std::alloc::Global;
-use wide_num::read_natural;
+use text_lines::{field_len, read_at_most};
 
 /// The numbers of a line behind its word, each behind one space.
 pub fn numbers_behind(alloc: Global, word: &[u8], line: &[u8]) -> Result<Vec<u64>, LineStop>
-    ensures ok { IfOk result (λ v. AreNumbers v.items × (line.now ≡ word.now ++ numbers_text v.items)) }
-    ensures form { result ≡ Err LineStop.Form → (ns : List ℕ) → AreNumbers ns → line.now ≡ word.now ++ numbers_text ns → ⊥ }
+    ensures ok { IfOk result (λ v. AreNumbers v.items × (line.now ≡ word.now ++ decimals_text v.items)) }
+    ensures form { result ≡ Err LineStop.Form → (ns : List ℕ) → AreNumbers ns → line.now ≡ word.now ++ decimals_text ns → ⊥ }
     ensures no_limit { (kind : LimitKind) (count : ℕ) → result ≡ Err (LineStop.Limit kind count) → ⊥ }
 {
     match line.strip_prefix(word) {
@@ -27,8 +27,8 @@ pub fn numbers_behind(alloc: Global, word: &[u8], line: &[u8]) -> Result<Vec<u64
 
 /// The numbers of a text in which one space stands before each.
 fn read_numbers(alloc: Global, text: &[u8]) -> Result<Vec<u64>, LineStop>
-    ensures ok { IfOk result (λ v. AreNumbers v.items × (text.now ≡ numbers_text v.items)) }
-    ensures form { result ≡ Err LineStop.Form → (ns : List ℕ) → AreNumbers ns → text.now ≡ numbers_text ns → ⊥ }
+    ensures ok { IfOk result (λ v. AreNumbers v.items × (text.now ≡ decimals_text v.items)) }
+    ensures form { result ≡ Err LineStop.Form → (ns : List ℕ) → AreNumbers ns → text.now ≡ decimals_text ns → ⊥ }
     ensures no_limit { (kind : LimitKind) (count : ℕ) → result ≡ Err (LineStop.Limit kind count) → ⊥ }
 {
     let mut numbers = Vec::new(alloc);
@@ -46,12 +46,12 @@ fn read_numbers(alloc: Global, text: &[u8]) -> Result<Vec<u64>, LineStop>
 fn first_number(text: &[u8]) -> Result<(u64, &[u8]), NoNumber>
     requires { 0 < length text.now }
     ensures found { IfOk result (λ p. (p.0 ≤ MOST_AMOUNT) × IsField text.now (decimal p.0) p.1.now) }
-    ensures none { IfErr result (λ _. (ns : List ℕ) → AreNumbers ns → text.now ≢ numbers_text ns) }
+    ensures none { IfErr result (λ _. (ns : List ℕ) → AreNumbers ns → text.now ≢ decimals_text ns) }
 {
     let Some((field, more)) = first_field(text) else {
         return Err(NoNumber);
     };
-    match read_number(field) {
+    match read_at_most(field, MOST_AMOUNT) {
         Some(number) => Ok((number, more)),
         None => Err(NoNumber),
     }
@@ -64,31 +64,6 @@ fn first_field(text: &[u8]) -> Option<(&[u8], &[u8])>
 {
     match text {
         [b' ', behind @ ..] => Some(behind.split_at(field_len(behind))),
-        _ => None,
-    }
-}
-
-/// How many bytes stand before the first space.
-fn field_len(text: &[u8]) -> usize
-    ensures within { result ≤ length text.now }
-    ensures own { AllByRecursion (λ c. c ≢ 32) (take result text.now) }
-    ensures stops { Stops (drop result text.now) }
-{
-    for (i, c) in text.iter().enumerate() {
-        if *c == b' ' {
-            return i;
-        }
-    }
-    text.len()
-}
-
-/// The number that a field spells, where it is one of a book.
-fn read_number(field: &[u8]) -> Option<u64>
-    ensures found { IfSome result (λ n. (n ≤ MOST_AMOUNT) × (field.now ≡ decimal n)) }
-    ensures none { IfNone result ((n : ℕ) → n ≤ MOST_AMOUNT → field.now ≡ decimal n → ⊥) }
-{
-    match read_natural(field) {
-        Some(n) if n <= MOST_AMOUNT as u128 => Some(n as u64),
         _ => None,
     }
 }

@@ -47,7 +47,7 @@ fn price_lines(
     requires turns { AllByRecursion (CanPrintTurn cert.now.choice) turns.now }
     ensures { IfOk result (λ text. ArePriceLines rounds book.now cert.now.choice (cert_prices book.now (cert_value cert.now)) (cert_point (cert_value cert.now)) (turns_of cert.now.choice turns.now) text) }
 {
-    let _bidders = book.bidders();
+    book.kept();
     let mut text = rounds_part(alloc, &cert.choice, turns, rounds)?;
     let prices = outcome_text(alloc, book, cert)?;
     text.add(prices.items())?;

@@ -6,12 +6,12 @@ use std::alloc::{AllocError, Global};
 
 /// A linear congruential generator.
 #[derive(Drop)]
-pub struct Draw {
+pub(super) struct Draw {
     state: u64,
 }
 
 /// Every package within a supply, in order.
-pub fn packages_within(alloc: Global, supply: Pair) -> Result<Vec<Pair>, AllocError> {
+pub(super) fn packages_within(alloc: Global, supply: Pair) -> Result<Vec<Pair>, AllocError> {
     let mut packages = Vec::new(alloc);
     let counts = supply.second.saturating_add(1);
     for place in 0..counts.saturating_mul(supply.first.saturating_add(1)) {
@@ -25,12 +25,12 @@ pub fn packages_within(alloc: Global, supply: Pair) -> Result<Vec<Pair>, AllocEr
 
 impl Draw {
     /// The draws from a seed.
-    pub fn new(seed: u64) -> Draw {
+    pub(super) fn new(seed: u64) -> Draw {
         Draw { state: seed }
     }
 
     /// A number below a bound that isn't 0.
-    pub fn below(&mut self, bound: u64) -> u64 {
+    pub(super) fn below(&mut self, bound: u64) -> u64 {
         let state = self.state.wrapping_mul(6_364_136_223_846_793_005);
         self.state = state.wrapping_add(1_442_695_040_888_963_407);
         (self.state >> 33) % bound.max(1)
@@ -55,7 +55,7 @@ impl Draw {
     }
 
     /// An award; of one in twelve the reserves are at the greatest price.
-    pub fn terms(&mut self, alloc: Global) -> Result<Terms, AllocError> {
+    pub(super) fn terms(&mut self, alloc: Global) -> Result<Terms, AllocError> {
         let supply = self.pair(1, 2);
         let reserves = match self.below(12) {
             0 => Pair {
@@ -109,7 +109,7 @@ impl Draw {
     }
 
     /// The lines of a log: some lines, and few behind the close of the sealed round.
-    pub fn log(&mut self, alloc: Global, terms: &Terms) -> Result<Vec<Line>, AllocError> {
+    pub(super) fn log(&mut self, alloc: Global, terms: &Terms) -> Result<Vec<Line>, AllocError> {
         let mut log = Vec::new(alloc);
         let mut admitted = Vec::new(alloc);
         for _ in 0..self.from_to(25, 90) {

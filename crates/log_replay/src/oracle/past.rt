@@ -4,8 +4,8 @@ use auction_rules::Stage;
 
 /// The admitted lines of a log so far.
 #[derive(Clone, Copy)]
-pub struct Past<'a> {
-    pub terms: &'a Terms,
+pub(super) struct Past<'a> {
+    pub(super) terms: &'a Terms,
     lines: &'a [Line],
     /// How many closes there are; that of the sealed round is counted too.
     closes: u64,
@@ -14,7 +14,7 @@ pub struct Past<'a> {
 }
 
 /// The past of these lines.
-pub fn past_of<'a>(terms: &'a Terms, lines: &'a [Line]) -> Past<'a> {
+pub(super) fn past_of<'a>(terms: &'a Terms, lines: &'a [Line]) -> Past<'a> {
     let closes = closes_in(lines);
     Past {
         terms,
@@ -87,17 +87,17 @@ fn draft_in(lines: &[Line], of: u64, package: Pair) -> Option<u64> {
 
 impl Past<'_> {
     /// What the bidder holds in a round.
-    pub fn held(&self, round: u64, bidder: u64) -> Pair {
+    pub(super) fn held(&self, round: u64, bidder: u64) -> Pair {
         held_in(self.lines, round, bidder)
     }
 
     /// By how much demand is above the supply in a round.
-    pub fn excess(&self, round: u64) -> Pair {
+    pub(super) fn excess(&self, round: u64) -> Pair {
         excess_in(self.terms, self.lines, round)
     }
 
     /// The prices of a round.
-    pub fn prices(&self, round: u64) -> Pair {
+    pub(super) fn prices(&self, round: u64) -> Pair {
         let mut prices = self.terms.reserves;
         for closed in 1..round {
             prices = self.raised(prices, self.excess(closed));
@@ -106,7 +106,7 @@ impl Past<'_> {
     }
 
     /// The prices behind a round with this excess demand.
-    pub fn raised(&self, prices: Pair, excess: Pair) -> Pair {
+    pub(super) fn raised(&self, prices: Pair, excess: Pair) -> Pair {
         let mut raised = prices;
         if excess.first > 0 {
             raised.first = self.terms.raised(prices.first, excess.first);
@@ -118,7 +118,7 @@ impl Past<'_> {
     }
 
     /// The eligibility of the bidder in a round: the points of what it held in the round before.
-    pub fn eligibility(&self, round: u64, bidder: u64) -> u64 {
+    pub(super) fn eligibility(&self, round: u64, bidder: u64) -> u64 {
         if round > 1 {
             return self.terms.points.times(self.held(round - 1, bidder));
         }
@@ -129,7 +129,7 @@ impl Past<'_> {
     }
 
     /// How far the auction is.
-    pub fn stage(&self) -> Stage {
+    pub(super) fn stage(&self) -> Stage {
         match self.final_round {
             None => Stage::Clock,
             Some(last) if last == self.closes => Stage::Sealed,
@@ -138,7 +138,7 @@ impl Past<'_> {
     }
 
     /// The posted round, and the final round once the clock has ended.
-    pub fn round(&self) -> u64 {
+    pub(super) fn round(&self) -> u64 {
         match self.final_round {
             Some(last) => last,
             None => self.closes.saturating_add(1),
@@ -155,7 +155,7 @@ impl Past<'_> {
 
     /// The greatest amount of the bidder's clock bids for the lots, and None where it made none. A round without a bid counts as
     /// one for no lots.
-    pub fn clock_amount(&self, bidder: u64, lots: Pair) -> Option<u64> {
+    pub(super) fn clock_amount(&self, bidder: u64, lots: Pair) -> Option<u64> {
         let mut greatest = None;
         for round in 1..=self.last_closed() {
             if self.held(round, bidder) == lots {
@@ -167,12 +167,12 @@ impl Past<'_> {
     }
 
     /// The amount of the bidder's draft for the lots.
-    pub fn draft(&self, bidder: u64, lots: Pair) -> Option<u64> {
+    pub(super) fn draft(&self, bidder: u64, lots: Pair) -> Option<u64> {
         draft_in(self.lines, bidder, lots)
     }
 
     /// How many drafts the bidder has.
-    pub fn drafts(&self, bidder: u64) -> u64 {
+    pub(super) fn drafts(&self, bidder: u64) -> u64 {
         let mut drafts = 0u64;
         for lots in self.terms.packages.iter() {
             if self.draft(bidder, *lots).is_some() {
@@ -183,7 +183,7 @@ impl Past<'_> {
     }
 
     /// The amount for the lots in the list that the bidder submitted last.
-    pub fn submitted(&self, of: u64, lots: Pair) -> Option<u64> {
+    pub(super) fn submitted(&self, of: u64, lots: Pair) -> Option<u64> {
         let mut before: &[Line] = &[];
         for (place, line) in self.lines.iter().enumerate() {
             match *line {
@@ -239,7 +239,7 @@ impl Past<'_> {
     }
 
     /// The relative cap of the lots over the bidder's drafts.
-    pub fn cap(&self, bidder: u64, lots: Pair) -> Option<u64> {
+    pub(super) fn cap(&self, bidder: u64, lots: Pair) -> Option<u64> {
         let (cap, final_cap) = self.caps(bidder, lots)?;
         if self.terms.final_cap {
             Some(cap.min(final_cap))
@@ -249,7 +249,7 @@ impl Past<'_> {
     }
 
     /// The last package for which the final cap is below that by the constraining round.
-    pub fn finally_capped(&self, bidder: u64) -> Option<Pair> {
+    pub(super) fn finally_capped(&self, bidder: u64) -> Option<Pair> {
         let mut capped = None;
         for lots in self.terms.packages.iter() {
             if let Some((cap, final_cap)) = self.caps(bidder, *lots)

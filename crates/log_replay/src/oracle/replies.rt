@@ -19,7 +19,7 @@ fn unless(met: bool, reply: Reply) -> Result<(), Reply> {
 
 impl Past<'_> {
     /// The reply to the next line.
-    pub fn reply(&self, line: Line) -> Reply {
+    pub(super) fn reply(&self, line: Line) -> Reply {
         match self.test(line) {
             Ok(()) => Reply::Ok,
             Err(reply) => reply,

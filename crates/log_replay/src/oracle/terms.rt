@@ -2,27 +2,27 @@
 
 /// A number for each of the two categories: lots, points or prices.
 #[derive(Clone, Copy, PartialEq, Eq)]
-pub struct Pair {
-    pub first: u64,
-    pub second: u64,
+pub(super) struct Pair {
+    pub(super) first: u64,
+    pub(super) second: u64,
 }
 
 impl Pair {
     /// No lot of either category.
-    pub const NONE: Pair = Pair {
+    pub(super) const NONE: Pair = Pair {
         first: 0,
         second: 0,
     };
 
     /// The sum of the two products.
-    pub fn times(self, other: Pair) -> u64 {
+    pub(super) fn times(self, other: Pair) -> u64 {
         let first = self.first.saturating_mul(other.first);
         let second = self.second.saturating_mul(other.second);
         first.saturating_add(second)
     }
 
     /// The two sums.
-    pub fn plus(self, other: Pair) -> Pair {
+    pub(super) fn plus(self, other: Pair) -> Pair {
         Pair {
             first: self.first.saturating_add(other.first),
             second: self.second.saturating_add(other.second),
@@ -30,7 +30,7 @@ impl Pair {
     }
 
     /// By how much each number is above the other's, 0 where it isn't.
-    pub fn above(self, other: Pair) -> Pair {
+    pub(super) fn above(self, other: Pair) -> Pair {
         Pair {
             first: self.first.saturating_sub(other.first),
             second: self.second.saturating_sub(other.second),
@@ -40,54 +40,54 @@ impl Pair {
 
 /// A threshold of the price steps.
 #[derive(Clone, Copy)]
-pub struct Step {
-    pub excess: u64,
-    pub permille: u64,
+pub(super) struct Step {
+    pub(super) excess: u64,
+    pub(super) permille: u64,
 }
 
 /// A bidder of an award.
 #[derive(Clone, Copy)]
-pub struct Entrant {
-    pub eligibility: u64,
-    pub holding: Pair,
+pub(super) struct Entrant {
+    pub(super) eligibility: u64,
+    pub(super) holding: Pair,
 }
 
 /// A spectrum cap.
 #[derive(Clone, Copy)]
-pub struct SpectrumCap {
-    pub weights: Pair,
-    pub limit: u64,
+pub(super) struct SpectrumCap {
+    pub(super) weights: Pair,
+    pub(super) limit: u64,
 }
 
 /// An award. Bidders are numbered from 1, and 0 is a stranger's number.
 #[derive(Drop)]
-pub struct Terms {
-    pub final_cap: bool,
-    pub tick: u64,
-    pub supply: Pair,
-    pub points: Pair,
-    pub reserves: Pair,
-    pub steps: Vec<Step>,
-    pub bidders: Vec<Entrant>,
-    pub caps: Vec<SpectrumCap>,
+pub(super) struct Terms {
+    pub(super) final_cap: bool,
+    pub(super) tick: u64,
+    pub(super) supply: Pair,
+    pub(super) points: Pair,
+    pub(super) reserves: Pair,
+    pub(super) steps: Vec<Step>,
+    pub(super) bidders: Vec<Entrant>,
+    pub(super) caps: Vec<SpectrumCap>,
     /// Every package within the supply, in order.
-    pub packages: Vec<Pair>,
+    pub(super) packages: Vec<Pair>,
 }
 
 impl Terms {
     /// How many bidders there are, which is the number of the last one.
-    pub fn last_bidder(&self) -> u64 {
+    pub(super) fn last_bidder(&self) -> u64 {
         self.bidders.len() as u64
     }
 
     /// The bidder of this number; a stranger is none.
-    pub fn entrant(&self, bidder: u64) -> Option<Entrant> {
+    pub(super) fn entrant(&self, bidder: u64) -> Option<Entrant> {
         let place = bidder.checked_sub(1)?;
         self.bidders.get(place as usize).copied()
     }
 
     /// What the price becomes behind a round with this excess demand, which isn't 0.
-    pub fn raised(&self, price: u64, excess: u64) -> u64 {
+    pub(super) fn raised(&self, price: u64, excess: u64) -> u64 {
         let part = self.tick.saturating_mul(1000).max(1);
         let ticks = price.saturating_mul(self.permille(excess)).div_ceil(part);
         price.saturating_add(ticks.max(1).saturating_mul(self.tick))
@@ -107,7 +107,7 @@ impl Terms {
 
 /// A line of a log.
 #[derive(Clone, Copy)]
-pub enum Line {
+pub(super) enum Line {
     Bid {
         bidder: u64,
         lots: Pair,

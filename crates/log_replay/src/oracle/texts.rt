@@ -7,15 +7,15 @@ use std::alloc::{AllocError, Global};
 
 /// What has to come of a log.
 #[derive(Drop)]
-pub struct Wanted {
+pub(super) struct Wanted {
     /// A line for each line of the log.
-    pub replies: String,
+    pub(super) replies: String,
     /// The text of the book, or why there is none.
-    pub end: Result<String, ReplayStop>,
+    pub(super) end: Result<String, ReplayStop>,
 }
 
 /// The text of an award.
-pub fn award_text(alloc: Global, terms: &Terms) -> Result<String, AllocError> {
+pub(super) fn award_text(alloc: Global, terms: &Terms) -> Result<String, AllocError> {
     let version = if terms.final_cap { 2 } else { 1 };
     let mut text = format!(in alloc; "version = {version}\ntick = {}\n", terms.tick)?;
     text.push_str(&categories_text(alloc, terms)?)?;
@@ -79,7 +79,7 @@ fn bidders_text(alloc: Global, bidders: &[Entrant]) -> Result<String, AllocError
 }
 
 /// The text of a log.
-pub fn log_text(alloc: Global, log: &[Line]) -> Result<String, AllocError> {
+pub(super) fn log_text(alloc: Global, log: &[Line]) -> Result<String, AllocError> {
     let mut text = String::new(alloc);
     for line in log {
         text.push_str(&line_text(alloc, *line)?)?;
@@ -180,7 +180,11 @@ fn limit_of(line: Line, reply: Reply) -> Option<ReplayStop> {
 }
 
 /// What has to come of a log.
-pub fn replay_plainly(alloc: Global, terms: &Terms, log: &[Line]) -> Result<Wanted, AllocError> {
+pub(super) fn replay_plainly(
+    alloc: Global,
+    terms: &Terms,
+    log: &[Line],
+) -> Result<Wanted, AllocError> {
     let mut admitted = Vec::new(alloc);
     let mut replies = String::new(alloc);
     let mut limit = None;

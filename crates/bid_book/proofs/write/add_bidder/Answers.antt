@@ -4,7 +4,8 @@ use Rattle.auction_model.specs.Book.{BookBid, bidder_of, bids_of, no_bid}
 use Rattle.book_form.specs.BookLines.{bid_lines}
 use Rattle.bid_book.specs.Lists as lists
 use Rattle.bid_book.specs.Written.{bid_text}
-use Rattle.bid_book.proofs.WriteLaws.{all_added, bid_is, next_bid, whole_bidder}
+use Rattle.text_lines.proofs.Runs.{all_added}
+use Rattle.bid_book.proofs.WriteLaws.{bid_is, next_bid, whole_bidder}
 use Rattle.bid_book.proofs.write.add_bidder.Goals as goal
 
 pub loop-i-preserved : goal.loop-i-preserved

@@ -18,7 +18,7 @@ use Rattle.book_price.proofs.pricing.priced_book.Goals as goal
 pub price-requires-clause-worth : goal.price-requires-clause-worth
 price-requires-clause-worth c =
     let same : c.new-chooser.result.winners ≡ c.args.winners = c.new-chooser.ensures.winners ∙ c.in_ok-copied.ensures in
-    rw (c.new-chooser.ensures.book, same) (value-most c.args.book.now c.args.winners c.bidders-bidders.ensures.kept.most c.requires.winners.passed)
+    rw (c.new-chooser.ensures.book, same) (value-most c.args.book.now c.args.winners c.kept.ensures.most c.requires.winners.passed)
 
 pub price-requires-clause-weights : goal.price-requires-clause-weights
 price-requires-clause-weights c = rw c.new-chooser.ensures.book c.requires.weights

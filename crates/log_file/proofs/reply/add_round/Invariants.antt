@@ -1,7 +1,7 @@
 use Rattle.std.proofs.Common.{◌≡◌, ◌++◌, codes, drop}
 use Rattle.std.specs.Fmt.{decimal}
-use Rattle.book_form.specs.BookLines.{numbers_text}
+use Rattle.text_lines.specs.Decimals.{decimals_text}
 use Rattle.log_file.proofs.reply.add_round.Given as goal
 
 abbrev pub invariant-loop-price : goal.invariant-loop-price
-invariant-loop-price l = l.text ++ numbers_text (drop l.price-index l.prices) ≡ l.fn.text ++ (codes "round " ++ decimal l.round ++ numbers_text l.prices)
+invariant-loop-price l = l.text ++ decimals_text (drop l.price-index l.prices) ≡ l.fn.text ++ (codes "round " ++ decimal l.round ++ decimals_text l.prices)

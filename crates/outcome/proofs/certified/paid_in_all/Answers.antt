@@ -19,7 +19,7 @@ revenue-requires-clause-den c =
 pub revenue-requires-clause-few : goal.revenue-requires-clause-few
 revenue-requires-clause-few c =
     let most = few c.args.book.now c.args.cert.now.choice _ _ c.args.prices.now c.requires.cert.known (c.args.cert.now.rules.pay.0) c.requires.prices in
-    omega (arith, most, c.bidders-bidders.ensures.bidders, c.bidders-bidders.ensures.most)
+    omega (arith, most, c.kept.ensures.bidders)
 
 pub revenue-requires-clause-not_negative : goal.revenue-requires-clause-not_negative
 revenue-requires-clause-not_negative c =

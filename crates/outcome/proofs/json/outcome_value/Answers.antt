@@ -29,12 +29,12 @@ pub amount_value-net-requires : goal.amount_value-net-requires
 amount_value-net-requires c =
     let cert = c.args.cert.now in
     let fits : FitsSigned w128 c.args.cert.now.value = search rules in
-    let between = value-between c.args.book.now c.bidders-bidders.ensures.kept cert.choice c.requires.cert.known in
+    let between = value-between c.args.book.now c.kept.ensures cert.choice c.requires.cert.known in
     net-small (to_z w128 (of_z w128 cert.value)) (value_of (market_of c.args.book.now) cert.choice) (to_z-of_z w128 cert.value fits ∙ sym c.requires.cert.value) between.0 between.1
 
 pub outcome_object-requires-clause-few : goal.outcome_object-requires-clause-few
 outcome_object-requires-clause-few c =
-    omega (arith, known-length (menu_of c.args.book.now) 0 c.args.cert.now.choice c.requires.cert.known, c.bidders-bidders.ensures.bidders, c.bidders-bidders.ensures.most)
+    omega (arith, known-length (menu_of c.args.book.now) 0 c.args.cert.now.choice c.requires.cert.known, c.kept.ensures.bidders)
 
 pub returns : goal.returns
 returns c =

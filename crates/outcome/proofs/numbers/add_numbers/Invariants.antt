@@ -1,6 +1,6 @@
 use Rattle.std.proofs.Common.{◌≡◌, ◌++◌, drop}
-use Rattle.book_form.specs.BookLines.{numbers_text}
+use Rattle.text_lines.specs.Decimals.{decimals_text}
 use Rattle.outcome.proofs.numbers.add_numbers.Given as goal
 
 abbrev pub invariant-loop-number : goal.invariant-loop-number
-invariant-loop-number l = l.text ++ numbers_text (drop l.number-index l.numbers) ≡ l.initial.text ++ numbers_text l.numbers
+invariant-loop-number l = l.text ++ decimals_text (drop l.number-index l.numbers) ≡ l.initial.text ++ decimals_text l.numbers

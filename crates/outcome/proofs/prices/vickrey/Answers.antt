@@ -15,20 +15,20 @@ net-requires-clause-bid c =
 
 pub overflow_sub-result : goal.overflow_sub-result
 overflow_sub-result c =
-    difference-fits c.args.book.now c.args.cert.now c.requires.cert c.args.part.now c.requires.part c.bidders-bidders.ensures.kept c.value.result c.value.ensures.value
+    difference-fits c.args.book.now c.args.cert.now c.requires.cert c.args.part.now c.requires.part c.kept.ensures c.value.result c.value.ensures.value
 
 pub overflow_add-result : goal.overflow_add-result
 overflow_add-result c =
-    price-fits c.args.book.now c.args.cert.now c.requires.cert c.args.part.now c.requires.part c.bidders-bidders.ensures.kept c.value.result c.value.ensures.value c.net.result c.number-bid.result c.number-bid.ensures c.net.ensures
+    price-fits c.args.book.now c.args.cert.now c.requires.cert c.args.part.now c.requires.part c.kept.ensures c.value.result c.value.ensures.value c.net.result c.number-bid.result c.number-bid.ensures c.net.ensures
 
 pub returns-clause-price : goal.returns-clause-price
 returns-clause-price c =
-    price-is c.args.book.now c.args.cert.now c.requires.cert c.args.part.now c.requires.part c.bidders-bidders.ensures.kept c.value.result c.value.ensures.value c.net.result c.number-bid.result c.number-bid.ensures c.net.ensures
+    price-is c.args.book.now c.args.cert.now c.requires.cert c.args.part.now c.requires.part c.kept.ensures c.value.result c.value.ensures.value c.net.result c.number-bid.result c.number-bid.ensures c.net.ensures
 
 pub returns-clause-range : goal.returns-clause-range
 returns-clause-range c =
-    price-in_range c.args.book.now c.args.cert.now c.requires.cert c.args.part.now c.requires.part c.bidders-bidders.ensures.kept c.value.result c.value.ensures.value c.net.result c.number-bid.result c.number-bid.ensures c.net.ensures
+    price-in_range c.args.book.now c.args.cert.now c.requires.cert c.args.part.now c.requires.part c.kept.ensures c.value.result c.value.ensures.value c.net.result c.number-bid.result c.number-bid.ensures c.net.ensures
 
 pub returns-clause-small : goal.returns-clause-small
 returns-clause-small c =
-    price-small c.args.book.now c.args.cert.now c.requires.cert c.args.part.now c.requires.part c.bidders-bidders.ensures.kept c.value.result c.value.ensures.value c.net.result c.number-bid.result c.number-bid.ensures c.net.ensures
+    price-small c.args.book.now c.args.cert.now c.requires.cert c.args.part.now c.requires.part c.kept.ensures c.value.result c.value.ensures.value c.net.result c.number-bid.result c.number-bid.ensures c.net.ensures

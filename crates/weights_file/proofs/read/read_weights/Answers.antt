@@ -12,7 +12,7 @@ use Rattle.weights_file.proofs.read.read_weights.Goals as goal
 pub returns-in-Err-clause-form : goal.returns-in-Err-clause-form
 returns-in-Err-clause-form c = λ place err.
     let book = c.args.book.now in
-    let rules = c.bidders-bidders.ensures.kept.rules.form in
+    let rules = c.kept.ensures.rules.form in
     let whole : take (length c.args.bytes.now - c.loop-len.place) (drop c.loop-len.place c.args.bytes.now) ≡ drop c.loop-len.place c.args.bytes.now = take_all _ _ (omega (arith, length-drop c.loop-len.place c.args.bytes.now)) in
     let found = rw whole at c.in-Some.ensures.found in
     let refused = rw whole at c.in-Err.ensures.form in
@@ -23,7 +23,7 @@ returns-in-Err-clause-form c = λ place err.
 pub loop-len-preserved : goal.loop-len-preserved
 loop-len-preserved c =
     let book = c.args.book.now in
-    let rules = c.bidders-bidders.ensures.kept.rules.form in
+    let rules = c.kept.ensures.rules.form in
     let whole : take (length c.args.bytes.now - c.loop-len.place) (drop c.loop-len.place c.args.bytes.now) ≡ drop c.loop-len.place c.args.bytes.now = take_all _ _ (omega (arith, length-drop c.loop-len.place c.args.bytes.now)) in
     let found = rw whole at c.in-Some.ensures.found in
     let taken = rw whole at c.in-Ok.ensures.ok in
@@ -35,7 +35,7 @@ loop-len-preserved c =
 pub returns-then-place-bytes-clause-form : goal.returns-then-place-bytes-clause-form
 returns-then-place-bytes-clause-form c = λ place err.
     let book = c.args.book.now in
-    let rules = c.bidders-bidders.ensures.kept.rules.form in
+    let rules = c.kept.ensures.rules.form in
     let whole : take (length c.args.bytes.now - c.loop-len.place) (drop c.loop-len.place c.args.bytes.now) ≡ drop c.loop-len.place c.args.bytes.now = take_all _ _ (omega (arith, length-drop c.loop-len.place c.args.bytes.now)) in
     let line = rw whole at c.in_default.ensures.none in
     let same : c.loop-len.place ≡ place = cc in
@@ -45,13 +45,13 @@ returns-then-place-bytes-clause-form c = λ place err.
 pub returns-in-Ended-clause-text : goal.returns-in-Ended-clause-text
 returns-in-Ended-clause-text c =
     let book = c.args.book.now in
-    let rules = c.bidders-bidders.ensures.kept.rules.form in
+    let rules = c.kept.ensures.rules.form in
     all_read (IsSound book rules) (Step book) excess begin finish (AreWeights (length book.bidders)) (lines book) (reads book rules) c.args.bytes.now c.loop-len.place c.loop-len.stage c.loop-len.invariant.so_far c.in-Ended.weights c.in-Ended.is (omega (arith, length-drop c.loop-len.place c.args.bytes.now))
 
 pub returns : goal.returns
 returns c =
     let book = c.args.book.now in
-    let rules = c.bidders-bidders.ensures.kept.rules.form in
+    let rules = c.kept.ensures.rules.form in
     let whole : take (length c.args.bytes.now - c.loop-len.place) (drop c.loop-len.place c.args.bytes.now) ≡ drop c.loop-len.place c.args.bytes.now = take_all _ _ (omega (arith, length-drop c.loop-len.place c.args.bytes.now)) in
     let line = rw whole at c.in_default.ensures.none in
     let fault = line_missing (IsSound book rules) (Step book) excess begin finish (AreWeights (length book.bidders)) (lines book) (reads book rules) c.args.bytes.now c.loop-len.place c.loop-len.stage c.loop-len.invariant.so_far line (λ v end. absurd (c.in_default-stage.not-Ended v end)) in

@@ -3,7 +3,7 @@ use Rattle.std.specs.Prelude.{IsTrue, pos, ◌-ℤ◌}
 use Rattle.std.proofs.lemmas.Result.{err_from_is_err_and}
 use Rattle.std.proofs.lemmas.Bool.Decides.{nat_tests}
 use Rattle.auction_model.specs.Package.{ComesBefore, cost_of, is_within}
-use Rattle.book_form.specs.BookLines.{numbers_text}
+use Rattle.text_lines.specs.Decimals.{decimals_text}
 use Rattle.bid_book.specs.declared.stop.LineStop.TheVariants.{Form}
 use Rattle.bid_book.specs.Stages.{lots_before}
 use Rattle.bid_book.specs.Stops.{AreNumbers}
@@ -64,7 +64,7 @@ returns-clause-ok c =
     let top = numbers_last c.in_ok-package.package c.in-Some.amount (subst AreNumbers whole stated.0) in
     let cost : c.cost-reserve.result ≡ cost_of c.args.book.now.reserves c.in_ok-package.package = c.cost-reserve.ensures ∙ ap (λ (r : List ℕ). cost_of r c.in_ok-package.package) c.reserves.ensures in
     let low : c.cost-reserve.result ≤ c.in-Some.amount = omega arith in (
-      stated.1 ∙ ap (λ (l : List ℕ). 98 ∷ 105 ∷ 100 ∷ numbers_text l) whole,
+      stated.1 ∙ ap (λ (l : List ℕ). 98 ∷ 105 ∷ 100 ∷ decimals_text l) whole,
       record {
         categories = ap length made.0 ∙ made.1 ∙ ap length c.supply-supply.ensures.supply;
         within = subst (λ (l : List ℕ). IsTrue (is_within l c.args.book.now.supply)) (sym made.0) (subst (λ (s : List ℕ). IsTrue (is_within c.deref.result.now s)) c.supply-supply.ensures.supply made.2);

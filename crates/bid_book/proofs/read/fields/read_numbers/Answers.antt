@@ -1,6 +1,7 @@
 use Rattle.std.proofs.Common.{refl}
 use Rattle.std.specs.Fmt.{decimal}
-use Rattle.bid_book.proofs.FieldReads.{each_push, goes_further, spelled_further}
+use Rattle.auction_model.proofs.ListLaws.{each-push}
+use Rattle.bid_book.proofs.FieldReads.{goes_further, spelled_further}
 use Rattle.bid_book.proofs.read.fields.read_numbers.Goals as goal
 
 pub loop-rest-preserved : goal.loop-rest-preserved
@@ -11,7 +12,7 @@ loop-rest-preserved c =
     let more = c.in_ok-number.more.now in
     let found = c.in_ok-number.ensures.found in
     rw c.in_ok-push.ensures.items (record {
-      small = each_push _ had number c.loop-rest.invariant.small found.0;
+      small = each-push _ had number c.loop-rest.invariant.small found.0;
       spelled = spelled_further c.args.text.now had rest (decimal number) more number c.loop-rest.invariant.spelled found.1 refl;
       on = λ ns small spelled. goes_further had rest (decimal number) more ns number found.1 refl found.0 (c.loop-rest.invariant.on ns small spelled);
     })

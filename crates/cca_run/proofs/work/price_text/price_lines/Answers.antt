@@ -2,7 +2,7 @@ use Rattle.std.proofs.Common.{◌∙◌, ap, arith, ◌++◌}
 use Rattle.cca_run.proofs.work.price_text.price_lines.Goals as goal
 
 pub rounds_part-requires-clause-few : goal.rounds_part-requires-clause-few
-rounds_part-requires-clause-few c = let kept = c.bidders-bidders.ensures.kept in let shape = c.requires.shape in omega (arith, kept.bidders, shape.bidders_are)
+rounds_part-requires-clause-few c = let kept = c.kept.ensures in let shape = c.requires.shape in omega (arith, kept.bidders, shape.bidders_are)
 
 pub returns : goal.returns
 returns c = record {
