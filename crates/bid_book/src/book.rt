@@ -135,7 +135,10 @@ impl BidBook {
     /// The rules that each book keeps. Nothing is done: proofs read the clause.
     pub fn kept(&self)
         ensures { IsBidBook self.now }
-    {}
+    {
+        // The rules of a type are known where a field of it is used.
+        let _ = &self.supply;
+    }
 
     /// What is sold.
     pub fn supply(&self) -> &Supply
