@@ -258,14 +258,19 @@ inserted-each history points j place before entries new e front is own =
     (All-append (IsTested history points j) (take place entries) (e ∷ drop place entries) (All-take (IsTested history points j) place entries front.each)
     (All-cons (IsTested history points j) e (drop place entries) own (All-drop (IsTested history points j) place entries front.each)))
 
--- the entry at the place becomes this one
+-- the entry at the place becomes this one, and those before it stay
+pub set-at : (place : ℕ) (entries : List TestedEntry) (e : TestedEntry) (b : BookBid) → place < length entries → tested_bid e ≡ b
+    → take (place + 1) (map tested_bid (set entries place e)) ≡ take place (map tested_bid entries) ++ b ∷ []
+set-at place entries e b inside own =
+    ap (take (place + 1)) (map-set tested_bid entries place e)
+    ∙ take_more_set (map tested_bid entries) place (tested_bid e) (omega (arith, inside, bids-count entries))
+    ∙ ap (λ (x : BookBid). take place (map tested_bid entries) ++ x ∷ []) own
+
+-- behind those that stand before the place
 pub front-set : (history : List Round) (points : List ℕ) (j place : ℕ) (before : List BookBid) (entries : List TestedEntry) (e : TestedEntry) (b : BookBid) → place < length entries
     → IsFront history points j place before entries → tested_bid e ≡ b → take (place + 1) (map tested_bid (set entries place e)) ≡ before ++ b ∷ []
 front-set history points j place before entries e b inside front own =
-    ap (take (place + 1)) (map-set tested_bid entries place e)
-    ∙ take_more_set (map tested_bid entries) place (tested_bid e) (omega (arith, inside, bids-count entries))
-    ∙ ap (λ (bs : List BookBid). bs ++ tested_bid e ∷ []) front.same
-    ∙ ap (λ (x : BookBid). before ++ x ∷ []) own
+    set-at place entries e b inside own ∙ ap (λ (bs : List BookBid). bs ++ b ∷ []) front.same
 
 -- one bid of the list more
 pub front-more : (history : List Round) (points : List ℕ) (j place : ℕ) (list : List Bid) (bid : Bid) (old entries : List TestedEntry) → place < length list → bid ≡ get_or list place bid

@@ -68,7 +68,7 @@ fn stands_at(entries: &[TestedEntry], place: usize, package: &Package) -> bool
 
 /// Puts an entry of bidder `j` at the place behind those before it. Entries that are there with packages that come earlier are
 /// taken out, and one for the package itself keeps what the rounds say.
-fn put_at(
+fn put_among(
     alloc: Global,
     history: &History,
     points: &[u32],
@@ -98,6 +98,35 @@ fn put_at(
     let entry = entry_for(alloc, history, points, j, peaks, bid)?;
     entries.insert(place, entry)?;
     Ok(())
+}
+
+/// Puts an entry of bidder `j` at the place, as `put_among` does. Most lists differ from the last one in few entries, so it is asked
+/// first whether the entry there is one for the package.
+fn put_at(
+    alloc: Global,
+    history: &History,
+    points: &[u32],
+    j: u16,
+    peaks: &[u64],
+    bid: &Bid,
+    place: usize,
+    entries: &mut Vec<TestedEntry>,
+) -> Result<(), AllocError>
+    requires bidder { IsBidderOf history.now j }
+    requires points { ArePoints history.now points.now }
+    requires peaks { ArePeaks history.now j peaks.now }
+    requires entry { IsEntry (categories_in history.now) bid.now }
+    requires eligible { IsEligible points.now history.now j bid.now }
+    requires place { place ≤ length entries.old.items }
+    requires entries { All (IsTested history.now points.now j) entries.old.items }
+    ensures entries { All (IsTested history.now points.now j) entries.new.items }
+    ensures put { OnOk result (IsPutAt (map tested_bid entries.old.items) place (bid_value bid.now) (map tested_bid entries.new.items)) }
+{
+    if stands_at(entries, place, &bid.package) {
+        entries[place].bid.amount = bid.amount;
+        return Ok(());
+    }
+    put_among(alloc, history, points, j, peaks, bid, place, entries)
 }
 
 /// Makes the entries those of the list of bidder `j`. What the rounds say of a package is worked out only where the entries don't have
