@@ -1,5 +1,5 @@
 -- Lists of entries in the order of their packages: the place of a package in them.
-use Rattle.std.proofs.Common.{◌≡◌, ℕ, zero, suc, ◌<◌, ◌≤◌, true, false, List, [], ◌∷◌, length, map, set, refl, sym, subst, ◌∙◌, ap, inl, inr, arith}
+use Rattle.std.proofs.Common.{◌≡◌, ℕ, zero, suc, ◌<◌, ◌≤◌, true, false, List, [], ◌∷◌, length, map, get_or, set, refl, sym, subst, ◌∙◌, ap, inl, inr, arith}
 use Rattle.std.specs.List.{All, AllByRecursion, insert, remove}
 use Rattle.std.proofs.lemmas.Bool.{cases_Bool, false≢true}
 use Rattle.std.proofs.lemmas.List.{length-map, map-set}
@@ -85,6 +85,11 @@ there-put (b ∷ list) lots (suc place) amount there =
     rw (not_same-sym b.lots lots (is_before-not_same b.lots lots there.0), not-before b.lots lots there.0)
     (ap (λ (l : List BookBid). b ∷ l) (there-put list lots place amount there.1))
 
+there-own : (list : List BookBid) (lots : List ℕ) (place : ℕ) → IsThere list lots place → (d : BookBid) → (get_or list place d).lots ≡ lots
+there-own [] lots place there d = absurd there
+there-own (b ∷ list) lots zero there d = is_same-true b.lots lots there
+there-own (b ∷ list) lots (suc place) there d = there-own list lots place there.1 d
+
 -- a list of packages behind this one has none
 behind-without : (lots : List ℕ) (list : List BookBid) → AllAfter lots (map bid_lots list) → without_entry lots list ≡ list
 behind-without lots [] after = refl
@@ -148,6 +153,7 @@ slot-taken categories list lots place kept is inside same =
     record {
       inside = there-inside (map bid_value list) lots place there;
       entry = there-entry (map bid_value list) lots place there;
+      own = there-own (map bid_value list) lots place there;
       put = λ amount. there-put (map bid_value list) lots place amount there;
       removed = there-removed (map bid_value list) lots place kept.order there;
     }

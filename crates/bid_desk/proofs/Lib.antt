@@ -8,3 +8,4 @@ mod ReachedLaws
 mod SealedLaws
 mod TesterLaws
 mod CopyLaws
+mod DifferenceLaws

@@ -3,6 +3,7 @@ pub mod DeskValue
 pub mod Closes
 pub mod Lists
 pub mod Slots
+pub mod Differences
 pub mod BookBids
 pub mod Known
 pub mod Testers

@@ -1,5 +1,5 @@
 -- What a slot in a list is good for.
-use Rattle.std.specs.Prelude.{◌≡◌, ℕ, ◌<◌, ◌≤◌, true, false, List, length, slice_set}
+use Rattle.std.specs.Prelude.{◌≡◌, ℕ, ◌<◌, ◌≤◌, true, false, List, length, slice_index_or, slice_set}
 use Rattle.std.specs.List.{insert, remove}
 use Rattle.auction_model.specs.Book.{BookBid}
 use Rattle.auction_rules.specs.Lines.{with_entry, without_entry}
@@ -14,6 +14,7 @@ entry_of lots amount = record { lots = lots; amount = amount }
 pub record IsTakenAt (list : List BookBid) (lots : List ℕ) (place : ℕ) : Type 0 where
   pub inside : place < length list
   pub entry : has_entry lots list ≡ true
+  pub own : (d : BookBid) → (slice_index_or list place d).lots ≡ lots
   pub put : (amount : ℕ) → with_entry lots amount list ≡ slice_set list place (entry_of lots amount)
   pub removed : without_entry lots list ≡ remove list place
 

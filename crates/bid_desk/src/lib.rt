@@ -3,6 +3,7 @@
 
 mod book;
 mod desk;
+mod difference;
 mod lists;
 mod slots;
 mod testers;

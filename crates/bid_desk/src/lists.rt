@@ -1,10 +1,13 @@
 // The lists of one bidder.
-ghost use Rattle.std.specs.Prelude.{◌≡◌, [], IfOk, OnErr, OnOk, length, map, replicate, true};
+ghost use Rattle.std.specs.Prelude.{◌≡◌, [], ℕ, List, IfOk, Some, OnErr, OnOk, length, map, replicate, true};
 ghost use Rattle.auction_rules.specs.Lines.{with_entry, without_entry};
 ghost use Rattle.auction_rules.specs.Replies.{has_entry};
 ghost use Rattle.relative_cap.specs.OwnRounds.{bid_value};
+ghost use Rattle.auction_model.specs.Book.{BookBid};
+ghost use Rattle.bid_desk.specs.Differences.{Differs, IsSameButAt, SetsAmount};
 ghost use Rattle.bid_desk.specs.Lists.{IsKept, lists_with};
 
+use crate::difference::Difference;
 use crate::slots::{Slot, copy_entries, has_entry, put_entry, slot_of};
 use lots::{Bid, Package};
 use std::alloc::{AllocError, Global};
@@ -18,20 +21,21 @@ pub struct BidderLists {
     submitted: Vec<Bid>,
     // The entries of an earlier submitted list, which the next one overwrites. They mean nothing.
     spare: Vec<Bid>,
-    // Only where the two lists have the same entries. A list that was submitted last and hasn't changed since is valid still.
-    alike: bool,
+    // A list that was submitted last and hasn't changed since is valid still, and one amount is copied faster than a list.
+    difference: Difference,
 }
 
 impl Model for BidderLists {
-    ghost use Rattle.std.specs.Prelude.{◌≡◌, map, true};
+    ghost use Rattle.std.specs.Prelude.{map};
     ghost use Rattle.relative_cap.specs.OwnRounds.{bid_value};
+    ghost use Rattle.bid_desk.specs.Differences.{Differs};
     ghost use Rattle.bid_desk.specs.Lists.{Lists, lists_with};
 
     ghost Value = { Lists };
 
     ghost view = { λ l. lists_with (map bid_value l.drafts.items) (map bid_value l.submitted.items) };
 
-    ghost invariant = { λ l. l.alike ≡ true → map bid_value l.drafts.items ≡ map bid_value l.submitted.items };
+    ghost invariant = { λ l. Differs l.difference (map bid_value l.drafts.items) (map bid_value l.submitted.items) };
 }
 
 impl BidderLists {
@@ -43,7 +47,7 @@ impl BidderLists {
             drafts: Vec::new(alloc),
             submitted: Vec::new(alloc),
             spare: Vec::new(alloc),
-            alike: true,
+            difference: Difference::Nothing,
         }
     }
 
@@ -65,7 +69,7 @@ impl BidderLists {
     pub fn are_alike(&self) -> bool
         ensures { result ≡ true → self.now.drafts ≡ self.now.submitted }
     {
-        self.alike
+        matches!(self.difference, Difference::Nothing)
     }
 
     /// Whether the draft list has an entry for the package. It takes no memory.
@@ -82,8 +86,8 @@ impl BidderLists {
         ensures put { OnOk result (self.new ≡ lists_with (with_entry «package».now amount self.old.drafts) self.old.submitted) }
         ensures unchanged { OnErr result (self.new ≡ self.old) }
     {
-        put_entry(alloc, &mut self.drafts, package, amount)?;
-        self.alike = false;
+        let place = put_entry(alloc, &mut self.drafts, package, amount)?;
+        self.difference = with_amount(self.difference, place);
         Ok(())
     }
 
@@ -94,7 +98,7 @@ impl BidderLists {
     {
         if let Slot::Taken(place) = slot_of(&self.drafts, package) {
             let _ = self.drafts.remove(place);
-            self.alike = false;
+            self.difference = Difference::Anything;
         }
     }
 
@@ -104,13 +108,44 @@ impl BidderLists {
         ensures submitted { OnOk result (self.new ≡ lists_with self.old.drafts self.old.drafts) }
         ensures unchanged { OnErr result (self.new ≡ self.old) }
     {
-        if self.alike {
-            return Ok(());
+        match self.difference {
+            Difference::Nothing => {}
+            Difference::AmountAt(place) => self.submit_amount(place),
+            Difference::Anything => self.submit_all(alloc)?,
         }
+        Ok(())
+    }
+
+    /// The amount of the draft at the place, in which alone the lists differ, becomes that of the submitted entry.
+    fn submit_amount(&mut self, place: usize)
+        requires { IsSameButAt place self.old.drafts self.old.submitted }
+        ensures { self.new ≡ lists_with self.old.drafts self.old.drafts }
+    {
+        self.submitted[place].amount = self.drafts[place].amount;
+        self.difference = Difference::Nothing;
+    }
+
+    /// All drafts become the submitted list.
+    fn submit_all(&mut self, alloc: Global) -> Result<(), AllocError>
+        ensures submitted { OnOk result (self.new ≡ lists_with self.old.drafts self.old.drafts) }
+        ensures unchanged { OnErr result (self.new ≡ self.old) }
+    {
         copy_entries(alloc, &self.drafts, &mut self.spare)?;
         mem::swap(&mut self.submitted, &mut self.spare);
-        self.alike = true;
+        self.difference = Difference::Nothing;
         Ok(())
+    }
+}
+
+/// The difference of two lists once the amount at the place is set in the first, or once another entry is put in.
+fn with_amount(difference: Difference, place: Option<usize>) -> Difference
+    ensures { (old new others : List BookBid) → Differs difference old others
+        → ((at : ℕ) → place ≡ Some at → (amount : ℕ) × SetsAmount old at amount new) → Differs result new others }
+{
+    match (difference, place) {
+        (Difference::Nothing, Some(place)) => Difference::AmountAt(place),
+        (Difference::AmountAt(at), Some(place)) if at == place => Difference::AmountAt(at),
+        _ => Difference::Anything,
     }
 }
 

@@ -1,9 +1,10 @@
 // The places of entries in a list.
-ghost use Rattle.std.specs.Prelude.{◌≡◌, ◌+◌, ◌∷◌, ◌++◌, ◌≤◌, [], IfOk, OnErr, OnOk, length, map, take};
+ghost use Rattle.std.specs.Prelude.{◌≡◌, ◌+◌, ◌∷◌, ◌++◌, ◌≤◌, [], ℕ, IfOk, Some, OnErr, OnOk, length, map, take};
 ghost use Rattle.auction_rules.specs.Lines.{with_entry};
 ghost use Rattle.auction_rules.specs.Replies.{has_entry};
 ghost use Rattle.relative_cap.specs.OwnRounds.{bid_value};
 ghost use Rattle.bid_desk.specs.Lists.{IsKept};
+ghost use Rattle.bid_desk.specs.Differences.{SetsAmount};
 ghost use Rattle.bid_desk.specs.Slots.{IsSlot};
 
 use lots::{Bid, Package};
@@ -43,27 +44,29 @@ pub fn has_entry(list: &[Bid], package: &Package) -> bool
     }
 }
 
-/// Sets the amount for the package in a list. For want of memory the list stays as it is.
+/// Sets the amount for the package in a list, and tells the place of its entry where one was there. For want of memory the list stays
+/// as it is.
 pub fn put_entry(
     alloc: Global,
     list: &mut Vec<Bid>,
     package: &Package,
     amount: u64,
-) -> Result<(), AllocError>
+) -> Result<Option<usize>, AllocError>
     requires { IsKept (length «package».now) (map bid_value list.old.items) }
     ensures put { OnOk result (map bid_value list.new.items ≡ with_entry «package».now amount (map bid_value list.old.items)) }
+    ensures set { (place : ℕ) → result ≡ Ok (Some place) → SetsAmount (map bid_value list.old.items) place amount (map bid_value list.new.items) }
     ensures unchanged { OnErr result (list.new.items ≡ list.old.items) }
 {
-    let entry = Bid {
-        package: package.copied(alloc)?,
-        amount,
-    };
     match slot_of(list, package) {
         Slot::Taken(place) => {
-            list[place] = entry;
-            Ok(())
+            list[place].amount = amount;
+            Ok(Some(place))
         }
-        Slot::Free(place) => Ok(list.insert(place, entry)?),
+        Slot::Free(place) => {
+            let package = package.copied(alloc)?;
+            list.insert(place, Bid { package, amount })?;
+            Ok(None)
+        }
     }
 }
 

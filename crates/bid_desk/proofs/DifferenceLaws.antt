@@ -1,0 +1,50 @@
+-- Lists that are the same but for one amount.
+use Rattle.std.proofs.Common.{◌≡◌, ℕ, zero, suc, ◌<◌, List, [], ◌∷◌, length, get_or, set, refl, sym, ap, subst, ◌∙◌, arith}
+use Rattle.auction_model.specs.Book.{BookBid}
+use Rattle.bid_desk.specs.Differences.{IsSameButAt, SetsAmount}
+use Rattle.bid_desk.specs.Slots.{entry_of}
+
+-- a list is the same as itself
+but-self : (list : List BookBid) (place : ℕ) → place < length list → IsSameButAt place list list
+but-self [] place inside = absurd (omega arith)
+but-self (b ∷ list) zero inside = (refl, refl)
+but-self (b ∷ list) (suc place) inside = (refl, but-self list place (omega arith))
+
+-- the amount at that place may be set again
+but-set : (list others : List BookBid) (place amount : ℕ) (entry : BookBid) → IsSameButAt place list others → get_or list place entry ≡ entry
+    → IsSameButAt place (set list place (entry_of entry.lots amount)) others
+but-set [] others place amount entry but was = absurd but
+but-set (b ∷ list) [] place amount entry but was = absurd but
+but-set (b ∷ list) (c ∷ others) zero amount entry but was = (ap (λ (e : BookBid). e.lots) (sym was) ∙ but.0, but.1)
+but-set (b ∷ list) (c ∷ others) (suc place) amount entry but was = (but.0, but-set list others place amount entry but.1 was)
+
+-- lists that were the same, once an amount is set
+pub same-set : (list others new : List BookBid) (place amount : ℕ) → list ≡ others → SetsAmount list place amount new → IsSameButAt place new others
+same-set list others new place amount same sets =
+    let own : IsSameButAt place (set list place (entry_of sets.entry.lots amount)) list = but-set list list place amount sets.entry (but-self list place sets.inside) sets.was in
+    subst (λ (l : List BookBid). IsSameButAt place l others) (sym sets.set) (subst (IsSameButAt place (set list place (entry_of sets.entry.lots amount))) same own)
+
+-- lists that were so already
+pub but-again : (list others new : List BookBid) (place amount : ℕ) → IsSameButAt place list others → SetsAmount list place amount new → IsSameButAt place new others
+but-again list others new place amount but sets =
+    subst (λ (l : List BookBid). IsSameButAt place l others) (sym sets.set) (but-set list others place amount sets.entry but sets.was)
+
+-- the place stands in both
+pub but-inside : (list others : List BookBid) (place : ℕ) → IsSameButAt place list others → (place < length list) × (place < length others)
+but-inside [] others place but = absurd but
+but-inside (b ∷ list) [] place but = absurd but
+but-inside (b ∷ list) (c ∷ others) zero but = (omega arith, omega arith)
+but-inside (b ∷ list) (c ∷ others) (suc place) but = let rest = but-inside list others place but.1 in (omega (arith, rest.0), omega (arith, rest.1))
+
+-- with the amount of the one list the other is the same
+pub but-copied : (list others : List BookBid) (place : ℕ) (own other : BookBid) → IsSameButAt place list others → get_or list place own ≡ own → get_or others place other ≡ other
+    → set others place (entry_of other.lots own.amount) ≡ list
+but-copied [] others place own other but is was = absurd but
+but-copied (b ∷ list) [] place own other but is was = absurd but
+but-copied (b ∷ list) (c ∷ others) zero own other but is was =
+    let lots : other.lots ≡ b.lots = ap (λ (e : BookBid). e.lots) (sym was) ∙ sym but.0 in
+    let amount : own.amount ≡ b.amount = ap (λ (e : BookBid). e.amount) (sym is) in
+    let entry : entry_of other.lots own.amount ≡ b = λ i. record { lots = lots i; amount = amount i } in
+    ap (λ (e : BookBid). e ∷ others) entry ∙ ap (λ (l : List BookBid). b ∷ l) (sym but.1)
+but-copied (b ∷ list) (c ∷ others) (suc place) own other but is was =
+    ap (λ (e : BookBid). e ∷ set others place (entry_of other.lots own.amount)) (sym but.0) ∙ ap (λ (l : List BookBid). b ∷ l) (but-copied list others place own other but.1 is was)
