@@ -1,8 +1,11 @@
 -- Lists that are the same but for one amount.
-use Rattle.std.proofs.Common.{◌≡◌, ℕ, zero, suc, ◌<◌, List, [], ◌∷◌, length, get_or, set, refl, sym, ap, subst, ◌∙◌, arith}
+use Rattle.std.proofs.Common.{◌≡◌, ℕ, zero, suc, ◌<◌, List, [], ◌∷◌, length, map, get_or, set, refl, sym, ap, subst, ◌∙◌, arith}
+use Rattle.std.proofs.lemmas.List.{get_or-map, length-map, map-set}
 use Rattle.auction_model.specs.Book.{BookBid}
 use Rattle.bid_desk.specs.Differences.{IsSameButAt, SetsAmount}
-use Rattle.bid_desk.specs.Slots.{entry_of}
+use Rattle.bid_desk.specs.Slots.{entry_of, IsTakenAt}
+use Rattle.lots.specs.declared.«package».Bid.{Bid}
+use Rattle.relative_cap.specs.OwnRounds.{bid_value}
 
 -- a list is the same as itself
 but-self : (list : List BookBid) (place : ℕ) → place < length list → IsSameButAt place list list
@@ -48,3 +51,39 @@ but-copied (b ∷ list) (c ∷ others) zero own other but is was =
     ap (λ (e : BookBid). e ∷ others) entry ∙ ap (λ (l : List BookBid). b ∷ l) (sym but.1)
 but-copied (b ∷ list) (c ∷ others) (suc place) own other but is was =
     ap (λ (e : BookBid). e ∷ set others place (entry_of other.lots own.amount)) (sym but.0) ∙ ap (λ (l : List BookBid). b ∷ l) (but-copied list others place own other but.1 is was)
+
+-- ---- of the entries themselves
+
+-- the entry that was read is the one among the values
+value-there : (list : List Bid) (place : ℕ) (e : Bid) → place < length list → e ≡ get_or list place e → get_or (map bid_value list) place (bid_value e) ≡ bid_value e
+value-there list place e inside at = get_or-map bid_value list place e (bid_value e) inside ∙ ap bid_value (sym at)
+
+-- the entry for a package has its lots
+pub own-lots : (list : List Bid) (lots : List ℕ) (place : ℕ) (e : Bid) → IsTakenAt (map bid_value list) lots place → e ≡ get_or list place e → e.«package» ≡ lots
+own-lots list lots place e is at =
+    let inside : place < length list = omega (arith, is.inside, length-map list bid_value) in
+    ap (λ (b : BookBid). b.lots) (sym (value-there list place e inside at)) ∙ is.own (bid_value e)
+
+-- an amount that is set in the list is set among the values
+pub sets-amount : (list : List Bid) (place amount : ℕ) (e : Bid) → place < length (map bid_value list) → e ≡ get_or list place e
+    → SetsAmount (map bid_value list) place amount (map bid_value (set list place (record { «package» = e.«package»; amount = amount })))
+sets-amount list place amount e inside at = record {
+  inside = inside;
+  entry = bid_value e;
+  was = value-there list place e (omega (arith, inside, length-map list bid_value)) at;
+  set = map-set bid_value list place (record { «package» = e.«package»; amount = amount });
+}
+
+-- the place is inside the lists of entries
+pub entries-inside : (list others : List Bid) (place : ℕ) → IsSameButAt place (map bid_value list) (map bid_value others) → (place < length list) × (place < length others)
+entries-inside list others place but =
+    let inside = but-inside (map bid_value list) (map bid_value others) place but in
+    (omega (arith, inside.0, length-map list bid_value), omega (arith, inside.1, length-map others bid_value))
+
+-- with the amount of the draft the submitted list is the draft list
+pub amount-submitted : (drafts submitted : List Bid) (place : ℕ) (d s : Bid) → IsSameButAt place (map bid_value drafts) (map bid_value submitted) → d ≡ get_or drafts place d → s ≡ get_or submitted place s
+    → map bid_value drafts ≡ map bid_value (set submitted place (record { «package» = s.«package»; amount = d.amount }))
+amount-submitted drafts submitted place d s but own was =
+    let inside = entries-inside drafts submitted place but in
+    sym (map-set bid_value submitted place (record { «package» = s.«package»; amount = d.amount })
+    ∙ but-copied (map bid_value drafts) (map bid_value submitted) place (bid_value d) (bid_value s) but (value-there drafts place d inside.0 own) (value-there submitted place s inside.1 was))
