@@ -14,7 +14,7 @@ use Rattle.cert_laws.specs.Tests.{NoEarlier, bidders_of, states, left_after, wor
 use Rattle.cert_laws.proofs.Bounds.{First, first_of_fitting}
 use Rattle.cert_check.specs.Places.{IsFirstFailing}
 use Rattle.cert_check.specs.EarlierBids.{StaysBelow, AllStayBelow, NoneEarlier}
-use Rattle.cert_check.specs.Faults.{at}
+use Rattle.wide_num.specs.Sums.{nth}
 
 abbrev pub IsBefore : Book → CertValue → ℕ → Type 0
 IsBefore book c k = NoEarlier (menu_of book) (net_of book) book.supply c.table c.choice c.value k
@@ -99,7 +99,7 @@ module _ (book : Book) (c : CertValue) (length_is : length c.choice ≡ bidders_
 
 -- a bid that fits
 pub stays-some : (book : Book) (j : ℕ) (line : List ℤ) (rest : ℕ) (bound : ℤ) (i place : ℕ) (net : ℤ) (b : Bool) → IsTrue (is_within (lots_of book j i) (left_at book.supply rest))
-    → place ≡ place_of book.supply (less (left_at book.supply rest) (lots_of book j i)) → net ≡ net_of book j i → (IsTrue b ↔ ((net +ℤ at line place) <ℤ bound)) → IsTrue b ↔ StaysBelow book j line rest bound i
+    → place ≡ place_of book.supply (less (left_at book.supply rest) (lots_of book j i)) → net ≡ net_of book j i → (IsTrue b ↔ ((net +ℤ nth line place) <ℤ bound)) → IsTrue b ↔ StaysBelow book j line rest bound i
 stays-some book j line rest bound i place net b fits place_is net_is e = (
   λ t _. rw (place_is, net_is) at (e.0 t),
   λ stays. e.1 (rw (place_is, net_is) (stays fits)),

@@ -1,10 +1,9 @@
 -- Lines that never fall, from their blocks; and the rules that follow from others on such a line.
-use Rattle.std.specs.Prelude.{◌≡◌, ℕ, zero, suc, ◌+◌, ◌-◌, ◌*◌, ◌/◌, ◌%◌, ◌≤◌, ◌<◌, nat_le, true, false, Bool, IsTrue, List, [], ◌∷◌, length, get_or, take, drop, ℤ, pos, negsuc, ◌+ℤ◌, ◌-ℤ◌, ◌*ℤ◌, ◌≤ℤ◌, refl}
+use Rattle.std.specs.Prelude.{◌≡◌, ℕ, zero, suc, ◌+◌, ◌-◌, ◌*◌, ◌/◌, ◌%◌, ◌≤◌, ◌<◌, nat_le, IsTrue, List, [], ◌∷◌, length, get_or, take, drop, ℤ, pos, ◌+ℤ◌, ◌≤ℤ◌, refl}
 use Rattle.std.proofs.Common.{inl, inr, sym, ◌∙◌, ap, subst, arith}
 use Rattle.std.proofs.lemmas.Bool.{and_parts, leb-true, cases_lt}
 use Rattle.std.proofs.lemmas.Int.{ints}
 use Rattle.std.proofs.lemmas.Nat.{div_below, mod_below, div-add-mod'}
-use Rattle.std.proofs.Math.Nat.{mul-le-mul_left}
 use Rattle.auction_model.specs.Package.{is_within, less}
 use Rattle.auction_model.specs.Place.{states_of, place_of, left_at}
 use Rattle.auction_model.specs.Book.{lots_of, net_of, bids_of}
@@ -15,20 +14,20 @@ use Rattle.auction_model.proofs.PartReads.{read-part}
 use Rattle.bid_book.specs.Better.{IsBetter}
 use Rattle.bid_book.specs.Kept.{IsBidBook}
 use Rattle.cert_laws.specs.Tests.{states}
-use Rattle.cert_text.specs.CertValues.{cert_value}
-use Rattle.cert_check.specs.Faults.{at, FirstFault}
+use Rattle.cert_check.specs.Faults.{FirstFault}
+use Rattle.wide_num.specs.Sums.{nth}
 use Rattle.cert_check.specs.Growth.{Grows, RisesBy}
-use Rattle.cert_check.specs.LineTests.{worth_of, worth_by, KeepsBid, KeepsSome, IsNeedless}
+use Rattle.cert_check.specs.LineTests.{worth_of, KeepsBid, KeepsSome, IsNeedless}
 use Rattle.cert_check.specs.declared.tables.offers.Offers.{Offers}
 use Rattle.cert_check.proofs.Blocks.{fault-same}
 
-rises-many : (W : ℕ) (line : List ℤ) → RisesBy W line → (d s : ℕ) → s + d * W < length line → at line s ≤ℤ at line (s + d * W)
-rises-many W line rises zero s h = let same : s ≡ s + 0 * W = omega arith in subst (λ (n : ℕ). at line s ≤ℤ at line n) same (omega (arith, ints))
+rises-many : (W : ℕ) (line : List ℤ) → RisesBy W line → (d s : ℕ) → s + d * W < length line → nth line s ≤ℤ nth line (s + d * W)
+rises-many W line rises zero s h = let same : s ≡ s + 0 * W = omega arith in subst (λ (n : ℕ). nth line s ≤ℤ nth line n) same (omega (arith, ints))
 rises-many W line rises (suc d) s h =
     let before = rises-many W line rises d s (omega (arith, h)) in
     let step = rises (s + d * W) (omega (arith, h)) in
     let same : s + d * W + W ≡ s + suc d * W = omega arith in
-    let last : at line (s + d * W) ≤ℤ at line (s + suc d * W) = subst (λ (n : ℕ). at line (s + d * W) ≤ℤ at line n) same step in
+    let last : nth line (s + d * W) ≤ℤ nth line (s + suc d * W) = subst (λ (n : ℕ). nth line (s + d * W) ≤ℤ nth line n) same step in
     omega (arith, ints, before, last)
 
 -- a line that rises by blocks, of which each never falls, never falls
@@ -50,12 +49,12 @@ grows-cons b supply line places rises blocks s t s_low t_low within =
     let whole : states_of (b ∷ supply) ≡ (b + 1) * W = omega arith in
     let q_low : q < b + 1 = div_below s W (b + 1) positive (omega (arith, s_low, whole)) in
     let part = take W (drop (q * W) line) in
-    let inside : at part r ≤ℤ at part o = blocks q q_low r o r_low o_low parts.1 in
-    let read_r : at part r ≡ at line s = read-part line (q * W) W r r_low ∙ ap (at line) s_is in
-    let read_o : at part o ≡ at line (q * W + o) = read-part line (q * W) W o o_low in
+    let inside : nth part r ≤ℤ nth part o = blocks q q_low r o r_low o_low parts.1 in
+    let read_r : nth part r ≡ nth line s = read-part line (q * W) W r r_low ∙ ap (nth line) s_is in
+    let read_o : nth part o ≡ nth line (q * W + o) = read-part line (q * W) W o o_low in
     let apart : q * W + o + (p - q) * W ≡ t = omega (arith, t_is, split q p W up) in
     let across = rises-many W line rises (p - q) (q * W + o) (omega (arith, apart, t_low, places)) in
-    let end : at line (q * W + o) ≤ℤ at line t = subst (λ (n : ℕ). at line (q * W + o) ≤ℤ at line n) apart across in
+    let end : nth line (q * W + o) ≤ℤ nth line t = subst (λ (n : ℕ). nth line (q * W + o) ≤ℤ nth line n) apart across in
     omega (arith, ints, inside, read_r, read_o, end)
   where
     split : (a c W : ℕ) → a ≤ c → a * W + (c - a) * W ≡ c * W
@@ -67,7 +66,7 @@ grows-cons b supply line places rises blocks s t s_low t_low within =
 
 -- one place
 grows-one : (line : List ℤ) → Grows [] line
-grows-one line s t s_low t_low within = let same : s ≡ t = omega (arith, s_low, t_low) in subst (λ (n : ℕ). at line s ≤ℤ at line n) same (omega (arith, ints))
+grows-one line s t s_low t_low within = let same : s ≡ t = omega (arith, s_low, t_low) in subst (λ (n : ℕ). nth line s ≤ℤ nth line n) same (omega (arith, ints))
 
 -- the same for the lists of the code
 pub grows-last : (supply : List ℕ) (line : List ℤ) (W : ℕ) → length supply ≡ 1 → W ≡ states_of (drop 1 supply) → length line ≡ states_of supply → RisesBy W line → Grows supply line
@@ -81,17 +80,12 @@ grows-list [] line W n some is places all rises blocks = absurd (omega (arith, s
 grows-list (b ∷ supply) line W n some is places all rises blocks =
     grows-cons b supply line places (subst (λ (m : ℕ). RisesBy m line) is rises) (λ q low. subst (λ (m : ℕ). Grows supply (take m (drop (q * m) line))) is (blocks q (omega (arith, low, all))))
 
-worth-in_order : (o : Offers) (lowered : Bool) (j i h : ℕ) → pos 0 ≤ℤ o.cert.now.den → pos 0 ≤ℤ net_of o.book.now j i → net_of o.book.now j i ≤ℤ net_of o.book.now j h
-    → worth_by o.book.now (cert_value o.cert.now) lowered j i ≤ℤ worth_by o.book.now (cert_value o.cert.now) lowered j h
-worth-in_order o true j i h den own le = lowered-in_order o.cert.now.den (net_of o.book.now j i) (net_of o.book.now j h) _ den own le
-worth-in_order o false j i h den own le = le
-
-pub needless-better : (o : Offers) (j i h : ℕ) → IsBidBook o.book.now → i ≤ length (bids_of o.book.now j) → 0 < h → pos 0 ≤ℤ o.cert.now.den → IsBetter o.book.now j i h → IsNeedless o j i
+pub needless-better : (o : Offers) (j i h : ℕ) → IsBidBook o.book.now → i ≤ length (bids_of o.book.now j) → 0 < h → pos 0 ≤ℤ o.den → IsBetter o.book.now j i h → IsNeedless o j i
 needless-better o j i h kept known some den better = record {
   other = h;
   earlier = better.earlier;
   smaller = better.smaller;
-  worth = λ _. worth-in_order o o.lowered j i h den (kept.not_negative j i known) better.worth;
+  worth = λ _. lowered-in_order o.den (net_of o.book.now j i) (net_of o.book.now j h) _ den (kept.not_negative j i known) better.worth;
   none = λ e. absurd (omega (arith, some, e));
 }
 
@@ -101,7 +95,7 @@ needless-nothing o j i some le = record { other = 0; earlier = some; smaller = r
 module _ (o : Offers) (j i : ℕ) (line below : List ℤ) (places : length line ≡ states o.book.now) (grows : Grows o.book.now.supply below) where
   -- what is left after the larger package is no more worth
   rest-grows : (h s : ℕ) → s < states o.book.now → IsTrue (is_within (lots_of o.book.now j h) (lots_of o.book.now j i))
-      → at below (place_of o.book.now.supply (less (left_at o.book.now.supply s) (lots_of o.book.now j i))) ≤ℤ at below (place_of o.book.now.supply (less (left_at o.book.now.supply s) (lots_of o.book.now j h)))
+      → nth below (place_of o.book.now.supply (less (left_at o.book.now.supply s) (lots_of o.book.now j i))) ≤ℤ nth below (place_of o.book.now.supply (less (left_at o.book.now.supply s) (lots_of o.book.now j h)))
   rest-grows h s low smaller =
       let supply = o.book.now.supply in
       let left = left_at supply s in
@@ -115,12 +109,12 @@ module _ (o : Offers) (j i : ℕ) (line below : List ℤ) (places : length line 
   needless-keeps n k is s keeps low fits = keep n.other n.earlier n.smaller n.worth n.none
     where
       rest : ℕ → ℤ
-      rest h = at below (place_of o.book.now.supply (less (left_at o.book.now.supply s) (lots_of o.book.now j h)))
+      rest h = nth below (place_of o.book.now.supply (less (left_at o.book.now.supply s) (lots_of o.book.now j h)))
 
-      keep : (h : ℕ) → h < i → IsTrue (is_within (lots_of o.book.now j h) (lots_of o.book.now j i)) → (0 < h → worth_of o j i ≤ℤ worth_of o j h) → (h ≡ 0 → worth_of o j i ≤ℤ pos 0) → (worth_of o j i +ℤ rest i) ≤ℤ at line s
+      keep : (h : ℕ) → h < i → IsTrue (is_within (lots_of o.book.now j h) (lots_of o.book.now j i)) → (0 < h → worth_of o j i ≤ℤ worth_of o j h) → (h ≡ 0 → worth_of o j i ≤ℤ pos 0) → (worth_of o j i +ℤ rest i) ≤ℤ nth line s
       keep zero lt smaller worth none =
           let grown : rest i ≤ℤ rest 0 = rest-grows 0 s low smaller in
-          let whole : rest 0 ≡ at below s = ap (at below) (ap (place_of o.book.now.supply) (less-empty (left_at o.book.now.supply s)) ∙ place_of-left_at o.book.now.supply s low) in
+          let whole : rest 0 ≡ nth below s = ap (nth below) (ap (place_of o.book.now.supply) (less-empty (left_at o.book.now.supply s)) ∙ place_of-left_at o.book.now.supply s low) in
           let own = keeps.none (omega (arith, low, places)) in
           omega (arith, ints, grown, whole, own, none refl)
       keep (suc h) lt smaller worth none =

@@ -8,6 +8,7 @@ pub mod PartLaws
 pub mod VerdictLaws
 pub mod Blocks
 pub mod Gains
+pub mod Worths
 pub mod GrowthLaws
 pub mod LineLaws
 pub mod NarrowLines

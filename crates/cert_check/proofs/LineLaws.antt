@@ -9,7 +9,8 @@ use Rattle.auction_model.specs.Book.{lots_of}
 use Rattle.auction_model.proofs.PlaceLaws.{place-less}
 use Rattle.auction_model.proofs.TrimLaws.{trim-within}
 use Rattle.cert_laws.specs.Tests.{states}
-use Rattle.cert_check.specs.Faults.{FirstFault, at}
+use Rattle.cert_check.specs.Faults.{FirstFault}
+use Rattle.wide_num.specs.Sums.{nth}
 use Rattle.cert_check.specs.LineTests.{worth_of, KeepsBid, KeepsSome}
 use Rattle.cert_check.specs.declared.tables.offers.Offers.{Offers}
 use Rattle.cert_check.proofs.Blocks.{fault-same, fault-both}
@@ -17,7 +18,7 @@ use Rattle.cert_check.proofs.Blocks.{fault-same, fault-both}
 -- what a bid asks of a block, by the parts of its rule
 abbrev pub AsksOf : List ℤ → List ℤ → ℕ → ℤ → List ℕ → List ℕ → ℕ → Type 0
 AsksOf line below shift worth supply lots s =
-    (n : ℕ) → n < states_of supply → s ≡ 0 + n → IsTrue (is_within lots (left_at supply n)) → (worth +ℤ at below (s - shift)) ≤ℤ at line s
+    (n : ℕ) → n < states_of supply → s ≡ 0 + n → IsTrue (is_within lots (left_at supply n)) → (worth +ℤ nth below (s - shift)) ≤ℤ nth line s
 
 -- the rule of a bid, tested block by block
 pub block-bid : (o : Offers) (j i : ℕ) (line below : List ℤ) (shift : ℕ) (worth : ℤ) (supply lots : List ℕ) (used until r : ℕ) → supply ≡ o.book.now.supply → lots ≡ lots_of o.book.now j i → IsNothingFrom used lots
@@ -29,10 +30,10 @@ block-bid o j i line below shift worth supply lots used until r s_is l_is nothin
     fitting n = trim-within used lots (left_at supply n) nothing ∙ rw (s_is, l_is) refl
 
     rest : (n : ℕ) → n < states o.book.now → IsTrue (is_within (lots_of o.book.now j i) (left_at o.book.now.supply n))
-        → at below (n - shift) ≡ at below (place_of o.book.now.supply (less (left_at o.book.now.supply n) (lots_of o.book.now j i)))
+        → nth below (n - shift) ≡ nth below (place_of o.book.now.supply (less (left_at o.book.now.supply n) (lots_of o.book.now j i)))
     rest n lt fits =
         let place : shift ≡ place_of o.book.now.supply (lots_of o.book.now j i) = shift_is ∙ rw (s_is, l_is) refl in
-        ap (at below) (omega (arith, place-less o.book.now.supply (lots_of o.book.now j i) n lt fits, place))
+        ap (nth below) (omega (arith, place-less o.book.now.supply (lots_of o.book.now j i) n lt fits, place))
 
     to : (n : ℕ) → AsksOf line below shift worth supply (take used lots) n → KeepsBid o j line below i n
     to n block lt fits =

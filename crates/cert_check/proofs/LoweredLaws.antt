@@ -1,5 +1,5 @@
 -- C9 from the test of the lowered table, and the size of lowered worths.
-use Rattle.std.specs.Prelude.{◌≡◌, ℕ, zero, suc, ◌+◌, ◌-◌, ◌*◌, ◌^◌, ◌<◌, ◌≤◌, List, length, get_or, Option, Some, None, ℤ, pos, ◌+ℤ◌, ◌*ℤ◌, ◌≤ℤ◌, ◌<ℤ◌, unsigned_abs, refl}
+use Rattle.std.specs.Prelude.{◌≡◌, ℕ, zero, suc, ◌+◌, ◌-◌, ◌*◌, ◌^◌, ◌<◌, ◌≤◌, List, length, get_or, Option, ℤ, pos, ◌+ℤ◌, ◌*ℤ◌, ◌≤ℤ◌, ◌<ℤ◌, unsigned_abs, refl}
 use Rattle.std.proofs.Common.{◌∙◌, ap, subst, arith}
 use Rattle.std.proofs.lemmas.Int.{ints, unsigned_abs-mul}
 use Rattle.std.proofs.Math.Nat.{mul-le-mul_left}
@@ -12,19 +12,17 @@ use Rattle.cert_form.specs.Certificate.{CertValue}
 use Rattle.cert_form.specs.CertText.{IsCertificate, AllInRange}
 use Rattle.cert_laws.specs.Tests.{bidders_of, states, lowered_net, C1, C2, C3, C9}
 use Rattle.cert_laws.proofs.Sizes.{net-most}
-use Rattle.cert_check.specs.LoweredWorths.{CanLower}
+use Rattle.cert_check.specs.Worths.{worth_with, CanLower, gain_of}
 use Rattle.cert_check.specs.LineTests.{TableAt}
 use Rattle.cert_check.specs.Places.{IsFirstFailing}
+use Rattle.cert_check.proofs.PlaceTests.{failing-same}
 use Rattle.cert_check.proofs.TableLaws.{in-range}
 use Rattle.cert_check.proofs.ValueLaws.{obeys-all, obeys-none_less}
+use Rattle.cert_check.proofs.Worths.{lowered-worth, table-same}
 
-pub failing-same : (P Q : ℕ → Type 0) → ((n : ℕ) → P n → Q n) → ((n : ℕ) → Q n → P n) → (r : Option ℕ) → IsFirstFailing P r → IsFirstFailing Q r
-failing-same P Q to from None f = λ place. to place (f place)
-failing-same P Q to from (Some p) f = (λ q. f.0 (from p q), λ n lt. to n (f.1 n lt))
-
-pub lowered-answer : (book : Book) (c : CertValue) (most : ℤ) (r : Option ℕ) → most ≡ sum_over everyone (of_bidder c.pay) (bidders_of book)
-    → IsFirstFailing (TableAt (without (menu_of book) 0) (lowered_net book c) book.supply c.lowered most) r → IsFirstFailing (C9 book c) r
-lowered-answer book c most r most_is f =
+pub lowered-answer : (book : Book) (c : CertValue) (gains : List ℤ) (most : ℤ) (r : Option ℕ) → ((j : ℕ) → 0 < j → j ≤ bidders_of book → of_bidder gains j ≡ gain_of book c.den c.choice c.pay j)
+    → most ≡ sum_over everyone (of_bidder c.pay) (bidders_of book) → IsFirstFailing (TableAt (without (menu_of book) 0) (worth_with book c.den gains) book.supply c.lowered most) r → IsFirstFailing (C9 book c) r
+lowered-answer book c gains most r gains_are most_is f =
     failing-same (TableAt (without (menu_of book) 0) (lowered_net book c) book.supply c.lowered most) (C9 book c)
     (λ n t. record {
       rules = λ k s le lt e. obeys-all (menu_of book) (lowered_net book c) book.supply c.lowered k s (t.rules k s le lt e);
@@ -33,7 +31,7 @@ lowered-answer book c most r most_is f =
     (λ n t. record {
       rules = λ k s le lt e. obeys-none_less (menu_of book) (lowered_net book c) book.supply c.lowered k s (t.rules k s le lt e);
       top = λ e. rw most_is (t.top e);
-    }) r f
+    }) r (table-same (without (menu_of book) 0) (worth_with book c.den gains) (lowered_net book c) book.supply c.lowered most r (lowered-worth book c gains gains_are) f)
 
 -- the product of the denominator and a net amount that isn't above the value
 pub scaled-small : (den net value : ℤ) → pos 1 ≤ℤ den → pos 0 ≤ℤ net → net ≤ℤ value → (den *ℤ (value +ℤ pos 1)) <ℤ pos (2 ^ 120) → unsigned_abs (den *ℤ net) < 2 ^ 120
@@ -59,10 +57,10 @@ module _ (book : Book) (c : CertValue) (kept : IsBidBook book) (shape : IsCertif
       scaled-small c.den (net_of book (suc k) (suc i)) c.value ((h1 1).den refl) (kept.not_negative (suc k) (suc i) known)
       (net-most book c shape.choice.0 h2 h3 k (suc i) (omega (arith, inside)) (omega arith) known (kept.within (suc k) i (omega (arith, known)))) ((h1 3).size refl)
 
-  pub can-lower : CanLower book c
+  pub can-lower : CanLower book c.den c.choice c.pay
   can-lower = record {
-    choice = shape.choice.0;
-    pay = shape.pay.0;
+    numbers = shape.choice.0;
+    payments = shape.pay.0;
     known = λ j some inside. (h2 j).known some inside;
     nets = net-small;
     paid = λ j. in-range c.pay shape.pay.1 (j - 1);

@@ -1,5 +1,5 @@
 -- A loop over the places of a test.
-use Rattle.std.specs.Prelude.{◌≡◌, ℕ, ◌+◌, ◌≤◌, ◌↔◌, Bool, true, false, IsTrue, Some, None}
+use Rattle.std.specs.Prelude.{◌≡◌, ℕ, ◌+◌, ◌≤◌, ◌↔◌, Bool, true, false, IsTrue, Option, Some, None}
 use Rattle.std.proofs.Common.{inl, inr, below_more}
 use Rattle.std.proofs.lemmas.Bool.{cases_lt, iff_false}
 use Rattle.cert_check.specs.Head.{HoldsBefore}
@@ -17,3 +17,8 @@ holds-everywhere P n before rest place =
       | inl lt ↦ before place lt
       | inr past ↦ rest place past
     ]
+
+-- tests that ask the same have the same first place
+pub failing-same : (P Q : ℕ → Type 0) → ((n : ℕ) → P n → Q n) → ((n : ℕ) → Q n → P n) → (r : Option ℕ) → IsFirstFailing P r → IsFirstFailing Q r
+failing-same P Q to from None f = λ place. to place (f place)
+failing-same P Q to from (Some p) f = (λ q. f.0 (from p q), λ n lt. to n (f.1 n lt))

@@ -8,7 +8,8 @@ use Rattle.auction_model.specs.Table.{entry_at}
 use Rattle.cert_form.specs.CertText.{IsTable, AreTableLines, AllInRange}
 use Rattle.cert_laws.specs.Tests.{bidders_of, states, full}
 use Rattle.cert_laws.proofs.Places.{first_rule}
-use Rattle.cert_check.specs.Faults.{FirstFault, at}
+use Rattle.cert_check.specs.Faults.{FirstFault}
+use Rattle.wide_num.specs.Sums.{nth}
 use Rattle.cert_check.specs.Places.{IsFirstFailing}
 use Rattle.cert_check.specs.LineTests.{offered, worth_of, KeepsZero, KeepsSome, ObeysIn, RulesAt, TestsTable}
 use Rattle.cert_check.specs.declared.tables.offers.Offers.{Offers}
@@ -23,7 +24,7 @@ lines-width s (t ∷ table) are (suc k) lt = lines-width s table are.2 k (omega 
 pub table-width : (b s : ℕ) (table : List (List ℤ)) → IsTable b s table → (k : ℕ) → k ≤ b → length (slice_index_or table k []) ≡ s
 table-width b s table is k le = lines-width s table is.1 k (omega (arith, is.0, le))
 
-pub in-range : (t : List ℤ) → AllInRange t → (s : ℕ) → unsigned_abs (at t s) < 2 ^ 120
+pub in-range : (t : List ℤ) → AllInRange t → (s : ℕ) → unsigned_abs (nth t s) < 2 ^ 120
 in-range [] all s = omega arith
 in-range (z ∷ t) all zero = all.0
 in-range (z ∷ t) all (suc s) = in-range t all.1 s
@@ -45,11 +46,11 @@ module _ (o : Offers) (table : List (List ℤ)) (is : IsTable (bidders_of o.book
       subst (λ (n : ℕ). FirstFault (ObeysIn o table k) n r) width
       (fault-same (KeepsZero line) (ObeysIn o table k) (length line) r
       (λ s keeps lt. record {
-        last = λ e. subst (λ (l : List ℤ). pos 0 ≤ℤ at l s) line_is (keeps (omega (arith, lt, width)));
+        last = λ e. subst (λ (l : List ℤ). pos 0 ≤ℤ nth l s) line_is (keeps (omega (arith, lt, width)));
         none = λ lt'. absurd (omega (arith, lt', last));
         bid = λ lt' i some few fits. absurd (omega (arith, lt', last));
       })
-      (λ s obeys lt. subst (λ (l : List ℤ). pos 0 ≤ℤ at l s) (sym line_is) ((obeys (omega (arith, lt, width))).last last)) f)
+      (λ s obeys lt. subst (λ (l : List ℤ). pos 0 ≤ℤ nth l s) (sym line_is) ((obeys (omega (arith, lt, width))).last last)) f)
 
   -- another line
   pub line-obeys : (k r : ℕ) (line below : List ℤ) → k < bidders_of o.book.now → line ≡ slice_index_or table k [] → below ≡ slice_index_or table (suc k) []

@@ -1,5 +1,5 @@
 -- A package without its last categories, of which it has nothing, fits and has its place as before.
-use Rattle.std.specs.Prelude.{◌≡◌, ℕ, zero, suc, ◌+◌, ◌*◌, ◌&&◌, ◌==◌, List, [], ◌∷◌, take, refl}
+use Rattle.std.specs.Prelude.{◌≡◌, ℕ, zero, suc, ◌+◌, ◌*◌, List, [], ◌∷◌, take, refl}
 use Rattle.std.proofs.Common.{◌∙◌, ap, arith}
 use Rattle.auction_model.specs.Package.{IsNothingFrom}
 use Rattle.auction_model.specs.Place.{states_of, place_of}

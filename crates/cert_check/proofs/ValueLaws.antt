@@ -1,5 +1,5 @@
 -- C3 from the tests of the table and of the earlier bids.
-use Rattle.std.specs.Prelude.{◌≡◌, ℕ, suc, ◌+◌, ◌*◌, ◌<◌, ◌≤◌, Bool, IsTrue, List, length, slice_index_or, ℤ, refl, Some, None, if◌then◌else◌}
+use Rattle.std.specs.Prelude.{◌≡◌, ℕ, suc, ◌+◌, ◌*◌, ◌<◌, ◌≤◌, Bool, IsTrue, List, length, slice_index_or, replicate, ℤ, pos, refl, Option, Some, None, if◌then◌else◌}
 use Rattle.std.proofs.Common.{inl, inr, sym, ap, subst, arith}
 use Rattle.std.proofs.lemmas.Bool.{cases_lt, and_from, ne_eqb}
 use Rattle.auction_model.specs.Package.{is_within}
@@ -14,7 +14,9 @@ use Rattle.cert_text.specs.declared.certificate.Certificate.{Certificate}
 use Rattle.cert_check.specs.EarlierBids.{NoneEarlier}
 use Rattle.cert_check.specs.LineTests.{TableAt}
 use Rattle.cert_check.specs.Places.{IsFirstFailing}
+use Rattle.cert_check.specs.Worths.{worth_with}
 use Rattle.cert_check.proofs.TableLaws.{number-below}
+use Rattle.cert_check.proofs.Worths.{plain-worth, table-same}
 
 -- what the type of a certificate keeps, for the book's numbers of bidders and states
 pub cert-kept : (b s : ℕ) (c : Certificate) → IsFor b s c → IsCertificate b s (cert_value c)
@@ -91,3 +93,9 @@ module _ (book : Book) (c : CertValue) where
 
   pub value-holds : IsFirstFailing ShowsValue None → IsFirstFailing (NoneEarlier book c) None → IsFirstFailing (C3 book c) None
   value-holds t f place = whole place t (λ k lt e. f (suc k))
+
+-- the test of the table of all bids, with a denominator of 1 and no gains
+pub value-plain : (book : Book) (c : CertValue) (gains : List ℤ) (n : ℕ) (r : Option ℕ) → gains ≡ replicate n (pos 0)
+    → IsFirstFailing (TableAt (without (menu_of book) 0) (worth_with book (pos 1) gains) book.supply c.table c.value) r → IsFirstFailing (ShowsValue book c) r
+value-plain book c gains n r none t =
+    table-same (without (menu_of book) 0) (worth_with book (pos 1) gains) (net_of book) book.supply c.table c.value r (λ j i some inside. plain-worth book gains n none j i) t

@@ -6,13 +6,13 @@ use Rattle.auction_model.specs.Market.{is_number_before, number_of}
 use Rattle.auction_model.specs.Book.{Book, bids_of, lots_of, net_of, menu_of}
 use Rattle.cert_form.specs.Certificate.{CertValue}
 use Rattle.cert_laws.specs.Tests.{NoEarlier, bidders_of}
-use Rattle.cert_check.specs.Faults.{at}
+use Rattle.wide_num.specs.Sums.{nth}
 
 -- where bid i of bidder j fits what a place leaves, its net amount with the line's entry for the rest is below a bound
 abbrev pub StaysBelow : Book → ℕ → List ℤ → ℕ → ℤ → ℕ → Type 0
 StaysBelow book j line rest bound i =
     IsTrue (is_within (lots_of book j i) (left_at book.supply rest))
-    → (net_of book j i +ℤ at line (place_of book.supply (less (left_at book.supply rest) (lots_of book j i)))) <ℤ bound
+    → (net_of book j i +ℤ nth line (place_of book.supply (less (left_at book.supply rest) (lots_of book j i)))) <ℤ bound
 
 -- so do all bids of bidder j that come before its number in the choice
 abbrev pub AllStayBelow : Book → List ℕ → ℕ → List ℤ → ℕ → ℤ → Type 0

@@ -1,7 +1,8 @@
 -- The first place of a line at which a rule fails.
-use Rattle.std.specs.Prelude.{◌≡◌, ℕ, ◌+◌, ◌-◌, ◌≤◌, ◌<◌, IsTrue, List, slice_index_or, ℤ, pos, ◌+ℤ◌, ◌≤ℤ◌}
+use Rattle.std.specs.Prelude.{◌≡◌, ℕ, ◌+◌, ◌-◌, ◌≤◌, ◌<◌, IsTrue, List, ◌+ℤ◌, ◌≤ℤ◌}
 use Rattle.auction_model.specs.Package.{is_within}
 use Rattle.auction_model.specs.Place.{states_of, left_at}
+use Rattle.wide_num.specs.Sums.{nth}
 use Rattle.cert_check.specs.declared.tables.rule.LineRule.{LineRule}
 
 -- r is the first number below `stop` at which P fails, or `stop` where there is none
@@ -10,12 +11,9 @@ pub record FirstFault (P : ℕ → Type 0) (stop r : ℕ) : Type 0 where
   pub before : (s : ℕ) → s < r → P s
   pub fails : r < stop → P r → ⊥
 
-abbrev pub at : List ℤ → ℕ → ℤ
-at line s = slice_index_or line s (pos 0)
-
 -- the rule at a place
 abbrev pub Covers : LineRule → ℕ → Type 0
-Covers rule s = (rule.worth +ℤ at rule.below.now (s - rule.shift)) ≤ℤ at rule.line.now s
+Covers rule s = (rule.worth +ℤ nth rule.below.now (s - rule.shift)) ≤ℤ nth rule.line.now s
 
 -- the rule at the places start to stop - 1
 abbrev pub CoversRun : LineRule → ℕ → ℕ → ℕ → Type 0

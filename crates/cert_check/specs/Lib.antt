@@ -5,7 +5,7 @@ pub mod Verdicts
 pub mod Faults
 pub mod Narrow
 pub mod Growth
-pub mod LoweredWorths
+pub mod Worths
 pub mod Tested
 pub mod LineTests
 pub mod EarlierBids

@@ -1,40 +1,35 @@
 -- The rules of a table for the bids that it is tested for, line by line.
-use Rattle.std.specs.Prelude.{◌≡◌, ℕ, ◌+◌, ◌-◌, ◌*◌, ◌<◌, ◌≤◌, Bool, true, false, IsTrue, List, length, ℤ, pos, ◌+ℤ◌, ◌≤ℤ◌}
+use Rattle.std.specs.Prelude.{◌≡◌, ℕ, ◌+◌, ◌-◌, ◌*◌, ◌<◌, ◌≤◌, IsTrue, List, length, ℤ, pos, ◌+ℤ◌, ◌≤ℤ◌}
 use Rattle.auction_model.specs.Package.{is_within, less}
 use Rattle.auction_model.specs.Place.{states_of, place_of, left_at}
 use Rattle.auction_model.specs.Table.{entry_at}
 use Rattle.auction_model.specs.Menu.{Menu, without}
-use Rattle.auction_model.specs.Book.{Book, lots_of, net_of, menu_of}
-use Rattle.cert_form.specs.Certificate.{CertValue}
-use Rattle.cert_text.specs.CertValues.{cert_value}
-use Rattle.cert_laws.specs.Tests.{ObeysAt, bidders_of, states, lowered_net}
-use Rattle.cert_check.specs.Faults.{at}
+use Rattle.auction_model.specs.Book.{lots_of, menu_of}
+use Rattle.cert_laws.specs.Tests.{ObeysAt, Obeys, bidders_of, states}
+use Rattle.wide_num.specs.Sums.{nth}
+use Rattle.cert_check.specs.Worths.{worth_with}
 use Rattle.cert_check.specs.declared.tables.offers.Offers.{Offers}
 
 -- the bids that count
 abbrev pub offered : Offers → Menu
 offered o = without (menu_of o.book.now) o.skip
 
-abbrev pub worth_by : Book → CertValue → Bool → ℕ → ℕ → ℤ
-worth_by book c true = lowered_net book c
-worth_by book c false = net_of book
-
 -- what each is worth, by its bidder and its number
 abbrev pub worth_of : Offers → ℕ → ℕ → ℤ
-worth_of o = worth_by o.book.now (cert_value o.cert.now) o.lowered
+worth_of o = worth_with o.book.now o.den o.gains.now
 
 -- a line is nowhere below the line below it, or below 0
 abbrev pub KeepsNone : List ℤ → List ℤ → ℕ → Type 0
-KeepsNone line below s = s < length line → at below s ≤ℤ at line s
+KeepsNone line below s = s < length line → nth below s ≤ℤ nth line s
 
 abbrev pub KeepsZero : List ℤ → ℕ → Type 0
-KeepsZero line s = s < length line → pos 0 ≤ℤ at line s
+KeepsZero line s = s < length line → pos 0 ≤ℤ nth line s
 
 -- what bid i of bidder j asks of its line at a place
 abbrev pub KeepsBid : Offers → ℕ → List ℤ → List ℤ → ℕ → ℕ → Type 0
 KeepsBid o j line below i s =
     s < states o.book.now → IsTrue (is_within (lots_of o.book.now j i) (left_at o.book.now.supply s))
-    → (worth_of o j i +ℤ at below (place_of o.book.now.supply (less (left_at o.book.now.supply s) (lots_of o.book.now j i)))) ≤ℤ at line s
+    → (worth_of o j i +ℤ nth below (place_of o.book.now.supply (less (left_at o.book.now.supply s) (lots_of o.book.now j i)))) ≤ℤ nth line s
 
 -- the rules of the line of bidder j at a place, for its first `some` bids
 pub record KeepsSome (o : Offers) (j : ℕ) (line below : List ℤ) (some s : ℕ) : Type 0 where
@@ -44,6 +39,10 @@ pub record KeepsSome (o : Offers) (j : ℕ) (line below : List ℤ) (some s : �
 -- the rules of line k at a place
 abbrev pub ObeysIn : Offers → List (List ℤ) → ℕ → ℕ → Type 0
 ObeysIn o table k s = s < states o.book.now → ObeysAt (offered o) (worth_of o) o.book.now.supply table k s
+
+-- where a bidder is skipped, this table has the rules for the bids of all
+abbrev pub IsWhole : Offers → List (List ℤ) → Type 0
+IsWhole o whole = 0 < o.skip → Obeys (menu_of o.book.now) (worth_of o) o.book.now.supply whole
 
 -- the rules of all lines at a number, which names a line and a place
 abbrev pub RulesAt : Offers → List (List ℤ) → ℕ → Type 0

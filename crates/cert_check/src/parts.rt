@@ -10,6 +10,7 @@ ghost use Rattle.cert_check.specs.Places.{IsFirstFailing};
 ghost use Rattle.cert_check.specs.Tested.{IsTested};
 
 use crate::choice::is_allowed;
+use crate::tables::MOST_GAINS;
 use crate::tables::grids::table_test;
 use crate::tables::offers::Offers;
 use bid_book::BidBook;
@@ -24,16 +25,18 @@ fn shows_best(book: &BidBook, cert: &Certificate, part: &WithoutPart, j: u16) ->
     requires tested { IsTested book.now cert.now }
     ensures { IsTrue result ↔ IsPart book.now j (without_value part.now) }
 {
+    let _bidders = book.bidders();
     if part.choice.number(j) != 0 || !is_allowed(book, &part.choice) {
         return false;
     }
+    let gains = [0i128; MOST_GAINS];
     let offers = Offers {
         book,
-        cert,
         skip: j,
-        lowered: false,
+        den: 1,
+        gains: &gains,
     };
-    table_test(&offers, &part.table, value(book, &part.choice)).is_none()
+    table_test(&offers, &cert.table, &part.table, value(book, &part.choice)).is_none()
 }
 
 /// Whether the part without bidder `j` shows the best choice without it.

@@ -9,6 +9,7 @@ ghost use Rattle.cert_check.specs.Places.{IsFirstFailing};
 ghost use Rattle.limits.specs.declared.TheConstants.{MOST_BIDDERS};
 
 pub(crate) mod earlier;
+pub(crate) mod gains;
 pub(crate) mod grids;
 pub(crate) mod growth;
 pub(crate) mod lines;
@@ -17,10 +18,15 @@ pub(crate) mod rule;
 pub(crate) mod walk;
 
 use crate::tables::earlier::earlier_fault;
+use crate::tables::gains::put_gains;
 use crate::tables::grids::table_test;
 use crate::tables::offers::Offers;
 use bid_book::BidBook;
 use cert_text::Certificate;
+use limits::MOST_BIDDERS;
+
+/// Room for a number of each bidder.
+pub(crate) const MOST_GAINS: usize = MOST_BIDDERS as usize;
 
 /// The first place at which the table of net amounts doesn't show the choice to be the winning one, once it is known, fits and
 /// has the value. With `S` states and `B` bidders, `k * S + s` is the place of line `k` at place `s` of the supply, `(B + 1) * S`
@@ -30,16 +36,18 @@ pub(crate) fn value_test(book: &BidBook, cert: &Certificate) -> Option<u64>
     requires choice { (place : ℕ) → C2 book.now (cert_value cert.now) place }
     ensures { IsFirstFailing (C3 book.now (cert_value cert.now)) result }
 {
+    let bidders = book.bidders();
+    let gains = [0i128; MOST_GAINS];
     let offers = Offers {
         book,
-        cert,
         skip: 0,
-        lowered: false,
+        den: 1,
+        gains: &gains,
     };
-    if let Some(place) = table_test(&offers, &cert.table, cert.value) {
+    if let Some(place) = table_test(&offers, &cert.table, &cert.table, cert.value) {
         return Some(place);
     }
-    let last = (book.bidders() + 1) * book.supply().states();
+    let last = (bidders + 1) * book.supply().states();
     let bidder = earlier_fault(book, cert)?;
     Some(last as u64 + bidder)
 }
@@ -55,13 +63,21 @@ pub(crate) fn lowered_test(book: &BidBook, cert: &Certificate) -> Option<u64>
 {
     let _bidders = book.bidders();
     let paid = sum_paid(cert.pay.items());
+    let mut gains = [0i128; MOST_GAINS];
+    put_gains(
+        book,
+        cert.den,
+        cert.choice.numbers(),
+        cert.pay.items(),
+        &mut gains,
+    );
     let offers = Offers {
         book,
-        cert,
         skip: 0,
-        lowered: true,
+        den: cert.den,
+        gains: &gains,
     };
-    table_test(&offers, &cert.lowered, paid)
+    table_test(&offers, &cert.lowered, &cert.lowered, paid)
 }
 
 fn sum_paid(payments: &[i128]) -> i128

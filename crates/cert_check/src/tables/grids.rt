@@ -4,7 +4,7 @@ ghost use Rattle.cert_form.specs.CertText.{IsTable};
 ghost use Rattle.cert_laws.specs.Tests.{bidders_of, states};
 ghost use Rattle.cert_check.specs.Faults.{FirstFault};
 ghost use Rattle.cert_check.specs.Places.{IsFirstFailing};
-ghost use Rattle.cert_check.specs.LineTests.{ObeysIn, RulesAt, TestsTable};
+ghost use Rattle.cert_check.specs.LineTests.{IsWhole, ObeysIn, RulesAt, TestsTable};
 
 use crate::tables::lines::{last_fault, line_fault};
 use crate::tables::offers::Offers;
@@ -19,30 +19,33 @@ fn share_line(table: &Grid, other: &Grid, k: usize) -> bool
     table.line(k) == other.line(k)
 }
 
-/// Whether line `k` of a table without a bidder and the line below it are those of the certificate's own table, and their bids are
-/// the same: then it was tested there.
-fn is_tested(offers: &Offers, table: &Grid, k: usize) -> bool
+/// Whether line `k` of a table without a bidder and the line below it are those of the table of all bids, and their bids are the
+/// same: then it was tested there.
+fn is_tested(offers: &Offers, whole: &Grid, table: &Grid, k: usize) -> bool
+    requires shape { IsTable (bidders_of offers.now.book.now) (states offers.now.book.now) whole.now }
+    requires whole { IsWhole offers.now whole.now }
     requires table { IsTable (bidders_of offers.now.book.now) (states offers.now.book.now) table.now }
     requires line { k ≤ bidders_of offers.now.book.now }
     ensures { IsTrue result → (s : ℕ) → ObeysIn offers.now table.now k s }
 {
-    if offers.lowered || offers.skip == 0 || k < offers.skip as usize {
+    if offers.skip == 0 || k < offers.skip as usize {
         return false;
     }
-    let own = &offers.cert.table;
-    if !share_line(table, own, k) {
+    if !share_line(table, whole, k) {
         return false;
     }
-    k == offers.book.bidders() || share_line(table, own, k + 1)
+    k == offers.book.bidders() || share_line(table, whole, k + 1)
 }
 
 /// The first place at which line `k` breaks a rule, and the number of states where there is none.
-fn rule_fault(offers: &Offers, table: &Grid, k: usize) -> usize
+fn rule_fault(offers: &Offers, whole: &Grid, table: &Grid, k: usize) -> usize
+    requires shape { IsTable (bidders_of offers.now.book.now) (states offers.now.book.now) whole.now }
+    requires whole { IsWhole offers.now whole.now }
     requires table { IsTable (bidders_of offers.now.book.now) (states offers.now.book.now) table.now }
     requires line { k ≤ bidders_of offers.now.book.now }
     ensures { FirstFault (ObeysIn offers.now table.now k) (states offers.now.book.now) result }
 {
-    if is_tested(offers, table, k) {
+    if is_tested(offers, whole, table, k) {
         return offers.book.supply().states();
     }
     if k == offers.book.bidders() {
@@ -52,13 +55,15 @@ fn rule_fault(offers: &Offers, table: &Grid, k: usize) -> usize
 }
 
 /// The first number of a line and a place in it at which a table breaks a rule.
-pub fn table_fault(offers: &Offers, table: &Grid) -> Option<u64>
-    requires { IsTable (bidders_of offers.now.book.now) (states offers.now.book.now) table.now }
+pub fn table_fault(offers: &Offers, whole: &Grid, table: &Grid) -> Option<u64>
+    requires shape { IsTable (bidders_of offers.now.book.now) (states offers.now.book.now) whole.now }
+    requires whole { IsWhole offers.now whole.now }
+    requires table { IsTable (bidders_of offers.now.book.now) (states offers.now.book.now) table.now }
     ensures { IsFirstFailing (RulesAt offers.now table.now) result }
 {
     let states = offers.book.supply().states();
     for k in 0..offers.book.bidders() + 1 {
-        let found = rule_fault(offers, table, k);
+        let found = rule_fault(offers, whole, table, k);
         if found < states {
             return Some((k * states + found) as u64);
         }
@@ -67,12 +72,14 @@ pub fn table_fault(offers: &Offers, table: &Grid) -> Option<u64>
 }
 
 /// The first number at which a table breaks a rule, or the number behind all of these where line 0 has more than `most` for the
-/// whole supply.
-pub fn table_test(offers: &Offers, table: &Grid, most: i128) -> Option<u64>
-    requires { IsTable (bidders_of offers.now.book.now) (states offers.now.book.now) table.now }
+/// whole supply. Where the offers skip a bidder, `whole` is the table of all bids, whose lines aren't tested again.
+pub fn table_test(offers: &Offers, whole: &Grid, table: &Grid, most: i128) -> Option<u64>
+    requires shape { IsTable (bidders_of offers.now.book.now) (states offers.now.book.now) whole.now }
+    requires whole { IsWhole offers.now whole.now }
+    requires table { IsTable (bidders_of offers.now.book.now) (states offers.now.book.now) table.now }
     ensures { IsFirstFailing (TestsTable offers.now table.now most) result }
 {
-    if let Some(place) = table_fault(offers, table) {
+    if let Some(place) = table_fault(offers, whole, table) {
         return Some(place);
     }
     let states = offers.book.supply().states();

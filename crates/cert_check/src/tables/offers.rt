@@ -1,25 +1,20 @@
 // The bids that a table is tested for.
-ghost use Rattle.std.specs.Prelude.{◌≡◌, ◌^◌, ◌<◌, ◌≤◌, length, pos, ◌-ℤ◌, ◌*ℤ◌, true, unsigned_abs};
-ghost use Rattle.auction_model.specs.Book.{bids_of, net_of};
-ghost use Rattle.cert_laws.specs.Tests.{bidders_of, lowered_net};
-ghost use Rattle.cert_text.specs.CertValues.{cert_value};
-ghost use Rattle.cert_check.specs.LoweredWorths.{CanLower, gain_of};
-ghost use Rattle.cert_check.specs.Tested.{IsTested};
+ghost use Rattle.std.specs.Prelude.{◌≡◌, ◌^◌, ◌<◌, ◌≤◌, length, ◌-ℤ◌, ◌*ℤ◌, unsigned_abs};
+ghost use Rattle.auction_model.specs.Book.{bids_of};
+ghost use Rattle.cert_laws.specs.Tests.{bidders_of};
+ghost use Rattle.cert_check.specs.Worths.{HasSmallWorths};
 
 use bid_book::BidBook;
-use cert_text::Certificate;
 
-/// The bids that a table is tested for. Bidder `skip` has none, and 0 skips nobody. A bid is worth its net amount, or, where
-/// worths are lowered, the denominator times that, less what its bidder gains at the payments. Where a bidder is skipped the
-/// certificate's own table was tested.
+/// The bids that a table is tested for. Bidder `skip` has none, and 0 skips nobody. A bid is worth the denominator times its net
+/// amount, less what its bidder gains: its net amount where the denominator is 1 and nobody gains.
 #[derive(Drop)]
 pub struct Offers<'a> {
     pub book: &'a BidBook,
-    pub cert: &'a Certificate,
     pub skip: u16,
-    pub lowered: bool,
-    pub ghost lower: { lowered ≡ true → CanLower book.now (cert_value cert.now) },
-    pub ghost tested: { 0 < skip → IsTested book.now cert.now },
+    pub den: i128,
+    pub gains: &'a [i128],
+    pub ghost sizes: { HasSmallWorths book.now den gains.now },
 }
 
 impl<'a> Offers<'a> {
@@ -42,11 +37,8 @@ impl<'a> Offers<'a> {
         ensures worth { result ≡ worth_of self.now j i }
         ensures size { unsigned_abs result < 2 ^ 122 }
     {
-        if self.lowered {
-            lowered_worth(self.book, self.cert, j, i)
-        } else {
-            net_worth(self.book, j, i)
-        }
+        let _bidders = self.book.bidders();
+        scaled_less(self.den, self.book.net(j, i), self.gains[j as usize - 1])
     }
 
     /// Whether an earlier number of bidder `j`, or none, takes no more than its bid `i` and is worth at least as much. On a line
@@ -57,53 +49,19 @@ impl<'a> Offers<'a> {
         ensures { IsTrue result → IsNeedless self.now j i }
     {
         let _bidders = self.book.bidders();
-        if self.cert.den >= 0 && self.book.better(j, i) != 0 {
+        if self.den >= 0 && self.book.better(j, i) != 0 {
             return true;
         }
         self.worth(j, i) <= 0
     }
 }
 
-fn net_worth(book: &BidBook, j: u16, i: u16) -> i128
-    requires bidder { (0 < j) × (j ≤ bidders_of book.now) }
-    requires bid { (0 < i) × (i ≤ length (bids_of book.now j)) }
-    ensures worth { result ≡ net_of book.now j i }
-    ensures size { unsigned_abs result < 2 ^ 122 }
-{
-    let _bidders = book.bidders();
-    book.net(j, i)
-}
-
-fn lowered_worth(book: &BidBook, cert: &Certificate, j: u16, i: u16) -> i128
-    requires bidder { (0 < j) × (j ≤ bidders_of book.now) }
-    requires bid { (0 < i) × (i ≤ length (bids_of book.now j)) }
-    requires lower { CanLower book.now (cert_value cert.now) }
-    ensures worth { result ≡ lowered_net book.now (cert_value cert.now) j i }
-    ensures size { unsigned_abs result < 2 ^ 122 }
-{
-    let gain = gain(book, cert, j);
-    scaled_less(cert.den, book.net(j, i), gain)
-}
-
-/// What bidder `j` gains at the payments, times the denominator.
-fn gain(book: &BidBook, cert: &Certificate, j: u16) -> i128
-    requires bidder { (0 < j) × (j ≤ bidders_of book.now) }
-    requires lower { CanLower book.now (cert_value cert.now) }
-    ensures gain { result ≡ gain_of book.now (cert_value cert.now) j }
-    ensures size { unsigned_abs result < 2 ^ 121 }
-{
-    let number = cert.choice.number(j);
-    if number == 0 {
-        return 0;
-    }
-    let paid = cert.pay.items();
-    scaled_less(cert.den, book.net(j, number), paid[j as usize - 1])
-}
-
-fn scaled_less(den: i128, net: i128, less: i128) -> i128
+/// `den * net - less`, which stays in the range.
+pub fn scaled_less(den: i128, net: i128, less: i128) -> i128
     requires product { unsigned_abs (den *ℤ net) < 2 ^ 120 }
     requires less { unsigned_abs less < 2 ^ 121 }
-    ensures { result ≡ (den *ℤ net) -ℤ less }
+    ensures value { result ≡ (den *ℤ net) -ℤ less }
+    ensures size { unsigned_abs result < 2 ^ 122 }
 {
     den * net - less
 }

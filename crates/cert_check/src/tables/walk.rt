@@ -3,7 +3,8 @@
 // category of which the package has some, the places are one run.
 ghost use Rattle.std.specs.Prelude.{◌≡◌, ◌↔◌, ℕ, ◌+◌, ◌^◌, ◌≤◌, ◌<◌, length, ◌+ℤ◌, ◌≤ℤ◌, unsigned_abs, IsTrue};
 ghost use Rattle.auction_model.specs.Place.{states_of, place_of, widths_of};
-ghost use Rattle.cert_check.specs.Faults.{at, FirstFault, CoversRun, CoversBlock};
+ghost use Rattle.cert_check.specs.Faults.{FirstFault, CoversRun, CoversBlock};
+ghost use Rattle.wide_num.specs.Sums.{nth};
 ghost use Rattle.cert_check.specs.Narrow.{IsSmall};
 
 use crate::tables::rule::LineRule;
@@ -32,7 +33,7 @@ fn covers_all(line: &[i64], below: &[i64], worth: i64) -> bool
     requires places { length below.now ≡ length line.now }
     requires worth { unsigned_abs worth ≤ 2 ^ 61 }
     requires sizes { IsSmall below.now }
-    ensures { IsTrue result → (s : ℕ) → s < length line.now → (worth +ℤ at below.now s) ≤ℤ at line.now s }
+    ensures { IsTrue result → (s : ℕ) → s < length line.now → (worth +ℤ nth below.now s) ≤ℤ nth line.now s }
 {
     let mut all = true;
     for i in 0..line.len() {

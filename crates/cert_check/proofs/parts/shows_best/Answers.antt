@@ -1,13 +1,33 @@
-use Rattle.std.proofs.Common.{◌∙◌, sym, rules}
+use Rattle.std.proofs.Common.{◌∙◌, sym, rules, arith, refl, replicate, pos, ◌+◌, ◌*◌}
 use Rattle.std.proofs.lemmas.Int.{to_z-of_z}
+use Rattle.auction_model.specs.Book.{menu_of, net_of}
+use Rattle.auction_model.specs.Menu.{without}
+use Rattle.cert_laws.specs.Tests.{bidders_of, states}
 use Rattle.cert_text.specs.Parts.{without_value}
+use Rattle.cert_check.specs.Worths.{worth_with}
 use Rattle.cert_check.proofs.PartLaws.{part-answer}
+use Rattle.cert_check.proofs.ValueLaws.{cert-kept}
+use Rattle.cert_check.proofs.Worths.{plain-worth, plain-small, table-same, all-obey}
 use mir.Val.{SFits, to_z, of_z}
 use mir.Syntax.{w128}
 use Rattle.cert_check.proofs.parts.shows_best.Goals as goal
+
+pub invariant_of-offers : goal.invariant_of-offers
+invariant_of-offers c = record { sizes = plain-small c.args.book.now (replicate 16 (pos 0)) 16 c.bidders-bidders.ensures.kept refl (omega (arith, c.bidders-bidders.ensures.bidders, c.bidders-bidders.ensures.most)) }
 
 pub returns : goal.returns
 returns c =
     let value_fits : SFits w128 c.value.result = search rules in
     part-answer c.args.book.now c.args.j (without_value c.args.part.now) (to_z w128 (of_z w128 c.value.result)) c.table_test.result c.is_none.result
-    (to_z-of_z w128 c.value.result value_fits ∙ c.value.ensures.value) (sym c.is_allowed.ensures ∙ c.if-not-is_allowed.false) (sym c.number.ensures ∙ c.if-number-ne0.false) c.is_none.ensures c.table_test.ensures
+    (to_z-of_z w128 c.value.result value_fits ∙ c.value.ensures.value) (sym c.is_allowed.ensures ∙ c.if-not-is_allowed.false) (sym c.number.ensures ∙ c.if-number-ne0.false) c.is_none.ensures
+    (table-same (without (menu_of c.args.book.now) c.args.j) (worth_with c.args.book.now (pos 1) (replicate 16 (pos 0))) (net_of c.args.book.now) c.args.book.now.supply c.args.part.now.table (to_z w128 (of_z w128 c.value.result)) c.table_test.result
+    (λ j i some inside. plain-worth c.args.book.now (replicate 16 (pos 0)) 16 refl j i) c.table_test.ensures)
+
+pub table_test-requires-clause-shape : goal.table_test-requires-clause-shape
+table_test-requires-clause-shape c = (cert-kept (bidders_of c.args.book.now) (states c.args.book.now) c.args.cert.now c.requires.tested.shape).table
+
+pub table_test-requires-clause-whole : goal.table_test-requires-clause-whole
+table_test-requires-clause-whole c = λ _.
+    all-obey (menu_of c.args.book.now) (net_of c.args.book.now) (worth_with c.args.book.now (pos 1) (replicate 16 (pos 0))) c.args.book.now.supply c.args.cert.now.table
+    (λ j i some inside. sym (plain-worth c.args.book.now (replicate 16 (pos 0)) 16 refl j i))
+    (λ k s le lt. (c.requires.tested.value (k * states c.args.book.now + s)).rules k s le lt refl)

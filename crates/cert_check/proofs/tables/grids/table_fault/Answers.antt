@@ -16,7 +16,7 @@ returns-then-found-states c =
     let low : c.rule_fault-found.result < states o.book.now = omega (arith, c.if-found-states.true, same) in
     let inside : c.loop-k.k ≤ bidders_of o.book.now = omega (arith, c.loop-k-test.true, c.bidders-k-end.ensures.bidders) in
     subst (λ (n : ℕ). IsFirstFailing (RulesAt o c.args.table.now) (Some (k * n + r))) (sym same)
-    (table-fails o c.args.table.now c.requires k r inside low (λ l s less. c.loop-k.invariant l s less) c.rule_fault-found.ensures)
+    (table-fails o c.args.table.now c.requires.table k r inside low (λ l s less. c.loop-k.invariant l s less) c.rule_fault-found.ensures)
 
 pub loop-k-preserved : goal.loop-k-preserved
 loop-k-preserved c = λ k s few.
@@ -27,5 +27,5 @@ loop-k-preserved c = λ k s few.
       | inl earlier ↦ c.loop-k.invariant k s earlier
       | inr here ↦
           let is : c.loop-k.k ≡ k = omega (arith, few, here) in
-          subst (λ (n : ℕ). ObeysIn o c.args.table.now n s) is (line-keeps o c.args.table.now c.requires c.loop-k.k c.rule_fault-found.result past c.rule_fault-found.ensures s)
+          subst (λ (n : ℕ). ObeysIn o c.args.table.now n s) is (line-keeps o c.args.table.now c.requires.table c.loop-k.k c.rule_fault-found.result past c.rule_fault-found.ensures s)
     ]

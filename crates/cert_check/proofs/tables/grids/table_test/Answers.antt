@@ -7,7 +7,7 @@ use Rattle.choices.specs.Lines.{width_of}
 use Rattle.cert_laws.specs.Tests.{bidders_of, states}
 use Rattle.cert_check.specs.LineTests.{TestsTable}
 use Rattle.cert_check.specs.Places.{IsFirstFailing}
-use Rattle.cert_check.proofs.TableLaws.{table-width, test-most}
+use Rattle.cert_check.proofs.TableLaws.{table-width, test-rule, test-most}
 use mir.Val.{SFits}
 use mir.Syntax.{w128}
 use Rattle.cert_check.proofs.tables.grids.table_test.Goals as goal
@@ -19,8 +19,11 @@ pub entry-requires-clause-place : goal.entry-requires-clause-place
 entry-requires-clause-place c =
     let book = c.args.offers.now.book.now in
     let same : c.states-states.result ≡ states book = c.states-states.ensures.states ∙ ap states_of c.supply.ensures.supply in
-    let width : width_of c.args.table.now ≡ states book = table-width (bidders_of book) (states book) c.args.table.now c.requires 0 (omega arith) in
+    let width : width_of c.args.table.now ≡ states book = table-width (bidders_of book) (states book) c.args.table.now c.requires.table 0 (omega arith) in
     omega (arith, same, width, states-positive book.supply)
+
+pub returns-in-Some : goal.returns-in-Some
+returns-in-Some c = test-rule c.args.offers.now c.args.table.now c.args.most c.in-Some.place c.in-Some.ensures
 
 pub returns-then-entry-most : goal.returns-then-entry-most
 returns-then-entry-most c =

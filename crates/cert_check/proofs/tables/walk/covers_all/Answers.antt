@@ -1,7 +1,7 @@
 use Rattle.std.proofs.Common.{rules, arith, ℕ, ◌+ℤ◌, ◌≤ℤ◌, get_or, pos, subst, inl, inr}
 use Rattle.std.proofs.lemmas.Int.{to_z-of_z}
 use Rattle.std.proofs.lemmas.Bool.{and_parts, cases_lt}
-use Rattle.cert_check.specs.Faults.{at}
+use Rattle.wide_num.specs.Sums.{nth}
 use mir.Val.{SFits}
 use mir.Syntax.{w64}
 use Rattle.cert_check.proofs.tables.walk.covers_all.Goals as goal
@@ -16,10 +16,10 @@ loop-i-preserved c = λ h s lt.
     let here_fits : SFits w64 (get_or line k (pos 0)) = search rules in
     let rest_fits : SFits w64 (get_or below k (pos 0)) = search rules in
     let worth_is = to_z-of_z w64 c.args.worth worth_fits in
-    let own : (c.args.worth +ℤ at below k) ≤ℤ at line k =
+    let own : (c.args.worth +ℤ nth below k) ≤ℤ nth line k =
     rw (worth_is, to_z-of_z w64 (get_or line k (pos 0)) here_fits, to_z-of_z w64 (get_or below k (pos 0)) rest_fits) at (c.covers_narrow-all.ensures.0 both.1) in
     rw worth_is
     (elim (cases_lt s k) [
       | inl earlier ↦ rw worth_is at (c.loop-i.invariant both.0 s earlier)
-      | inr here ↦ subst (λ (n : ℕ). (c.args.worth +ℤ at below n) ≤ℤ at line n) (omega (arith, lt, here)) own
+      | inr here ↦ subst (λ (n : ℕ). (c.args.worth +ℤ nth below n) ≤ℤ nth line n) (omega (arith, lt, here)) own
     ])

@@ -8,8 +8,8 @@ use Rattle.cert_check.proofs.tables.offers.Offers.is_needless.Goals as goal
 pub returns-then-better-ne0 : goal.returns-then-better-ne0
 returns-then-better-ne0 c = λ _.
     let o = c.args.self.now in
-    let den_fits : SFits w128 o.cert.now.den = search rules in
+    let den_fits : SFits w128 o.den = search rules in
     let test = simp to_z-of_z at c.if-self-ge0.true in
-    let den : pos 0 ≤ℤ o.cert.now.den = grind (arith, ints, test) in
+    let den : pos 0 ≤ℤ o.den = grind (arith, ints, test) in
     let some : 0 < c.better.result = omega (arith, c.if-better-ne0.true) in
     needless-better o c.args.j c.args.i c.better.result c.bidders-bidders.ensures.kept c.requires.bid.1 some den (c.better.ensures some)

@@ -1,0 +1,34 @@
+// What the bidders gain at the payments.
+ghost use Rattle.std.specs.Prelude.{◌≡◌, ℕ, ◌<◌, ◌≤◌, length};
+ghost use Rattle.auction_model.specs.Lowered.{of_bidder};
+ghost use Rattle.cert_laws.specs.Tests.{bidders_of};
+ghost use Rattle.cert_check.specs.Worths.{CanLower, gain_of};
+
+use crate::tables::offers::scaled_less;
+use bid_book::BidBook;
+
+/// What bidder `j` gains at the payments, times the denominator: what its bid in the choice is worth less what it pays, and
+/// nothing where it loses.
+fn gain(book: &BidBook, den: i128, choice: &[u16], pay: &[i128], j: u16) -> i128
+    requires bidder { (0 < j) × (j ≤ bidders_of book.now) }
+    requires lower { CanLower book.now den choice.now pay.now }
+    ensures { result ≡ gain_of book.now den choice.now pay.now j }
+{
+    let number = choice[j as usize - 1];
+    if number == 0 {
+        return 0;
+    }
+    scaled_less(den, book.net(j, number), pay[j as usize - 1])
+}
+
+/// Writes what each bidder gains at the payments, times the denominator, bidder by bidder from the first number on.
+pub fn put_gains(book: &BidBook, den: i128, choice: &[u16], pay: &[i128], gains: &mut [i128])
+    requires lower { CanLower book.now den choice.now pay.now }
+    requires room { bidders_of book.now ≤ length gains.old }
+    ensures room { length gains.new ≡ length gains.old }
+    ensures gains { (j : ℕ) → 0 < j → j ≤ bidders_of book.now → of_bidder gains.new j ≡ gain_of book.now den choice.now pay.now j }
+{
+    for k in 0..book.bidders() {
+        gains[k] = gain(book, den, choice, pay, k as u16 + 1);
+    }
+}
