@@ -1,22 +1,38 @@
 -- What the first three tests say of the amounts of a book.
-use Rattle.std.specs.Prelude.{◌≡◌, ℕ, zero, suc, ◌-◌, ◌^◌, ◌≤◌, ◌<◌, Bool, true, false, cond, IsTrue, List, length, ℤ, pos, ◌+ℤ◌, ◌*ℤ◌, ◌≤ℤ◌, ◌<ℤ◌, unsigned_abs, refl}
-use Rattle.std.proofs.Common.{sym, subst, arith}
+use Rattle.std.specs.Prelude.{◌≡◌, ℕ, zero, suc, ◌^◌, ◌≤◌, ◌<◌, Bool, true, false, cond, IsTrue, List, length, ℤ, pos, ◌+ℤ◌, ◌-ℤ◌, ◌*ℤ◌, ◌≤ℤ◌, unsigned_abs, refl}
+use Rattle.std.proofs.Common.{inl, inr, sym, ◌∙◌, ap, subst, arith}
+use Rattle.std.proofs.lemmas.Bool.{cases_lt, cases_Bool, cond-true, cond-false}
 use Rattle.std.proofs.lemmas.Int.{ints}
-use Rattle.auction_model.specs.Book.{Book, bids_of, lots_of, net_of, menu_of, market_of}
+use Rattle.auction_model.specs.Book.{Book, bids_of, net_of, menu_of, market_of}
 use Rattle.auction_model.specs.Lawful.{IsMarket}
-use Rattle.auction_model.specs.Market.{number_of, value_of, uses}
-use Rattle.auction_model.specs.Package.{is_within}
+use Rattle.auction_model.specs.Lowered.{of_bidder}
+use Rattle.auction_model.specs.Market.{number_of, value_of, uses, worth_in}
 use Rattle.auction_model.specs.Menu.{is_known_after}
 use Rattle.auction_model.specs.Prices.{sum_over, everyone}
-use Rattle.auction_model.proofs.BookMarket.{market-of_book}
+use Rattle.auction_model.proofs.BookMarket.{market-of_book, fits-known}
 use Rattle.bid_book.specs.Kept.{IsBidBook}
 use Rattle.row_laws.proofs.Sizes.{worth-nonneg}
-use Rattle.cert_form.specs.Certificate.{CertValue, part_of}
-use Rattle.cert_laws.specs.Tests.{C4, bidders_of, won, vickrey_of}
-use Rattle.cert_laws.proofs.Winning.{known, value_is, most}
-use Rattle.cert_laws.proofs.Sizes.{net-most, won-sum, vickrey-most, vickrey-least}
-use Rattle.cert_check.specs.Head.{HeadHolds}
+use Rattle.row_laws.proofs.Sums.{over-is, choice-is}
+use Rattle.wide_num.specs.Sums.{total}
+use Rattle.cert_form.specs.Certificate.{CertValue, WithoutValue, part_of}
+use Rattle.cert_laws.specs.Tests.{IsPart, bidders_of}
+use Rattle.cert_laws.proofs.Winning.{allowed, value_is, most}
+use Rattle.cert_check.specs.Fields.{AreValuesWithout}
+use Rattle.cert_check.specs.Head.{HeadHolds, IsHead}
+use Rattle.cert_check.specs.declared.claim.Claim.{Claim}
+use Rattle.cert_check.proofs.MemberLaws.{known-number}
 use Rattle.cert_check.proofs.Products.{product-small}
+
+pub head-shown : (book : Book) (c : CertValue) → length c.choice ≡ bidders_of book → HeadHolds book c → IsHead book c.den c.value c.choice
+head-shown book c length_is h = record {
+  count = length_is;
+  den_least = (h.sizes 1).den refl;
+  value_least = (h.sizes 2).value refl;
+  small = (h.sizes 3).size refl;
+  allowed = allowed book c length_is h.choice h.table;
+  reached = value_is book c length_is h.choice h.table;
+  most = λ d t. (let high = most book c length_is h.choice h.table d t in let whole = value_is book c length_is h.choice h.table in omega (arith, ints, high, whole));
+}
 
 -- the sum over some bidders of numbers that aren't negative is between 0 and that over all
 pub some-sum : (s : ℕ → Bool) (f : ℕ → ℤ) (n : ℕ) → ((j : ℕ) → 0 < j → j ≤ n → pos 0 ≤ℤ f j) → (pos 0 ≤ℤ sum_over s f n) × (sum_over s f n ≤ℤ sum_over everyone f n)
@@ -29,70 +45,84 @@ some-sum s f (suc n) h =
     one true x y z p q r = (omega (arith, ints), omega (arith, ints))
     one false x y z p q r = (omega (arith, ints), omega (arith, ints))
 
-pub head-known : (book : Book) (c : CertValue) → length c.choice ≡ bidders_of book → HeadHolds book c → IsTrue (is_known_after (menu_of book) 0 c.choice)
-head-known book c length_is h = known book c length_is h.choice h.table
+-- none of them is above their sum
+one-most : (f : ℕ → ℤ) (n j : ℕ) → ((i : ℕ) → 0 < i → i ≤ n → pos 0 ≤ℤ f i) → 0 < j → j ≤ n → f j ≤ℤ sum_over everyone f n
+one-most f zero j h some le = absurd (omega (arith, some, le))
+one-most f (suc n) j h some le =
+    let own = h (suc n) (omega arith) (omega arith) in
+    let below = (some-sum everyone f n (λ i si li. h i si (omega (arith, li)))).0 in
+    elim (cases_lt j (suc n)) [
+      | inl earlier ↦ (let rest = one-most f n j (λ i si li. h i si (omega (arith, li))) some (omega (arith, earlier)) in up (f j) (sum_over everyone f n) (f (suc n)) rest own)
+      | inr here ↦ (let same : suc n ≡ j = omega (arith, le, here) in subst (λ (x : ℕ). f x ≤ℤ (sum_over everyone f n +ℤ f (suc n))) same (last (sum_over everyone f n) (f (suc n)) below))
+    ]
+  where
+    up : (x y z : ℤ) → x ≤ℤ y → pos 0 ≤ℤ z → x ≤ℤ (y +ℤ z)
+    up x y z a b = omega (arith, ints, a, b)
 
-module _ (book : Book) (c : CertValue) (length_is : length c.choice ≡ bidders_of book) (h : HeadHolds book c) (kept : IsBidBook book) where
-  pub den-least : pos 1 ≤ℤ c.den
-  den-least = (h.sizes 1).den refl
+    last : (y z : ℤ) → pos 0 ≤ℤ y → z ≤ℤ (y +ℤ z)
+    last y z a = omega (arith, ints, a)
 
-  pub value-least : pos 0 ≤ℤ c.value
-  value-least = (h.sizes 2).value refl
-
-  small : (c.den *ℤ (c.value +ℤ pos 1)) <ℤ pos (2 ^ 120)
-  small = (h.sizes 3).size refl
+module _ (a : Claim) where
+  pub claim-known : IsTrue (is_known_after (menu_of a.book.now) 0 a.choice.now)
+  claim-known = fits-known (menu_of a.book.now) a.book.now.supply a.choice.now a.shown.allowed
 
   -- a product of den and a number whose size is at most the value
-  pub times-small : (amount : ℤ) → unsigned_abs amount ≤ unsigned_abs c.value → unsigned_abs (c.den *ℤ amount) < 2 ^ 120
-  times-small amount low = product-small c.den c.value amount den-least value-least small low
+  pub times-small : (amount : ℤ) → unsigned_abs amount ≤ unsigned_abs a.value → unsigned_abs (a.den *ℤ amount) < 2 ^ 120
+  times-small amount low = product-small a.den a.value amount a.shown.den_least a.shown.value_least a.shown.small low
 
-  number-known : (j : ℕ) → 0 < j → j ≤ bidders_of book → number_of c.choice j ≤ length (bids_of book j)
-  number-known j some le = (h.choice j).known some le
+module _ (a : Claim) (kept : IsBidBook a.book.now) where
+  number-known : (j : ℕ) → 0 < j → j ≤ bidders_of a.book.now → number_of a.choice.now j ≤ length (bids_of a.book.now j)
+  number-known j some le = known-number (menu_of a.book.now) a.choice.now j (claim-known a) some le
 
-  pub won-least : (j : ℕ) → 0 < j → j ≤ bidders_of book → pos 0 ≤ℤ won book c j
-  won-least j some le = kept.not_negative j (number_of c.choice j) (number-known j some le)
+  pub won-least : (j : ℕ) → 0 < j → j ≤ bidders_of a.book.now → pos 0 ≤ℤ worth_in (market_of a.book.now) a.choice.now j
+  won-least j some le = kept.not_negative j (number_of a.choice.now j) (number-known j some le)
+
+  won-sum : sum_over everyone (worth_in (market_of a.book.now) a.choice.now) (bidders_of a.book.now) ≡ a.value
+  won-sum =
+      over-is everyone (worth_in (market_of a.book.now) a.choice.now) (bidders_of a.book.now)
+      ∙ sym (choice-is (net_of a.book.now) a.choice.now ∙ ap (λ n. total n (λ j. worth_in (market_of a.book.now) a.choice.now (suc j))) a.shown.count)
+      ∙ a.shown.reached
 
   -- no winner bids more than the value
-  pub won-most : (j : ℕ) → 0 < j → j ≤ bidders_of book → won book c j ≤ℤ c.value
-  won-most j some le =
-      let back : suc (j - 1) ≡ j = omega arith in
-      by (number_of c.choice j) (number-known j some le) back
+  pub won-most : (j : ℕ) → 0 < j → j ≤ bidders_of a.book.now → worth_in (market_of a.book.now) a.choice.now j ≤ℤ a.value
+  won-most j some le = subst (λ (z : ℤ). worth_in (market_of a.book.now) a.choice.now j ≤ℤ z) won-sum (one-most (worth_in (market_of a.book.now) a.choice.now) (bidders_of a.book.now) j won-least some le)
+
+  pub won-times : (j : ℕ) → 0 < j → j ≤ bidders_of a.book.now → unsigned_abs (a.den *ℤ worth_in (market_of a.book.now) a.choice.now j) < 2 ^ 120
+  won-times j some le = times-small a (worth_in (market_of a.book.now) a.choice.now j) (between _ _ (won-least j some le) (won-most j some le))
     where
-      by : (i : ℕ) → i ≤ length (bids_of book j) → suc (j - 1) ≡ j → net_of book j i ≤ℤ c.value
-      by zero known_i back = value-least
-      by (suc i) known_i back =
-          subst (λ (x : ℕ). net_of book x (suc i) ≤ℤ c.value) back
-          (net-most book c length_is h.choice h.table (j - 1) (suc i) (omega arith) (omega arith)
-          (subst (λ (x : ℕ). suc i ≤ length (bids_of book x)) (sym back) known_i)
-          (subst (λ (x : ℕ). IsTrue (is_within (lots_of book x (suc i)) book.supply)) (sym back) (kept.within j i (omega arith))))
+      between : (x v : ℤ) → pos 0 ≤ℤ x → x ≤ℤ v → unsigned_abs x ≤ unsigned_abs v
+      between x v p q = omega (arith, ints, p, q)
 
-  pub won-times : (j : ℕ) → 0 < j → j ≤ bidders_of book → unsigned_abs (c.den *ℤ won book c j) < 2 ^ 120
-  won-times j some le = let low = won-least j some le in let high = won-most j some le in times-small (won book c j) (omega (arith, ints, low, high, value-least))
-
-  market : IsMarket (market_of book)
-  market = let few = kept.bidders in market-of_book book (omega (arith, few)) kept.not_negative
+  market : IsMarket (market_of a.book.now)
+  market = let few = kept.bidders in market-of_book a.book.now (omega (arith, few)) kept.not_negative
 
   -- what an allowed choice counts
-  pub allowed-value : (d : List ℕ) → IsTrue ((market_of book).allowed d) → (pos 0 ≤ℤ value_of (market_of book) d) × (value_of (market_of book) d ≤ℤ c.value)
-  allowed-value d t =
-      let high = most book c length_is h.choice h.table d t in
-      let whole = value_is book c length_is h.choice h.table in
-      (worth-nonneg (market_of book) market d t, omega (arith, ints, high, whole))
-
-  pub part-value : ((place : ℕ) → C4 book c place) → (j : ℕ) → 0 < j → j ≤ bidders_of book → IsTrue (uses c.choice j)
-      → (pos 0 ≤ℤ value_of (market_of book) (part_of c.withouts j).choice) × (value_of (market_of book) (part_of c.withouts j).choice ≤ℤ c.value)
-  part-value h4 j some le wins = allowed-value (part_of c.withouts j).choice ((h4 j).part some le wins).allowed
+  pub allowed-value : (d : List ℕ) → IsTrue ((market_of a.book.now).allowed d) → (pos 0 ≤ℤ value_of (market_of a.book.now) d) × (value_of (market_of a.book.now) d ≤ℤ a.value)
+  allowed-value d t = (worth-nonneg (market_of a.book.now) market d t, a.shown.most d t)
 
   -- what the bids of some bidders count
-  pub some-won : (s : ℕ → Bool) → (pos 0 ≤ℤ sum_over s (won book c) (bidders_of book)) × (sum_over s (won book c) (bidders_of book) ≤ℤ c.value)
+  pub some-won : (s : ℕ → Bool) → (pos 0 ≤ℤ sum_over s (worth_in (market_of a.book.now) a.choice.now) (bidders_of a.book.now)) × (sum_over s (worth_in (market_of a.book.now) a.choice.now) (bidders_of a.book.now) ≤ℤ a.value)
   some-won s =
-      let part = some-sum s (won book c) (bidders_of book) won-least in
-      let whole = won-sum book c length_is h.choice h.table in
-      (part.0, omega (arith, ints, part.1, whole))
+      let part = some-sum s (worth_in (market_of a.book.now) a.choice.now) (bidders_of a.book.now) won-least in
+      (part.0, subst (λ (z : ℤ). sum_over s (worth_in (market_of a.book.now) a.choice.now) (bidders_of a.book.now) ≤ℤ z) won-sum part.1)
 
-  pub vickrey-times : ((place : ℕ) → C4 book c place) → (j : ℕ) → 0 < j → j ≤ bidders_of book → IsTrue (uses c.choice j) → unsigned_abs (c.den *ℤ vickrey_of book c j) < 2 ^ 120
-  vickrey-times h4 j some le wins =
-      let low = vickrey-least book c length_is h.choice h.table h4 j some le wins in
-      let high = vickrey-most book c length_is h.choice h.table h4 j some le wins in
-      let bid = won-most j some le in
-      times-small (vickrey_of book c j) (omega (arith, ints, low, high, bid, value-least))
+  -- a Vickrey price
+  pub vickrey-times : (without : ℤ) (j : ℕ) → pos 0 ≤ℤ without → without ≤ℤ a.value → 0 < j → j ≤ bidders_of a.book.now
+      → unsigned_abs (a.den *ℤ ((without -ℤ a.value) +ℤ worth_in (market_of a.book.now) a.choice.now j)) < 2 ^ 120
+  vickrey-times without j least most some le =
+      times-small a _ (between without a.value (worth_in (market_of a.book.now) a.choice.now j) least most (won-least j some le) (won-most j some le))
+    where
+      between : (x v w : ℤ) → pos 0 ≤ℤ x → x ≤ℤ v → pos 0 ≤ℤ w → w ≤ℤ v → unsigned_abs ((x -ℤ v) +ℤ w) ≤ unsigned_abs v
+      between x v w p q r s = omega (arith, ints, p, q, r, s)
+
+  -- so is the value of the choice without a bidder, and 0 for a loser
+  pub values-range : (withouts : List WithoutValue) (values : List ℤ) → ((j : ℕ) → 0 < j → j ≤ bidders_of a.book.now → IsTrue (uses a.choice.now j) → IsPart a.book.now j (part_of withouts j))
+      → AreValuesWithout a.book.now a.choice.now withouts values → (j : ℕ) → 0 < j → j ≤ bidders_of a.book.now → (pos 0 ≤ℤ of_bidder values j) × (of_bidder values j ≤ℤ a.value)
+  values-range withouts values parts are j some inside =
+      subst (λ (z : ℤ). (pos 0 ≤ℤ z) × (z ≤ℤ a.value)) (sym (are j some inside))
+      (elim (cases_Bool (uses a.choice.now j)) [
+        | inl wins ↦ subst (λ (z : ℤ). (pos 0 ≤ℤ z) × (z ≤ℤ a.value)) (sym (cond-true (uses a.choice.now j) (value_of (market_of a.book.now) (part_of withouts j).choice) (pos 0) wins))
+            (allowed-value (part_of withouts j).choice (parts j some inside wins).allowed)
+        | inr loses ↦ subst (λ (z : ℤ). (pos 0 ≤ℤ z) × (z ≤ℤ a.value)) (sym (cond-false (uses a.choice.now j) (value_of (market_of a.book.now) (part_of withouts j).choice) (pos 0) loses))
+            (omega (arith, ints), a.shown.value_least)
+      ])

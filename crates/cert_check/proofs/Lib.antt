@@ -8,6 +8,8 @@ pub mod PartLaws
 pub mod VerdictLaws
 pub mod Blocks
 pub mod Gains
+pub mod Written
+pub mod FieldLaws
 pub mod Worths
 pub mod GrowthLaws
 pub mod LineLaws

@@ -1,6 +1,6 @@
 -- What the tests ask at each place, and that they ask nothing elsewhere.
-use Rattle.std.specs.Prelude.{◌≡◌, ℕ, suc, ◌+◌, ◌≤◌, ◌<◌, ◌↔◌, Bool, IsTrue, length, slice_index_or, ℤ, pos, ◌-ℤ◌, ◌*ℤ◌, ◌≤ℤ◌, ◌<ℤ◌, ◌⊎◌}
-use Rattle.std.proofs.Common.{sym, ◌∙◌, subst, arith}
+use Rattle.std.specs.Prelude.{◌≡◌, ℕ, suc, ◌+◌, ◌≤◌, ◌<◌, ◌↔◌, Bool, IsTrue, length, slice_index_or, ℤ, pos, ◌+ℤ◌, ◌-ℤ◌, ◌*ℤ◌, ◌≤ℤ◌, ◌<ℤ◌, ◌⊎◌}
+use Rattle.std.proofs.Common.{sym, ◌∙◌, ap, subst, arith}
 use Rattle.std.proofs.lemmas.Bool.{and_parts, and_from, both_ways}
 use Rattle.auction_model.specs.Book.{Book, bids_of, menu_of}
 use Rattle.auction_model.specs.Lowered.{of_bidder}
@@ -58,14 +58,25 @@ module _ (book : Book) (c : CertValue) where
     λ h. test.1 (subst (IsTightRow book c) same (h.row some le)),
   )
 
-  pub sum-C7 : (place j : ℕ) (b : Bool) → place ≡ length c.rows + j → 0 < j → j ≤ bidders_of book → IsTrue (uses c.choice j)
-      → (IsTrue b ↔ (sum_holding c.rows j (λ row. row.first) (length c.rows) ≡ c.den)) → IsTrue b ↔ C7 book c place
-  sum-C7 place j b here some le wins test = (
+  pub sign-C7 : (place : ℕ) (row : RowValue) (b : Bool) → 0 < place → place ≤ length c.rows → row_of c.rows place ≡ row → (IsTrue b ↔ (pos 0 ≤ℤ row.first)) → IsTrue b ↔ C7 book c place
+  sign-C7 place row b some le same test = (
+    λ t. record {
+      sign = λ s l. subst (λ (r : RowValue). pos 0 ≤ℤ r.first) (sym same) (test.0 t);
+      columns = λ j s l e wins. absurd (omega (arith, e, le, s));
+    },
+    λ h. test.1 (subst (λ (r : RowValue). pos 0 ≤ℤ r.first) same (h.sign some le)),
+  )
+
+  pub sum-C7 : (place j : ℕ) (b : Bool) → place ≡ length c.rows + j → 0 < j → j ≤ bidders_of book
+      → (IsTrue b ↔ (IsTrue (uses c.choice j) → sum_holding c.rows j (λ row. row.first) (length c.rows) ≡ c.den)) → IsTrue b ↔ C7 book c place
+  sum-C7 place j b here some le test = (
     λ t. record {
       sign = λ s l. absurd (omega (arith, here, some));
-      columns = λ i si li e wi. let same : j ≡ i = omega (arith, here, e) in subst (λ (n : ℕ). sum_holding c.rows n (λ row. row.first) (length c.rows) ≡ c.den) same (test.0 t);
+      columns = λ i si li e.
+          let same : j ≡ i = omega (arith, here, e) in
+          subst (λ (n : ℕ). IsTrue (uses c.choice n) → sum_holding c.rows n (λ row. row.first) (length c.rows) ≡ c.den) same (test.0 t);
     },
-    λ h. test.1 (h.columns j some le here wins),
+    λ h. test.1 (h.columns j some le here),
   )
 
   pub sign-C8 : (w : ℕ → ℕ) (place : ℕ) (row : RowValue) (b : Bool) → 0 < place → place ≤ length c.rows → row_of c.rows place ≡ row → (IsTrue b ↔ ((pos 0 <ℤ row.first) ⊎ (pos 0 ≤ℤ row.second))) → IsTrue b ↔ C8 book w c place
@@ -77,14 +88,34 @@ module _ (book : Book) (c : CertValue) where
     λ h. test.1 (subst (λ (r : RowValue). (pos 0 <ℤ r.first) ⊎ (pos 0 ≤ℤ r.second)) same (h.sign some le)),
   )
 
-  pub sum-C8 : (w : ℕ → ℕ) (place j : ℕ) (b : Bool) → place ≡ length c.rows + j → 0 < j → j ≤ bidders_of book → IsTrue (uses c.choice j)
-      → (IsTrue b ↔ ((of_bidder c.pay j -ℤ (c.den *ℤ vickrey_of book c j)) ≡ pos (w j) *ℤ sum_holding c.rows j (λ row. row.second) (length c.rows))) → IsTrue b ↔ C8 book w c place
-  sum-C8 w place j b here some le wins test = (
+  pub sum-C8 : (w : ℕ → ℕ) (place j : ℕ) (b : Bool) → place ≡ length c.rows + j → 0 < j → j ≤ bidders_of book
+      → (IsTrue b ↔ (IsTrue (uses c.choice j) → (of_bidder c.pay j -ℤ (c.den *ℤ vickrey_of book c j)) ≡ pos (w j) *ℤ sum_holding c.rows j (λ row. row.second) (length c.rows))) → IsTrue b ↔ C8 book w c place
+  sum-C8 w place j b here some le test = (
     λ t. record {
       sign = λ s l. absurd (omega (arith, here, some));
-      columns = λ i si li e wi.
+      columns = λ i si li e.
           let same : j ≡ i = omega (arith, here, e) in
-          subst (λ (n : ℕ). (of_bidder c.pay n -ℤ (c.den *ℤ vickrey_of book c n)) ≡ pos (w n) *ℤ sum_holding c.rows n (λ row. row.second) (length c.rows)) same (test.0 t);
+          subst (λ (n : ℕ). IsTrue (uses c.choice n) → (of_bidder c.pay n -ℤ (c.den *ℤ vickrey_of book c n)) ≡ pos (w n) *ℤ sum_holding c.rows n (λ row. row.second) (length c.rows)) same (test.0 t);
     },
-    λ h. test.1 (h.columns j some le here wins),
+    λ h. test.1 (h.columns j some le here),
   )
+
+-- what is asked of a winner, by equal numbers
+pub nearest-same : (b u : Bool) (den value won k pay other_pay without other sum other_sum : ℤ) → pay ≡ other_pay → (IsTrue u → without ≡ other) → sum ≡ other_sum
+    → IsTrue b ↔ (IsTrue u → pay -ℤ (den *ℤ ((without -ℤ value) +ℤ won)) ≡ k *ℤ sum) → IsTrue b ↔ (IsTrue u → other_pay -ℤ (den *ℤ ((other -ℤ value) +ℤ won)) ≡ k *ℤ other_sum)
+nearest-same b u den value won k pay other_pay without other sum other_sum e f g h = (
+  λ t w. one w (h.0 t w),
+  λ all. h.1 (λ w. back w (all w)),
+)
+  where
+    left : IsTrue u → pay -ℤ (den *ℤ ((without -ℤ value) +ℤ won)) ≡ other_pay -ℤ (den *ℤ ((other -ℤ value) +ℤ won))
+    left w = ap (λ (z : ℤ). z -ℤ (den *ℤ ((without -ℤ value) +ℤ won))) e ∙ ap (λ (z : ℤ). other_pay -ℤ (den *ℤ ((z -ℤ value) +ℤ won))) (f w)
+
+    right : k *ℤ sum ≡ k *ℤ other_sum
+    right = ap (λ (z : ℤ). k *ℤ z) g
+
+    one : IsTrue u → pay -ℤ (den *ℤ ((without -ℤ value) +ℤ won)) ≡ k *ℤ sum → other_pay -ℤ (den *ℤ ((other -ℤ value) +ℤ won)) ≡ k *ℤ other_sum
+    one w q = sym (left w) ∙ q ∙ right
+
+    back : IsTrue u → other_pay -ℤ (den *ℤ ((other -ℤ value) +ℤ won)) ≡ k *ℤ other_sum → pay -ℤ (den *ℤ ((without -ℤ value) +ℤ won)) ≡ k *ℤ sum
+    back w q = left w ∙ q ∙ sym right

@@ -1,12 +1,13 @@
 -- The tests in their order, and the verdict.
-use Rattle.std.specs.Prelude.{◌≡◌, ℕ, ◌+◌, ◌<◌, Some, None, refl}
+use Rattle.std.specs.Prelude.{◌≡◌, ℕ, ◌+◌, ◌<◌, Option, Some, None, refl}
 use Rattle.std.proofs.Common.{inl, inr, sym, subst, arith}
 use Rattle.std.proofs.lemmas.Bool.{cases_lt}
 use Rattle.auction_model.specs.Book.{Book}
 use Rattle.cert_form.specs.Certificate.{CertValue}
-use Rattle.cert_laws.specs.Tests.{Asks, Holds, FailsFirst, C1, C2, C3, C4}
+use Rattle.cert_laws.specs.Tests.{Asks, Holds, FailsFirst, C1, C2, C3, C4, C5, C6, C7}
 use Rattle.cert_check.specs.Head.{HoldsUpTo, HeadHolds}
 use Rattle.cert_check.specs.Places.{IsFirstFailing}
+use Rattle.cert_check.proofs.PlaceTests.{failing-same}
 
 module _ (book : Book) (w : ℕ → ℕ) (c : CertValue) (t : ℕ) (before : HoldsUpTo book w c t) where
   pub held-C1 : 1 < t → (place : ℕ) → C1 c place
@@ -52,3 +53,20 @@ module _ (book : Book) (w : ℕ → ℕ) (c : CertValue) (t : ℕ) (before : Hol
     c8 = λ place. (before 8 place (omega arith)).7 refl;
     c9 = λ place. (before 9 place (omega arith)).8 refl;
   }
+
+-- the test of a number asks what that test asks
+module _ (book : Book) (w : ℕ → ℕ) (c : CertValue) (t : ℕ) (r : Option ℕ) where
+  pub asks-C1 : t ≡ 1 → IsFirstFailing (C1 c) r → IsFirstFailing (Asks book w c t) r
+  asks-C1 is f = failing-same (C1 c) (Asks book w c t) (λ p q. (λ _. q, λ e. absurd (omega (arith, is, e)), λ e. absurd (omega (arith, is, e)), λ e. absurd (omega (arith, is, e)), λ e. absurd (omega (arith, is, e)), λ e. absurd (omega (arith, is, e)), λ e. absurd (omega (arith, is, e)), λ e. absurd (omega (arith, is, e)), λ e. absurd (omega (arith, is, e)))) (λ p q. q.0 is) r f
+
+  pub asks-C2 : t ≡ 2 → IsFirstFailing (C2 book c) r → IsFirstFailing (Asks book w c t) r
+  asks-C2 is f = failing-same (C2 book c) (Asks book w c t) (λ p q. (λ e. absurd (omega (arith, is, e)), λ _. q, λ e. absurd (omega (arith, is, e)), λ e. absurd (omega (arith, is, e)), λ e. absurd (omega (arith, is, e)), λ e. absurd (omega (arith, is, e)), λ e. absurd (omega (arith, is, e)), λ e. absurd (omega (arith, is, e)), λ e. absurd (omega (arith, is, e)))) (λ p q. q.1 is) r f
+
+  pub asks-C5 : t ≡ 5 → IsFirstFailing (C5 book c) r → IsFirstFailing (Asks book w c t) r
+  asks-C5 is f = failing-same (C5 book c) (Asks book w c t) (λ p q. (λ e. absurd (omega (arith, is, e)), λ e. absurd (omega (arith, is, e)), λ e. absurd (omega (arith, is, e)), λ e. absurd (omega (arith, is, e)), λ _. q, λ e. absurd (omega (arith, is, e)), λ e. absurd (omega (arith, is, e)), λ e. absurd (omega (arith, is, e)), λ e. absurd (omega (arith, is, e)))) (λ p q. q.4 is) r f
+
+  pub asks-C6 : t ≡ 6 → IsFirstFailing (C6 book c) r → IsFirstFailing (Asks book w c t) r
+  asks-C6 is f = failing-same (C6 book c) (Asks book w c t) (λ p q. (λ e. absurd (omega (arith, is, e)), λ e. absurd (omega (arith, is, e)), λ e. absurd (omega (arith, is, e)), λ e. absurd (omega (arith, is, e)), λ e. absurd (omega (arith, is, e)), λ _. q, λ e. absurd (omega (arith, is, e)), λ e. absurd (omega (arith, is, e)), λ e. absurd (omega (arith, is, e)))) (λ p q. q.5 is) r f
+
+  pub asks-C7 : t ≡ 7 → IsFirstFailing (C7 book c) r → IsFirstFailing (Asks book w c t) r
+  asks-C7 is f = failing-same (C7 book c) (Asks book w c t) (λ p q. (λ e. absurd (omega (arith, is, e)), λ e. absurd (omega (arith, is, e)), λ e. absurd (omega (arith, is, e)), λ e. absurd (omega (arith, is, e)), λ e. absurd (omega (arith, is, e)), λ e. absurd (omega (arith, is, e)), λ _. q, λ e. absurd (omega (arith, is, e)), λ e. absurd (omega (arith, is, e)))) (λ p q. q.6 is) r f

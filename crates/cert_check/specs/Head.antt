@@ -1,8 +1,9 @@
 -- What the tests before one give it.
-use Rattle.std.specs.Prelude.{ℕ, ◌<◌}
-use Rattle.auction_model.specs.Book.{Book}
+use Rattle.std.specs.Prelude.{◌≡◌, ℕ, ◌<◌, ◌^◌, IsTrue, List, length, ℤ, pos, ◌+ℤ◌, ◌*ℤ◌, ◌≤ℤ◌, ◌<ℤ◌}
+use Rattle.auction_model.specs.Book.{Book, market_of}
+use Rattle.auction_model.specs.Market.{value_of}
 use Rattle.cert_form.specs.Certificate.{CertValue}
-use Rattle.cert_laws.specs.Tests.{Asks, C1, C2, C3}
+use Rattle.cert_laws.specs.Tests.{Asks, C1, C2, C3, bidders_of}
 
 -- it holds at all places before this one
 abbrev pub HoldsBefore : (ℕ → Type 0) → ℕ → Type 0
@@ -17,3 +18,13 @@ pub record HeadHolds (book : Book) (c : CertValue) : Type 0 where
   pub sizes : (place : ℕ) → C1 c place
   pub choice : (place : ℕ) → C2 book c place
   pub table : (place : ℕ) → C3 book c place
+
+-- what they show: the choice is allowed and has the value, no allowed choice has a greater one, and den times the value is in the range
+pub record IsHead (book : Book) (den value : ℤ) (choice : List ℕ) : Type 0 where
+  pub count : length choice ≡ bidders_of book
+  pub den_least : pos 1 ≤ℤ den
+  pub value_least : pos 0 ≤ℤ value
+  pub small : (den *ℤ (value +ℤ pos 1)) <ℤ pos (2 ^ 120)
+  pub allowed : IsTrue ((market_of book).allowed choice)
+  pub reached : value_of (market_of book) choice ≡ value
+  pub most : (d : List ℕ) → IsTrue ((market_of book).allowed d) → value_of (market_of book) d ≤ℤ value

@@ -1,5 +1,6 @@
 pub mod Places
 pub mod Head
+pub mod Fields
 pub mod Multipliers
 pub mod Verdicts
 pub mod Faults

@@ -1,21 +1,23 @@
 // The tests in their order.
 ghost use Rattle.std.specs.Prelude.{◌≡◌, ◌<◌, ◌≤◌, ℕ};
+ghost use Rattle.cert_check.specs.Fields.{IsOf};
 ghost use Rattle.cert_check.specs.Head.{HoldsUpTo};
 ghost use Rattle.cert_check.specs.Places.{IsFirstFailing};
 ghost use Rattle.cert_check.specs.Verdicts.{IsVerdict};
 ghost use Rattle.auction_model.specs.Prices.{AreWeights, weight_of};
 ghost use Rattle.cert_laws.specs.Sound.{IsSound};
-ghost use Rattle.cert_laws.specs.Tests.{Asks, bidders_of, states};
+ghost use Rattle.cert_laws.specs.Tests.{Asks, C4, C8, bidders_of, states};
 ghost use Rattle.cert_text.specs.CertValues.{IsFor, cert_value};
 
 use crate::Verdict;
 use crate::choice::choice_test;
+use crate::claim::Claim;
 use crate::multipliers::{first_test, second_test};
-use crate::parts::parts_test;
+use crate::parts::{parts_test, put_values};
 use crate::payments::payments_test;
 use crate::rows::rows_test;
 use crate::sizes::sizes_test;
-use crate::tables::{lowered_test, value_test};
+use crate::tables::{BIDDER_ROOM, lowered_test, value_test};
 use bid_book::BidBook;
 use cert_laws::sound_yes;
 use cert_text::Certificate;
@@ -49,14 +51,64 @@ fn first_failing(book: &BidBook, cert: &Certificate, weights: &[u32], test: u8) 
     ensures { IsFirstFailing (Asks book.now (weight_of weights.now) (cert_value cert.now) test) result }
 {
     match test {
-        1 => sizes_test(cert),
-        2 => choice_test(book, cert),
+        1 => sizes_test(cert.den, cert.value),
+        2 => choice_test(book, cert.choice.numbers(), cert.value),
         3 => value_test(book, cert),
         4 => parts_test(book, cert),
-        5 => payments_test(book, cert),
-        6 => rows_test(book, cert),
-        7 => first_test(book, cert),
-        8 => second_test(book, cert, weights),
-        _ => lowered_test(book, cert),
+        9 => lowered_test(book, cert),
+        _ => claim_failing(book, cert, weights, test),
     }
+}
+
+/// The same for a test of 5 to 8, which need no table.
+fn claim_failing(book: &BidBook, cert: &Certificate, weights: &[u32], test: u8) -> Option<u64>
+    requires shape { IsFor (bidders_of book.now) (states book.now) cert.now }
+    requires weights { AreWeights (bidders_of book.now) weights.now }
+    requires test { (5 ≤ test) × (test ≤ 8) }
+    requires before { HoldsUpTo book.now (weight_of weights.now) (cert_value cert.now) test }
+    ensures { IsFirstFailing (Asks book.now (weight_of weights.now) (cert_value cert.now) test) result }
+{
+    let claim = Claim {
+        book,
+        den: cert.den,
+        value: cert.value,
+        choice: cert.choice.numbers(),
+    };
+    later_failing(&claim, cert, weights, test)
+}
+
+/// The same for the claim of the certificate.
+fn later_failing(claim: &Claim, cert: &Certificate, weights: &[u32], test: u8) -> Option<u64>
+    requires shape { IsFor (bidders_of claim.now.book.now) (states claim.now.book.now) cert.now }
+    requires claim { IsOf claim.now (cert_value cert.now) }
+    requires weights { AreWeights (bidders_of claim.now.book.now) weights.now }
+    requires test { (5 ≤ test) × (test ≤ 8) }
+    requires before { HoldsUpTo claim.now.book.now (weight_of weights.now) (cert_value cert.now) test }
+    ensures { IsFirstFailing (Asks claim.now.book.now (weight_of weights.now) (cert_value cert.now) test) result }
+{
+    let pay = cert.pay.items();
+    let rows = cert.rows.items();
+    match test {
+        5 => payments_test(claim, pay),
+        6 => rows_test(claim, pay, rows),
+        7 => first_test(claim, rows),
+        _ => nearest_failing(claim, cert, weights),
+    }
+}
+
+/// The first place at which C8 fails.
+fn nearest_failing(claim: &Claim, cert: &Certificate, weights: &[u32]) -> Option<u64>
+    requires shape { IsFor (bidders_of claim.now.book.now) (states claim.now.book.now) cert.now }
+    requires claim { IsOf claim.now (cert_value cert.now) }
+    requires parts { (place : ℕ) → C4 claim.now.book.now (cert_value cert.now) place }
+    requires weights { AreWeights (bidders_of claim.now.book.now) weights.now }
+    ensures { IsFirstFailing (C8 claim.now.book.now (weight_of weights.now) (cert_value cert.now)) result }
+{
+    let _bidders = claim.book.bidders();
+    let pay = cert.pay.items();
+    let parts = cert.withouts.items();
+    let rows = cert.rows.items();
+    let mut values = [0i128; BIDDER_ROOM];
+    put_values(claim, parts, &mut values);
+    second_test(claim, pay, &values, rows, weights)
 }

@@ -3,6 +3,8 @@
 
 mod checking;
 mod choice;
+mod claim;
+mod judging;
 mod multipliers;
 mod parts;
 mod payments;

@@ -1,21 +1,23 @@
 // The parts of a certificate without a winner.
 ghost use Rattle.std.specs.Prelude.{◌≡◌, ◌↔◌, ℕ, ◌<◌, ◌≤◌, length, map, IsTrue};
 ghost use Rattle.auction_model.specs.Book.{market_of};
+ghost use Rattle.auction_model.specs.Market.{uses, value_of};
 ghost use Rattle.cert_form.specs.Certificate.{part_of};
 ghost use Rattle.cert_form.specs.CertText.{IsTable};
 ghost use Rattle.cert_laws.specs.Tests.{bidders_of, states, IsPart, C4};
 ghost use Rattle.cert_text.specs.Parts.{without_value};
 ghost use Rattle.cert_text.specs.CertValues.{cert_value};
+ghost use Rattle.cert_check.specs.Fields.{AreValuesWithout, worth_without};
 ghost use Rattle.cert_check.specs.Places.{IsFirstFailing};
 ghost use Rattle.cert_check.specs.Tested.{IsTested};
 
-use crate::choice::is_allowed;
-use crate::tables::MOST_GAINS;
+use crate::claim::Claim;
+use crate::judging::{is_allowed_without, value};
+use crate::tables::BIDDER_ROOM;
 use crate::tables::grids::table_test;
 use crate::tables::offers::Offers;
 use bid_book::BidBook;
 use cert_text::{Certificate, WithoutPart};
-use choices::value;
 
 /// Whether a part shows the best choice without bidder `j`.
 fn shows_best(book: &BidBook, cert: &Certificate, part: &WithoutPart, j: u16) -> bool
@@ -26,17 +28,19 @@ fn shows_best(book: &BidBook, cert: &Certificate, part: &WithoutPart, j: u16) ->
     ensures { IsTrue result ↔ IsPart book.now j (without_value part.now) }
 {
     let _bidders = book.bidders();
-    if part.choice.number(j) != 0 || !is_allowed(book, &part.choice) {
+    let choice = part.choice.numbers();
+    if !is_allowed_without(book, choice, j) {
         return false;
     }
-    let gains = [0i128; MOST_GAINS];
+    let most = value(book, choice);
+    let gains = [0i128; BIDDER_ROOM];
     let offers = Offers {
         book,
         skip: j,
         den: 1,
         gains: &gains,
     };
-    table_test(&offers, &cert.table, &part.table, value(book, &part.choice)).is_none()
+    table_test(&offers, &cert.table, &part.table, most).is_none()
 }
 
 /// Whether the part without bidder `j` shows the best choice without it.
@@ -66,4 +70,41 @@ pub(crate) fn parts_test(book: &BidBook, cert: &Certificate) -> Option<u64>
         }
     }
     None
+}
+
+/// Writes the value of the choice without each winner, bidder by bidder from the first number on, and 0 for a loser.
+pub(crate) fn put_values(claim: &Claim, parts: &[WithoutPart], values: &mut [i128])
+    requires parts { (j : ℕ) → 0 < j → j ≤ bidders_of claim.now.book.now → IsTrue (uses claim.now.choice.now j) → IsPart claim.now.book.now j (part_of (map without_value parts.now) j) }
+    requires room { bidders_of claim.now.book.now ≤ length values.old }
+    ensures room { length values.new ≡ length values.old }
+    ensures values { AreValuesWithout claim.now.book.now claim.now.choice.now (map without_value parts.now) values.new }
+{
+    for k in 0..claim.book.bidders() {
+        values[k] = part_value(claim, parts, k as u16 + 1);
+    }
+}
+
+/// The value of the choice without bidder `j`, and 0 where it loses.
+fn part_value(claim: &Claim, parts: &[WithoutPart], j: u16) -> i128
+    requires parts { (i : ℕ) → 0 < i → i ≤ bidders_of claim.now.book.now → IsTrue (uses claim.now.choice.now i) → IsPart claim.now.book.now i (part_of (map without_value parts.now) i) }
+    requires bidder { (0 < j) × (j ≤ bidders_of claim.now.book.now) }
+    ensures { result ≡ worth_without claim.now.book.now claim.now.choice.now (map without_value parts.now) j }
+{
+    if claim.number(j) == 0 {
+        return 0;
+    }
+    found_value(claim.book, parts, j)
+}
+
+/// The value of the choice of the part without winner `j`.
+fn found_value(book: &BidBook, parts: &[WithoutPart], j: u16) -> i128
+    requires { IsPart book.now j (part_of (map without_value parts.now) j) }
+    ensures { result ≡ value_of (market_of book.now) (part_of (map without_value parts.now) j).choice }
+{
+    for part in parts {
+        if part.winner == j {
+            return value(book, part.choice.numbers());
+        }
+    }
+    0
 }

@@ -1,39 +1,39 @@
 // C5: the payments.
-ghost use Rattle.std.specs.Prelude.{IsTrue, ◌<◌, ◌≤◌, ◌↔◌};
-ghost use Rattle.cert_check.specs.Head.{HeadHolds};
+ghost use Rattle.std.specs.Prelude.{IsTrue, length, [], ◌≡◌, ◌<◌, ◌≤◌, ◌↔◌};
+ghost use Rattle.cert_check.specs.Fields.{IsOf, cert_with};
 ghost use Rattle.cert_check.specs.Places.{IsFirstFailing};
-ghost use Rattle.cert_laws.specs.Tests.{C5, bidders_of, states};
-ghost use Rattle.cert_text.specs.CertValues.{IsFor, cert_value};
+ghost use Rattle.cert_form.specs.Certificate.{CertValue};
+ghost use Rattle.cert_laws.specs.Tests.{C5, bidders_of};
 
+use crate::claim::Claim;
 use crate::sums::amounts::{is_between, times, won};
-use bid_book::BidBook;
-use cert_text::Certificate;
 
-/// The first place at which C5 fails.
-pub(crate) fn payments_test(book: &BidBook, cert: &Certificate) -> Option<u64>
-    requires shape { IsFor (bidders_of book.now) (states book.now) cert.now }
-    requires head { HeadHolds book.now (cert_value cert.now) }
-    ensures { IsFirstFailing (C5 book.now (cert_value cert.now)) result }
+/// The first place at which C5 fails of a certificate with these payments.
+pub(crate) fn payments_test(claim: &Claim, pay: &[i128]) -> Option<u64>
+    requires count { length pay.now ≡ bidders_of claim.now.book.now }
+    ensures { (c : CertValue) → IsOf claim.now c → c.pay ≡ pay.now → IsFirstFailing (C5 claim.now.book.now c) result }
 {
-    for j in 1..book.bidders() as u16 + 1 {
-        if !payment_holds(book, cert, j) {
-            return Some(u64::from(j));
+    for j in 1..claim.book.bidders() as u16 + 1 {
+        if !payment_holds(claim, pay, j) {
+            return Some(j as u64);
         }
     }
     None
 }
 
 /// Whether a bidder pays no more than it bids, and nothing where it loses.
-fn payment_holds(book: &BidBook, cert: &Certificate, j: u16) -> bool
-    requires shape { IsFor (bidders_of book.now) (states book.now) cert.now }
-    requires head { HeadHolds book.now (cert_value cert.now) }
-    requires bidder { (0 < j) × (j ≤ bidders_of book.now) }
-    ensures { IsTrue result ↔ C5 book.now (cert_value cert.now) j }
+fn payment_holds(claim: &Claim, pay: &[i128], j: u16) -> bool
+    requires count { length pay.now ≡ bidders_of claim.now.book.now }
+    requires bidder { (0 < j) × (j ≤ bidders_of claim.now.book.now) }
+    ensures { IsTrue result ↔ C5 claim.now.book.now (cert_with claim.now [] pay.now []) j }
 {
-    let payments = cert.pay.items();
-    let payment = payments[j as usize - 1];
-    if cert.choice.number(j) == 0 {
+    let payment = pay[j as usize - 1];
+    if claim.number(j) == 0 {
         return payment == 0;
     }
-    is_between(0, payment, times(cert.den, won(book, &cert.choice, j)))
+    is_between(
+        0,
+        payment,
+        times(claim.den, won(claim.book, claim.choice, j)),
+    )
 }

@@ -1,22 +1,20 @@
 // C1: the denominator and the value.
-ghost use Rattle.std.specs.Prelude.{IsTrue, pos, ◌*ℤ◌, ◌+ℤ◌, ◌<ℤ◌, ◌^◌, ◌≤ℤ◌, ◌↔◌};
+ghost use Rattle.std.specs.Prelude.{IsTrue, [], pos, ◌*ℤ◌, ◌+ℤ◌, ◌<ℤ◌, ◌^◌, ◌≤ℤ◌, ◌↔◌};
 ghost use Rattle.cert_check.specs.Places.{IsFirstFailing};
 ghost use Rattle.cert_laws.specs.Tests.{C1};
-ghost use Rattle.cert_text.specs.CertValues.{cert_value};
+ghost use Rattle.cert_check.specs.Fields.{cert_of};
 
-use cert_text::Certificate;
-
-/// The first place at which C1 fails.
-pub(crate) fn sizes_test(cert: &Certificate) -> Option<u64>
-    ensures { IsFirstFailing (C1 (cert_value cert.now)) result }
+/// The first place at which C1 fails of a certificate with this denominator and this value.
+pub(crate) fn sizes_test(den: i128, value: i128) -> Option<u64>
+    ensures { IsFirstFailing (C1 (cert_of den value [] [] [] [])) result }
 {
-    if cert.den < 1 {
+    if den < 1 {
         return Some(1);
     }
-    if cert.value < 0 {
+    if value < 0 {
         return Some(2);
     }
-    if !is_small(cert.den, cert.value) {
+    if !is_small(den, value) {
         return Some(3);
     }
     None

@@ -26,7 +26,7 @@ use cert_text::Certificate;
 use limits::MOST_BIDDERS;
 
 /// Room for a number of each bidder.
-pub(crate) const MOST_GAINS: usize = MOST_BIDDERS as usize;
+pub(crate) const BIDDER_ROOM: usize = MOST_BIDDERS as usize;
 
 /// The first place at which the table of net amounts doesn't show the choice to be the winning one, once it is known, fits and
 /// has the value. With `S` states and `B` bidders, `k * S + s` is the place of line `k` at place `s` of the supply, `(B + 1) * S`
@@ -37,7 +37,7 @@ pub(crate) fn value_test(book: &BidBook, cert: &Certificate) -> Option<u64>
     ensures { IsFirstFailing (C3 book.now (cert_value cert.now)) result }
 {
     let bidders = book.bidders();
-    let gains = [0i128; MOST_GAINS];
+    let gains = [0i128; BIDDER_ROOM];
     let offers = Offers {
         book,
         skip: 0,
@@ -63,7 +63,7 @@ pub(crate) fn lowered_test(book: &BidBook, cert: &Certificate) -> Option<u64>
 {
     let _bidders = book.bidders();
     let paid = sum_paid(cert.pay.items());
-    let mut gains = [0i128; MOST_GAINS];
+    let mut gains = [0i128; BIDDER_ROOM];
     put_gains(
         book,
         cert.den,

@@ -8,10 +8,10 @@ ghost use Rattle.cert_laws.specs.Tests.{bidders_of};
 ghost use Rattle.limits.specs.declared.TheConstants.{MOST_AMOUNT};
 
 use bid_book::BidBook;
-use choices::Choice;
+use choices::worth;
 
 /// The net amount of the bid that the choice gives to bidder `j`, and 0 for a loser.
-pub(crate) fn won(book: &BidBook, choice: &Choice, j: u16) -> i128
+pub(crate) fn won(book: &BidBook, choice: &[u16], j: u16) -> i128
     requires known { IsTrue (is_known_after (menu_of book.now) 0 choice.now) }
     requires bidder { (0 < j) × (j ≤ bidders_of book.now) }
     ensures won { result ≡ worth_in (market_of book.now) choice.now j }
@@ -20,8 +20,13 @@ pub(crate) fn won(book: &BidBook, choice: &Choice, j: u16) -> i128
     ensures kept { IsBidBook book.now }
 {
     let _bidders = book.bidders();
-    let number = choice.number(j);
-    if number == 0 { 0 } else { book.net(j, number) }
+    worth(book, j, choice[j as usize - 1])
+}
+
+pub(crate) fn is_equal(amount: i128, other: i128) -> bool
+    ensures { IsTrue result ↔ (amount ≡ other) }
+{
+    amount == other
 }
 
 /// A product that stays in the range.

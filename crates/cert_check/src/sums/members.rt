@@ -4,7 +4,7 @@ ghost use Rattle.auction_model.specs.Market.{number_of, uses};
 ghost use Rattle.cert_form.specs.CertText.{AreMembers};
 ghost use Rattle.cert_form.specs.Certificate.{is_member};
 
-use choices::Choice;
+use crate::judging::number;
 
 pub(crate) fn is_among(members: &[u16], j: u16) -> bool
     ensures { result ≡ is_member members.now j }
@@ -18,12 +18,12 @@ pub(crate) fn is_among(members: &[u16], j: u16) -> bool
 }
 
 /// Whether the choice uses all members.
-pub(crate) fn uses_all(choice: &Choice, members: &[u16]) -> bool
+pub(crate) fn uses_all(choice: &[u16], members: &[u16]) -> bool
     requires { AreMembers (length choice.now) 0 members.now }
     ensures { IsTrue result ↔ ((j : ℕ) → IsTrue (is_member members.now j) → IsTrue (uses choice.now j)) }
 {
     for member in members {
-        if choice.number(*member) == 0 {
+        if number(choice, *member) == 0 {
             return false;
         }
     }
@@ -31,12 +31,12 @@ pub(crate) fn uses_all(choice: &Choice, members: &[u16]) -> bool
 }
 
 /// Whether the choice uses no member.
-pub(crate) fn uses_none(choice: &Choice, members: &[u16]) -> bool
+pub(crate) fn uses_none(choice: &[u16], members: &[u16]) -> bool
     requires { AreMembers (length choice.now) 0 members.now }
     ensures { IsTrue result ↔ ((j : ℕ) → IsTrue (is_member members.now j) → number_of choice.now j ≡ 0) }
 {
     for member in members {
-        if choice.number(*member) != 0 {
+        if number(choice, *member) != 0 {
             return false;
         }
     }

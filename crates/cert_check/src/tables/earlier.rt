@@ -9,11 +9,11 @@ ghost use Rattle.cert_laws.specs.Tests.{bidders_of, states};
 ghost use Rattle.cert_text.specs.CertValues.{cert_value};
 ghost use Rattle.cert_check.specs.Places.{IsFirstFailing};
 ghost use Rattle.cert_check.specs.EarlierBids.{StaysBelow, AllStayBelow, NoneEarlier};
-ghost use Rattle.limits.specs.declared.TheConstants.{MOST_AMOUNT};
 
+use crate::judging::number;
 use bid_book::BidBook;
 use cert_text::Certificate;
-use choices::{Choice, place_after};
+use choices::{place_after, worth};
 
 /// Whether bid `i` of bidder `j`, where it fits what the place `rest` leaves, stays below `bound` with the line's entry for what
 /// is left then.
@@ -41,14 +41,14 @@ fn is_below(net: i128, entry: i128, bound: i128) -> bool
 }
 
 /// How many bids of bidder `j` come before its number in the choice.
-fn bids_before(book: &BidBook, choice: &Choice, j: u16) -> u16
+fn bids_before(book: &BidBook, choice: &[u16], j: u16) -> u16
     requires choice { length choice.now ≡ bidders_of book.now }
     requires bidder { (0 < j) × (j ≤ bidders_of book.now) }
     requires number { number_of choice.now j ≤ length (bids_of book.now j) }
     ensures most { result ≤ length (bids_of book.now j) }
     ensures before { (i : ℕ) → i ≤ length (bids_of book.now j) → IsTrue (is_number_before i (number_of choice.now j)) ↔ ((0 < i) × (i ≤ result)) }
 {
-    let number = choice.number(j);
+    let number = number(choice, j);
     if number == 0 {
         book.bids(j)
     } else {
@@ -59,7 +59,7 @@ fn bids_before(book: &BidBook, choice: &Choice, j: u16) -> u16
 /// Whether all bids of bidder `j` that come before its number in the choice stay below `bound`.
 fn all_stay_below(
     book: &BidBook,
-    choice: &Choice,
+    choice: &[u16],
     j: u16,
     line: &[i128],
     rest: usize,
@@ -96,17 +96,6 @@ fn rest_after(book: &BidBook, j: u16, i: u16, rest: usize) -> usize
     }
 }
 
-/// The net amount of bid `i` of bidder `j`, and 0 for number 0.
-fn net_at(book: &BidBook, j: u16, i: u16) -> i128
-    requires bidder { (0 < j) × (j ≤ bidders_of book.now) }
-    requires bid { i ≤ length (bids_of book.now j) }
-    ensures net { result ≡ net_of book.now j i }
-    ensures size { unsigned_abs result ≤ MOST_AMOUNT }
-{
-    let _bidders = book.bidders();
-    if i == 0 { 0 } else { book.net(j, i) }
-}
-
 /// The first bidder that has a bid, before its number in the choice, that reaches the value with the bids of the choice before
 /// it and the table's entry for what is left then.
 pub fn earlier_fault(book: &BidBook, cert: &Certificate) -> Option<u64>
@@ -115,7 +104,7 @@ pub fn earlier_fault(book: &BidBook, cert: &Certificate) -> Option<u64>
     requires value { unsigned_abs cert.now.value < 2 ^ 120 }
     ensures { IsFirstFailing (NoneEarlier book.now (cert_value cert.now)) result }
 {
-    let choice = &cert.choice;
+    let choice = cert.choice.numbers();
     let mut rest = book.supply().states() - 1;
     let mut bound = cert.value;
     for k in 0..book.bidders() {
@@ -123,9 +112,9 @@ pub fn earlier_fault(book: &BidBook, cert: &Certificate) -> Option<u64>
         if !all_stay_below(book, choice, j, cert.table.line(k + 1), rest, bound) {
             return Some(j as u64);
         }
-        let number = choice.number(j);
+        let number = cert.choice.number(j);
         rest = rest_after(book, j, number, rest);
-        bound -= net_at(book, j, number);
+        bound -= worth(book, j, number);
     }
     None
 }

@@ -1,7 +1,8 @@
+use Rattle.std.proofs.Common.{pos, []}
+use Rattle.cert_check.specs.Fields.{cert_of}
 use Rattle.cert_check.specs.Head.{HoldsBefore}
 use Rattle.cert_laws.specs.Tests.{C2}
-use Rattle.cert_text.specs.CertValues.{cert_value}
 use Rattle.cert_check.proofs.choice.choice_test.Given as goal
 
 abbrev pub invariant-loop-place : goal.invariant-loop-place
-invariant-loop-place l = HoldsBefore (C2 l.book (cert_value l.cert)) l.place
+invariant-loop-place l = HoldsBefore (C2 l.book (cert_of (pos 0) l.claimed l.choice [] [] [])) l.place

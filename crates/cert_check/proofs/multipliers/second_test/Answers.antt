@@ -1,19 +1,33 @@
-use Rattle.std.proofs.Common.{◌≡◌, true, arith, rules}
-use Rattle.cert_laws.specs.Tests.{C8}
+use Rattle.std.proofs.Common.{◌≡◌, ℕ, List, map, true, Some, None, subst, arith, rules}
+use Rattle.std.proofs.lemmas.List.{length-map}
 use Rattle.auction_model.specs.Prices.{weight_of}
-use Rattle.cert_text.specs.CertValues.{cert_value}
-use Rattle.cert_check.proofs.PlaceTests.{before-next, holds-everywhere}
+use Rattle.cert_laws.specs.Tests.{C8}
+use Rattle.cert_text.specs.Parts.{row_value}
+use Rattle.cert_check.specs.Fields.{cert_with, AreValuesWithout}
+use Rattle.cert_check.proofs.FieldLaws.{second-of}
+use Rattle.cert_check.proofs.PlaceTests.{before-next, fails-here, holds-everywhere}
 use Rattle.cert_check.proofs.PlaceLaws.{past-C8}
-use Rattle.cert_check.proofs.SumLaws.{count-same}
 use Rattle.cert_check.proofs.multipliers.second_test.Goals as goal
 
 pub loop-place-preserved : goal.loop-place-preserved
-loop-place-preserved c =
+loop-place-preserved c = λ withouts values.
     let passed : c.second_holds.result ≡ true = search rules in
-    before-next (C8 c.args.book.now (weight_of c.args.weights.now) (cert_value c.args.cert.now)) c.loop-place.place c.second_holds.result c.loop-place.invariant c.second_holds.ensures passed
+    let a = c.args.claim.now in
+    before-next (C8 a.book.now (weight_of c.args.weights.now) (cert_with a withouts c.args.pay.now (map row_value c.args.rows.now))) c.loop-place.place c.second_holds.result (c.loop-place.invariant withouts values) (c.second_holds.ensures withouts values) passed
+
+pub returns-then-not-second_holds : goal.returns-then-not-second_holds
+returns-then-not-second_holds c = λ cert is pay_is rows_is values.
+    let a = c.args.claim.now in
+    let rows = map row_value c.args.rows.now in
+    let own = subst (λ (l : List ℕ). AreValuesWithout a.book.now l cert.withouts c.args.values.now) is.choice_is values in
+    second-of a.book.now (weight_of c.args.weights.now) a cert c.args.pay.now rows (Some c.loop-place.place) is pay_is rows_is
+    (fails-here (C8 a.book.now (weight_of c.args.weights.now) (cert_with a cert.withouts c.args.pay.now rows)) c.loop-place.place c.second_holds.result (c.loop-place.invariant cert.withouts own) (c.second_holds.ensures cert.withouts own) c.if-not-second_holds.true)
 
 pub returns : goal.returns
-returns c =
-    let count = count-same c.args.cert.now.rows c.items.result.now c.items.ensures in
-    holds-everywhere (C8 c.args.book.now (weight_of c.args.weights.now) (cert_value c.args.cert.now)) c.loop-place.place c.loop-place.invariant
-    (λ place past. past-C8 c.args.book.now (cert_value c.args.cert.now) (weight_of c.args.weights.now) place (omega (arith, count, c.bidders.ensures.bidders)))
+returns c = λ cert is pay_is rows_is values.
+    let a = c.args.claim.now in
+    let rows = map row_value c.args.rows.now in
+    let own = subst (λ (l : List ℕ). AreValuesWithout a.book.now l cert.withouts c.args.values.now) is.choice_is values in
+    second-of a.book.now (weight_of c.args.weights.now) a cert c.args.pay.now rows None is pay_is rows_is
+    (holds-everywhere (C8 a.book.now (weight_of c.args.weights.now) (cert_with a cert.withouts c.args.pay.now rows)) c.loop-place.place (c.loop-place.invariant cert.withouts own)
+    (λ place past. past-C8 a.book.now (cert_with a cert.withouts c.args.pay.now rows) (weight_of c.args.weights.now) place (omega (arith, length-map c.args.rows.now row_value, c.bidders.ensures.bidders))))

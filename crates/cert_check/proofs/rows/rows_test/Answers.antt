@@ -1,43 +1,42 @@
-use Rattle.std.proofs.Common.{◌≡◌, ◌+◌, ◌-◌, ℕ, List, length, map, get_or, true, sym, subst, arith, rules}
-use Rattle.cert_form.specs.CertText.{AreRows}
-use Rattle.cert_laws.specs.Tests.{C6}
-use Rattle.cert_text.specs.declared.certificate.CertRow.{CertRow}
-use Rattle.cert_text.specs.CertValues.{cert_value}
+use Rattle.std.proofs.Common.{◌≡◌, ◌+◌, ◌∙◌, ℕ, List, [], length, map, true, Some, None, sym, ap, subst, arith, rules}
+use Rattle.std.proofs.lemmas.List.{length-map}
+use Rattle.cert_form.specs.CertText.{AreMembers}
+use Rattle.cert_laws.specs.Tests.{C6, bidders_of}
 use Rattle.cert_text.specs.Parts.{row_value}
+use Rattle.cert_check.specs.Fields.{cert_with}
+use Rattle.cert_check.proofs.FieldLaws.{rows-of, row-here}
 use Rattle.cert_check.proofs.PlaceTests.{before-next, fails-here, holds-everywhere}
-use Rattle.cert_check.proofs.PlaceLaws.{row-C6, past-C6}
-use Rattle.cert_check.proofs.SumLaws.{count-same, row-place, each-row}
+use Rattle.cert_check.proofs.PlaceLaws.{past-C6}
+use Rattle.cert_check.proofs.SumLaws.{each-row}
 use Rattle.cert_check.proofs.rows.rows_test.Goals as goal
 
-pub row_holds-requires-clause-row : goal.row_holds-requires-clause-row
-row_holds-requires-clause-row c =
-    let are = subst (λ (n : ℕ). AreRows n (map row_value c.args.cert.now.rows)) c.requires.shape.bidders_are c.args.cert.now.rules.rows in
-    let here = subst (λ (l : List CertRow). AreRows (length c.args.book.now.bidders) (map row_value l)) (sym c.items-row-items.ensures) are in
-    each-row (length c.args.book.now.bidders) c.items-row-items.result.now c.loop-r.r c.row-item.result here c.loop-r-test.true c.row-item.is
+pub row_holds-requires-clause-members : goal.row_holds-requires-clause-members
+row_holds-requires-clause-members c =
+    let row = each-row (bidders_of c.args.claim.now.book.now) c.args.rows.now c.loop-r.r c.index-rows-r.result c.requires.rows c.loop-r-test.true c.index-rows-r.is in
+    subst (λ (l : List ℕ). AreMembers (bidders_of c.args.claim.now.book.now) 0 l) (sym c.items.ensures) row.members
+
+pub row_holds-requires-clause-choice : goal.row_holds-requires-clause-choice
+row_holds-requires-clause-choice c =
+    let row = each-row (bidders_of c.args.claim.now.book.now) c.args.rows.now c.loop-r.r c.index-rows-r.result c.requires.rows c.loop-r-test.true c.index-rows-r.is in
+    ap (λ (l : List ℕ). length l) c.numbers.ensures ∙ row.choice.0
 
 pub returns-then-not-row_holds : goal.returns-then-not-row_holds
-returns-then-not-row_holds c =
-    let rows = c.args.cert.now.rows in
-    let count = count-same rows c.items-row-items.result.now c.items-row-items.ensures in
-    let back : c.loop-r.r ≡ c.loop-r.r + 1 - 1 = omega arith in
-    let is = subst (λ (n : ℕ). c.row-item.result ≡ get_or c.items-row-items.result.now n c.row-item.result) back c.row-item.is in
-    let same = row-place rows c.items-row-items.result.now (c.loop-r.r + 1) c.row-item.result (omega arith) (omega arith) c.items-row-items.ensures is in
-    let test = row-C6 c.args.book.now (cert_value c.args.cert.now) (c.loop-r.r + 1) (row_value c.row-item.result) c.row_holds.result (omega arith) (omega (arith, count)) same c.row_holds.ensures in
-    fails-here (C6 c.args.book.now (cert_value c.args.cert.now)) (c.loop-r.r + 1) c.row_holds.result c.loop-r.invariant test c.if-not-row_holds.true
+returns-then-not-row_holds c = λ cert is pay_is rows_is.
+    let a = c.args.claim.now in
+    let rows = map row_value c.args.rows.now in
+    rows-of a.book.now a cert c.args.pay.now rows (Some (c.loop-r.r + 1)) is pay_is rows_is
+    (fails-here (C6 a.book.now (cert_with a [] c.args.pay.now rows)) (c.loop-r.r + 1) c.row_holds.result c.loop-r.invariant (row-here a c.args.pay.now c.args.rows.now c.loop-r.r c.index-rows-r.result c.items.result.now c.numbers.result.now c.row_holds.result c.loop-r-test.true c.index-rows-r.is c.items.ensures c.numbers.ensures c.row_holds.ensures) c.if-not-row_holds.true)
 
 pub loop-r-preserved : goal.loop-r-preserved
 loop-r-preserved c =
     let passed : c.row_holds.result ≡ true = search rules in
-    let rows = c.args.cert.now.rows in
-    let count = count-same rows c.items-row-items.result.now c.items-row-items.ensures in
-    let back : c.loop-r.r ≡ c.loop-r.r + 1 - 1 = omega arith in
-    let is = subst (λ (n : ℕ). c.row-item.result ≡ get_or c.items-row-items.result.now n c.row-item.result) back c.row-item.is in
-    let same = row-place rows c.items-row-items.result.now (c.loop-r.r + 1) c.row-item.result (omega arith) (omega arith) c.items-row-items.ensures is in
-    let test = row-C6 c.args.book.now (cert_value c.args.cert.now) (c.loop-r.r + 1) (row_value c.row-item.result) c.row_holds.result (omega arith) (omega (arith, count)) same c.row_holds.ensures in
-    before-next (C6 c.args.book.now (cert_value c.args.cert.now)) (c.loop-r.r + 1) c.row_holds.result c.loop-r.invariant test passed
+    let a = c.args.claim.now in
+    before-next (C6 a.book.now (cert_with a [] c.args.pay.now (map row_value c.args.rows.now))) (c.loop-r.r + 1) c.row_holds.result c.loop-r.invariant (row-here a c.args.pay.now c.args.rows.now c.loop-r.r c.index-rows-r.result c.items.result.now c.numbers.result.now c.row_holds.result c.loop-r-test.true c.index-rows-r.is c.items.ensures c.numbers.ensures c.row_holds.ensures) passed
 
 pub returns : goal.returns
-returns c =
-    let count = count-same c.args.cert.now.rows c.items-row-items.result.now c.items-row-items.ensures in
-    holds-everywhere (C6 c.args.book.now (cert_value c.args.cert.now)) (c.loop-r.r + 1) c.loop-r.invariant
-    (λ place past. past-C6 c.args.book.now (cert_value c.args.cert.now) place (omega (arith, count)))
+returns c = λ cert is pay_is rows_is.
+    let a = c.args.claim.now in
+    let rows = map row_value c.args.rows.now in
+    rows-of a.book.now a cert c.args.pay.now rows None is pay_is rows_is
+    (holds-everywhere (C6 a.book.now (cert_with a [] c.args.pay.now rows)) (c.loop-r.r + 1) c.loop-r.invariant
+    (λ place past. past-C6 a.book.now (cert_with a [] c.args.pay.now rows) place (omega (arith, length-map c.args.rows.now row_value))))

@@ -1,12 +1,14 @@
-use Rattle.std.proofs.Common.{rules, ◌≡◌, ◌∙◌, ◌+◌, ◌<◌, ap, arith, sym, ◌≤◌, ◌-ℤ◌, length}
+use Rattle.std.proofs.Common.{rules, ◌≡◌, ◌∙◌, ◌+◌, ◌<◌, ap, arith, sym, ◌≤◌, ◌-ℤ◌, length, List, ℕ, subst, refl}
 use Rattle.std.proofs.lemmas.Int.{to_z-of_z}
 use Rattle.std.proofs.lemmas.Bool.{false≢true}
 use Rattle.auction_model.specs.Place.{states_of}
 use Rattle.auction_model.specs.Book.{bids_of}
+use Rattle.auction_model.specs.Market.{number_of}
 use Rattle.auction_model.proofs.PlaceLaws.{states-positive}
 use Rattle.cert_laws.specs.Tests.{bidders_of, states}
 use Rattle.cert_laws.proofs.Winning.{allowed-length}
 use Rattle.cert_text.specs.CertValues.{cert_value}
+use Rattle.cert_check.specs.EarlierBids.{AllStayBelow}
 use Rattle.cert_check.proofs.TableLaws.{table-small}
 use Rattle.cert_check.proofs.EarlierLaws.{so_far-start, so_far-known, so_far-own, so_far-asks, so_far-asked, so_far-next, earlier-fails}
 use mir.Val.{SFits, to_z}
@@ -41,7 +43,8 @@ returns-then-not-all_stay_below c =
     earlier-fails book cert length_is c.loop-k.k c.loop-k.rest bound inside c.loop-k.invariant
     (λ is.
     let all = so_far-asked book cert length_is c.loop-k.k c.loop-k.rest (c.loop-k.k + 1) bound c.line.result.now c.loop-k.invariant (omega arith) c.line.ensures.line is in
-    false≢true (sym c.if-not-all_stay_below.true ∙ c.all_stay_below.ensures.1 all))
+    let own = subst (λ (l : List ℕ). AllStayBelow book l (c.loop-k.k + 1) c.line.result.now c.loop-k.rest bound) (sym c.numbers-choice.ensures) all in
+    false≢true (sym c.if-not-all_stay_below.true ∙ c.all_stay_below.ensures.1 own))
 
 known : (c : After-number-number) → c.number-number.result ≤ length (bids_of c.args.book.now (c.loop-k.k + 1))
 known c =
@@ -58,8 +61,8 @@ rest_after-rest-requires-clause-fits c =
     let inside : c.loop-k.k < bidders_of book = omega (arith, c.loop-k-test.true, c.bidders-k-end.ensures.bidders) in
     so_far-own book (cert_value c.args.cert.now) (allowed-length book c.args.cert.now.choice c.requires.allowed) c.loop-k.k c.loop-k.rest (c.loop-k.k + 1) c.number-number.result (to_z w128 c.loop-k.bound-bits) inside c.loop-k.invariant (omega arith) c.number-number.ensures
 
-pub net_at-bound-requires-clause-bid : goal.net_at-bound-requires-clause-bid
-net_at-bound-requires-clause-bid c =
+pub worth-bound-requires-clause-bid : goal.worth-bound-requires-clause-bid
+worth-bound-requires-clause-bid c =
     let book = c.args.book.now in
     let inside : c.loop-k.k < bidders_of book = omega (arith, c.loop-k-test.true, c.bidders-k-end.ensures.bidders) in
     so_far-known book (cert_value c.args.cert.now) (allowed-length book c.args.cert.now.choice c.requires.allowed) c.loop-k.k c.loop-k.rest (c.loop-k.k + 1) c.number-number.result (to_z w128 c.loop-k.bound-bits) inside c.loop-k.invariant (omega arith) c.number-number.ensures
@@ -71,10 +74,17 @@ loop-k-preserved c =
     let length_is = allowed-length book c.args.cert.now.choice c.requires.allowed in
     let bound = to_z w128 c.loop-k.bound-bits in
     let inside : c.loop-k.k < bidders_of book = omega (arith, c.loop-k-test.true, c.bidders-k-end.ensures.bidders) in
-    let net_fits : SFits w128 c.net_at-bound.result = search rules in
-    let is = so_far-asks book cert length_is c.loop-k.k c.loop-k.rest (c.loop-k.k + 1) bound c.line.result.now c.loop-k.invariant (omega arith) c.line.ensures.line (c.all_stay_below.ensures.0 c.if-not-all_stay_below.false) in
-    let next = so_far-next book cert length_is c.loop-k.k c.loop-k.rest (c.loop-k.k + 1) c.number-number.result c.rest_after-rest.result bound c.net_at-bound.result inside c.loop-k.invariant is (omega arith) c.number-number.ensures c.rest_after-rest.ensures.left c.net_at-bound.ensures.net c.net_at-bound.ensures.size in
+    let net_fits : SFits w128 c.worth-bound.result = search rules in
+    let is = so_far-asks book cert length_is c.loop-k.k c.loop-k.rest (c.loop-k.k + 1) bound c.line.result.now c.loop-k.invariant (omega arith) c.line.ensures.line (subst (λ (l : List ℕ). AllStayBelow book l (c.loop-k.k + 1) c.line.result.now c.loop-k.rest bound) c.numbers-choice.ensures (c.all_stay_below.ensures.0 c.if-not-all_stay_below.false)) in
+    let next = so_far-next book cert length_is c.loop-k.k c.loop-k.rest (c.loop-k.k + 1) c.number-number.result c.rest_after-rest.result bound c.worth-bound.result inside c.loop-k.invariant is (omega arith) c.number-number.ensures c.rest_after-rest.ensures.left c.worth-bound.ensures.worth c.worth-bound.ensures.size in
     let size = c.loop-k.invariant.size in
-    let small = c.net_at-bound.ensures.size in
-    let left_fits : SFits w128 (to_z w128 c.loop-k.bound-bits -ℤ c.net_at-bound.result) = search (rules, size, small) in
+    let small = c.worth-bound.ensures.size in
+    let left_fits : SFits w128 (to_z w128 c.loop-k.bound-bits -ℤ c.worth-bound.result) = search (rules, size, small) in
     simp to_z-of_z next
+
+pub all_stay_below-requires-clause-number : goal.all_stay_below-requires-clause-number
+all_stay_below-requires-clause-number c =
+    let book = c.args.book.now in
+    let inside : c.loop-k.k < bidders_of book = omega (arith, c.loop-k-test.true, c.bidders-k-end.ensures.bidders) in
+    subst (λ (l : List ℕ). number_of l (c.loop-k.k + 1) ≤ length (bids_of book (c.loop-k.k + 1))) (sym c.numbers-choice.ensures)
+    (so_far-known book (cert_value c.args.cert.now) (allowed-length book c.args.cert.now.choice c.requires.allowed) c.loop-k.k c.loop-k.rest (c.loop-k.k + 1) (number_of c.args.cert.now.choice (c.loop-k.k + 1)) (to_z w128 c.loop-k.bound-bits) inside c.loop-k.invariant (omega arith) refl)

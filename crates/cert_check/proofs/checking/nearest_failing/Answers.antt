@@ -1,0 +1,34 @@
+use Rattle.std.proofs.Common.{ℕ, List, map, sym, ap, subst}
+use Rattle.std.specs.Prelude.{IsTrue}
+use Rattle.auction_model.specs.Market.{uses}
+use Rattle.cert_form.specs.Certificate.{part_of}
+use Rattle.cert_laws.specs.Tests.{IsPart}
+use Rattle.cert_text.specs.Parts.{row_value, without_value}
+use Rattle.cert_text.specs.CertValues.{cert_value}
+use Rattle.cert_text.specs.declared.certificate.WithoutPart.{WithoutPart}
+use Rattle.cert_check.specs.Fields.{AreValuesWithout}
+use Rattle.cert_check.proofs.HeadLaws.{values-range}
+use Rattle.cert_check.proofs.checking.nearest_failing.Goals as goal
+
+pub put_values-requires-clause-parts : goal.put_values-requires-clause-parts
+put_values-requires-clause-parts c = λ j some inside wins.
+    let a = c.args.claim.now in
+    let used = subst (λ (l : List ℕ). IsTrue (uses l j)) (sym c.requires.claim.choice_is) wins in
+    subst (λ (l : List WithoutPart). IsPart a.book.now j (part_of (map without_value l) j)) (sym c.items-parts.ensures) ((c.requires.parts j).part some inside used)
+
+pub second_test-requires-clause-values : goal.second_test-requires-clause-values
+second_test-requires-clause-values c =
+    let a = c.args.claim.now in
+    values-range a c.bidders-bidders.ensures.kept (map without_value c.items-parts.result.now) c.put_values.new.values
+    (λ j some inside wins.
+    let used = subst (λ (l : List ℕ). IsTrue (uses l j)) (sym c.requires.claim.choice_is) wins in
+    subst (λ (l : List WithoutPart). IsPart a.book.now j (part_of (map without_value l) j)) (sym c.items-parts.ensures) ((c.requires.parts j).part some inside used))
+    c.put_values.ensures.values
+
+pub returns : goal.returns
+returns c =
+    let a = c.args.claim.now in
+    let cert = cert_value c.args.cert.now in
+    let values = subst (λ (l : List WithoutPart). AreValuesWithout a.book.now a.choice.now (map without_value l) c.put_values.new.values) c.items-parts.ensures c.put_values.ensures.values in
+    c.second_test.ensures cert c.requires.claim (sym c.items-pay.ensures) (ap (map row_value) (sym c.items-rows.ensures))
+    (subst (λ (l : List ℕ). AreValuesWithout a.book.now l cert.withouts c.put_values.new.values) (sym c.requires.claim.choice_is) values)
