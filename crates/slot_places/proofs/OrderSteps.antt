@@ -1,0 +1,96 @@
+-- The first order is found bidder by bidder.
+use Rattle.std.specs.Prelude.{◌≡◌, ℕ, suc, ◌+◌, ◌-◌, ◌^◌, ◌≤◌, ◌<◌, true, false, IsTrue, List, [], ◌∷◌, ◌++◌, length, drop, get_or, refl}
+use Rattle.std.proofs.Common.{sym, ◌∙◌, subst, append_assoc}
+use Rattle.std.proofs.lemmas.Bool.{and_left, and_right}
+use Rattle.std.proofs.lemmas.List.{append-nil, drop_all, drop_more}
+use Rattle.slot_places.specs.Slots.{SlotList}
+use Rattle.slot_places.specs.Board.{nobody, joined, is_known, can_place, is_placed, board_of}
+use Rattle.slot_places.specs.Orders.{allows, IsPlacement}
+use Rattle.slot_places.specs.SetTable.{holds}
+use Rattle.slot_places.specs.Steps.{CanFollow, IsFirstNext}
+use Rattle.slot_places.proofs.SameLaws.{place-same, slots-ask}
+use Rattle.slot_places.proofs.SetBits.{holds-joined, holds-nobody, joined-small, power-positive}
+use Rattle.slot_places.proofs.NextLaws.{next-places, placed-by}
+use Rattle.slot_places.proofs.FirstOrders.{FirstOrder, SoPlaced, Passes, first-empty, first-with, first-same, allowed-by, allowed-says, refused-by, passes-says, passes-start, passes-begins, passes-on, passes-back}
+
+-- nobody is placed yet
+pub so-begins : (slots : SlotList) (c : List ℕ) → SoPlaced slots c [] (length slots.bidders) 0
+so-begins slots c = record {
+  small = power-positive (length slots.bidders);
+  same = place-same (board_of slots) (slots-ask slots 0) c (length slots.bidders) (holds 0) nobody (λ i some. holds-nobody i);
+  on = λ rest is. first-same (board_of slots) (slots-ask slots 0) c (length slots.bidders) (holds 0) nobody rest (λ i some. holds-nobody i) is;
+}
+
+-- one bidder more
+pub so-next : (slots : SlotList) (c order : List ℕ) (left n j : ℕ) → SoPlaced slots c order (suc left) n → IsFirstNext (board_of slots) c left (holds n) j → SoPlaced slots c (order ++ j ∷ []) left (n + 2 ^ (j - 1))
+so-next slots c order left n j so is =
+    let b = board_of slots in
+    let asks = slots-ask slots 0 in
+    record {
+      small = joined-small (length slots.bidders) n j so.small is.next.some is.next.low is.next.new;
+      same = next-places b asks c left n j is.next ∙ sym (placed-by b asks c left n j is.next) ∙ so.same;
+      on = λ rest first.
+          subst (λ (l : List ℕ). FirstOrder b c (length slots.bidders) nobody l) (sym (append_assoc order (j ∷ []) rest))
+          (so.on (j ∷ rest) (first-with b c left (holds n) j rest is
+          (first-same b asks c left (holds (n + 2 ^ (j - 1))) (joined j (holds n)) rest (λ i some. sym (holds-joined n j i is.next.some is.next.new some)) first)));
+    }
+
+-- the same by the values at hand
+pub so-more : (slots : SlotList) (c order new : List ℕ) (rest left less n j w : ℕ) → rest ≡ suc left → left ≡ less → new ≡ order ++ j ∷ [] → w ≡ 2 ^ (j - 1) → SoPlaced slots c order rest n → IsFirstNext (board_of slots) c left (holds n) j → SoPlaced slots c new less (n + w)
+so-more slots c order new rest left less n j w more fewer pushed weight so is =
+    subst (λ (l : List ℕ). SoPlaced slots c l less (n + w)) (sym pushed)
+    (subst (λ m. SoPlaced slots c (order ++ j ∷ []) less (n + m)) (sym weight)
+    (subst (λ m. SoPlaced slots c (order ++ j ∷ []) m (n + 2 ^ (j - 1))) fewer
+    (so-next slots c order left n j (subst (λ m. SoPlaced slots c order m n) more so) is)))
+
+-- all bidders are placed
+pub so-ends : (slots : SlotList) (c order : List ℕ) (n : ℕ) → IsTrue (is_known (board_of slots) c) → SoPlaced slots c order 0 n → IsPlacement slots c order
+so-ends slots c order n known so =
+    let b = board_of slots in
+    let all : FirstOrder b c (length slots.bidders) nobody order = subst (λ (l : List ℕ). FirstOrder b c (length slots.bidders) nobody l) (append-nil order) (so.on [] (first-empty b c (holds n))) in
+    record {
+      allowed = allowed-by slots c order all.is.count known (all.is.new, all.is.gives);
+      first = λ other t. let a = allowed-says slots c other t in all.first other (record { count = a.count; new = a.passes.0; gives = a.passes.1 });
+    }
+
+-- no bidder can be next
+pub so-fails : (slots : SlotList) (c order : List ℕ) (left n : ℕ) → SoPlaced slots c order left n → can_place (board_of slots) c left (holds n) ≡ false → is_placed (board_of slots) c ≡ false
+so-fails slots c order left n so none = and_right (is_known (board_of slots) c) (can_place (board_of slots) c (length slots.bidders) nobody) (sym so.same ∙ none)
+
+pub unknown-fails : (slots : SlotList) (c : List ℕ) → is_known (board_of slots) c ≡ false → is_placed (board_of slots) c ≡ false
+unknown-fails slots c none = and_left (is_known (board_of slots) c) (can_place (board_of slots) c (length slots.bidders) nobody) none
+
+-- Of an order so many entries are tested: the whole passes just where what is left passes behind their set.
+pub record SoTested (slots : SlotList) (c order : List ℕ) (i n : ℕ) : Type 0 where
+  pub whole : Passes (board_of slots) c (holds n) (drop i order) → Passes (board_of slots) c nobody order
+  pub part : Passes (board_of slots) c nobody order → Passes (board_of slots) c (holds n) (drop i order)
+  pub small : n < 2 ^ length slots.bidders
+
+pub tests-begin : (slots : SlotList) (c order : List ℕ) → SoTested slots c order 0 0
+tests-begin slots c order = record { whole = passes-start slots c order; part = passes-begins slots c order; small = power-positive (length slots.bidders) }
+
+-- one entry more can follow
+pub tests-more : (slots : SlotList) (c order : List ℕ) (i n w : ℕ) → i < length order → w ≡ 2 ^ (get_or order i 0 - 1) → CanFollow (board_of slots) c (holds n) (get_or order i 0) → SoTested slots c order i n → SoTested slots c order (i + 1) (n + w)
+tests-more slots c order i n w inside weight f so =
+    let b = board_of slots in
+    let j = get_or order i 0 in
+    let rest = drop (i + 1) order in
+    let next : drop i order ≡ j ∷ rest = drop_more order i 0 inside in
+    subst (λ m. SoTested slots c order (i + 1) (n + m)) (sym weight)
+    (record {
+      whole = λ p. so.whole (subst (Passes b c (holds n)) (sym next) (passes-back slots c n j rest f p));
+      part = λ p. passes-on slots c n j rest (subst (Passes b c (holds n)) next (so.part p));
+      small = joined-small (length slots.bidders) n j so.small f.some f.low f.new;
+    })
+
+-- one that can't
+pub tests-fail : (slots : SlotList) (c order : List ℕ) (i n : ℕ) → i < length order → (CanFollow (board_of slots) c (holds n) (get_or order i 0) → ⊥) → SoTested slots c order i n → false ≡ allows slots order c
+tests-fail slots c order i n inside not so =
+    let b = board_of slots in
+    let rest = drop (i + 1) order in
+    refused-by slots c order (λ a. not (passes-says b c (holds n) (get_or order i 0) rest (subst (Passes b c (holds n)) (drop_more order i 0 inside) (so.part a.passes))).0)
+
+-- all can follow
+pub tests-end : (slots : SlotList) (c order : List ℕ) (i n : ℕ) → length order ≤ i → length order ≡ length slots.bidders → is_known (board_of slots) c ≡ true → SoTested slots c order i n → true ≡ allows slots order c
+tests-end slots c order i n all count known so =
+    sym (allowed-by slots c order count known (so.whole (subst (Passes (board_of slots) c (holds n)) (sym (drop_all i order all)) (refl, refl))))

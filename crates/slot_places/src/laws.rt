@@ -1,0 +1,18 @@
+// What holds of all slots.
+ghost use Rattle.std.specs.Prelude.{ℕ, ◌<◌, ◌^◌, IsTrue, List, length};
+ghost use Rattle.auction_model.specs.Lawful.{IsMarket};
+ghost use Rattle.slot_places.specs.Slots.{SlotList};
+ghost use Rattle.slot_places.specs.Board.{market_of};
+ghost use Rattle.slot_places.specs.Orders.{allows};
+
+/// Slots are a market: it is allowed that nobody wins, and an allowed choice stays allowed when a bidder leaves it, which is then
+/// placed without a bid.
+pub fn slot_market()
+    ensures { (slots : SlotList) → length slots.bidders < 2 ^ 16 → IsMarket (market_of slots) }
+{}
+
+/// A choice is allowed exactly where some order of all bidders allows it.
+pub fn slot_orders()
+    ensures some { (slots : SlotList) (c : List ℕ) → IsTrue ((market_of slots).allowed c) → (order : List ℕ) × IsTrue (allows slots order c) }
+    ensures allowed { (slots : SlotList) (c order : List ℕ) → IsTrue (allows slots order c) → IsTrue ((market_of slots).allowed c) }
+{}
