@@ -17,3 +17,10 @@ mod NextLaws
 mod FirstOrders
 mod OrderSteps
 mod PlainSearch
+mod Growth
+mod LineLaws
+mod Reading
+mod Within
+mod Added
+mod StopLaws
+mod EntryLaws

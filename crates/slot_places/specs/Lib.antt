@@ -6,3 +6,4 @@ pub mod Orders
 pub mod SetTable
 pub mod Steps
 pub mod Fields
+pub mod Stages

@@ -1,9 +1,11 @@
 // What holds of all slots.
-ghost use Rattle.std.specs.Prelude.{ℕ, ◌<◌, ◌^◌, IsTrue, List, length};
+ghost use Rattle.std.specs.Prelude.{◌≡◌, ℕ, ◌<◌, ◌^◌, IsTrue, List, length};
 ghost use Rattle.auction_model.specs.Lawful.{IsMarket};
 ghost use Rattle.slot_places.specs.Slots.{SlotList};
 ghost use Rattle.slot_places.specs.Board.{market_of};
 ghost use Rattle.slot_places.specs.Orders.{allows};
+ghost use Rattle.line_text.specs.LineText.{Said, Says, stated};
+ghost use Rattle.slot_places.specs.SlotForm.{IsSlotText, SlotExcess, slot_lines};
 
 /// Slots are a market: it is allowed that nobody wins, and an allowed choice stays allowed when a bidder leaves it, which is then
 /// placed without a bid.
@@ -15,4 +17,11 @@ pub fn slot_market()
 pub fn slot_orders()
     ensures some { (slots : SlotList) (c : List ℕ) → IsTrue ((market_of slots).allowed c) → (order : List ℕ) × IsTrue (allows slots order c) }
     ensures allowed { (slots : SlotList) (c order : List ℕ) → IsTrue (allows slots order c) → IsTrue ((market_of slots).allowed c) }
+{}
+
+/// Bytes say one thing of slots: slots, where the first faulty line begins, or what exceeds its limit first. So each answer of
+/// `read_slots` comes exactly where the bytes say so. And slots within the limits have one text.
+pub fn one_slots()
+    ensures one { (bytes : List ℕ) (x y : Said SlotList SlotExcess) → Says IsSlotText slot_lines bytes x → Says IsSlotText slot_lines bytes y → x ≡ y }
+    ensures text { (bytes other : List ℕ) (slots : SlotList) → Says IsSlotText slot_lines bytes (stated slots) → Says IsSlotText slot_lines other (stated slots) → bytes ≡ other }
 {}

@@ -5,14 +5,29 @@
 mod bests;
 mod laws;
 mod placing;
+mod read;
 mod search;
 mod searching;
 mod slot_chooser;
 mod slots;
+mod stop;
 
-pub use laws::{slot_market, slot_orders};
+pub use laws::{one_slots, slot_market, slot_orders};
+pub use limits::LimitKind;
+pub use read::read_slots;
 pub use slot_chooser::{SlotChooser, place_win};
 pub use slots::{Place, Slots};
 
 /// The most bidders of a band.
 pub const MOST_PLACED: usize = 6;
+
+/// Why bytes are no slots.
+#[derive(Clone, Copy, Debug, PartialEq, Eq)]
+pub enum SlotStop {
+    /// The byte where the first faulty line begins, counted from 0.
+    Form(u64),
+    /// A quantity that exceeds its limit, at the first line where one does, with its count.
+    Limit(LimitKind, u64),
+    /// There was no memory.
+    Memory,
+}

@@ -1,9 +1,11 @@
 // Slots, and the calls that read them.
-ghost use Rattle.std.specs.Prelude.{◌≡◌, ◌≤◌, ◌<◌, length};
+ghost use Rattle.std.specs.Prelude.{◌≡◌, ◌≤◌, ◌<◌, ◌+◌, ◌++◌, ◌∷◌, [], OnOk, length};
+ghost use Rattle.limits.specs.declared.TheConstants.{MOST_LOTS};
 ghost use Rattle.slot_places.specs.Kept.{AreSlots};
 ghost use Rattle.slot_places.specs.Slots.{bidder_of, width_of, bids_of, bid_of};
 
 use bid_book::Name;
+use std::alloc::{AllocError, Global};
 use std::marker::Model;
 
 /// A bid for a start in the band.
@@ -43,6 +45,85 @@ impl Model for Slots {
 }
 
 impl Slots {
+    ghost use Rattle.slot_places.specs.SlotForm.{AreSlotsWithinLimits, width_together};
+    ghost use Rattle.slot_places.specs.Fields.{bid_value};
+    ghost use Rattle.slot_places.specs.Stages.{bidder_with, last_width, opened, start_before, with_bid, with_bidders};
+
+    /// The band before its first bidder.
+    pub(crate) fn open(alloc: Global, band: u16) -> Slots
+        requires { (1 ≤ band) × (band ≤ MOST_LOTS) }
+        ensures { result ≡ opened band }
+    {
+        Slots {
+            band,
+            bidders: Vec::new(alloc),
+        }
+    }
+
+    /// Puts a bidder without bids behind the others.
+    pub(crate) fn add_bidder(
+        &mut self,
+        alloc: Global,
+        name: Name,
+        width: u16,
+    ) -> Result<(), AllocError>
+        requires { AreSlotsWithinLimits (with_bidders self.old (self.old.bidders ++ bidder_with name width [] ∷ [])) }
+        ensures { OnOk result (self.new ≡ with_bidders self.old (self.old.bidders ++ bidder_with name width [] ∷ [])) }
+    {
+        let places = Vec::new(alloc);
+        self.bidders.push(BandBidder {
+            name,
+            width,
+            places,
+        })?;
+        Ok(())
+    }
+
+    /// Puts a bid behind those of the last bidder.
+    pub(crate) fn add_place(&mut self, place: Place) -> Result<(), AllocError>
+        requires some { 0 < length self.old.bidders }
+        requires kept { AreSlotsWithinLimits (with_bid self.old (bid_value place)) }
+        ensures { OnOk result (self.new ≡ with_bid self.old (bid_value place)) }
+    {
+        let last = self.bidders.len() - 1;
+        let bidder = &mut self.bidders[last];
+        bidder.places.push(place)?;
+        Ok(())
+    }
+
+    /// How many slots the bidders leave of the band.
+    pub(crate) fn room(&self) -> u16
+        ensures { result + width_together self.now.bidders ≡ self.now.band }
+    {
+        let mut used: u16 = 0;
+        for k in 0..self.bidders() {
+            used += self.width(k as u16 + 1);
+        }
+        self.band - used
+    }
+
+    /// The first slot where the next bid of the last bidder may start.
+    pub(crate) fn next_start(&self) -> u16
+        requires { 0 < length self.now.bidders }
+        ensures { result ≡ start_before self.now + 1 }
+    {
+        let last_bidder = self.bidders() as u16;
+        let last = self.places(last_bidder);
+        if last == 0 {
+            return 1;
+        }
+        let place = self.place(last_bidder, last);
+        place.start + 1
+    }
+
+    /// The last slot where the last bidder may start.
+    pub(crate) fn last_start(&self) -> u16
+        requires { 0 < length self.now.bidders }
+        ensures { result + last_width self.now ≡ self.now.band + 1 }
+    {
+        self.band + 1 - self.width(self.bidders() as u16)
+    }
+
     /// How many bidders there are.
     pub fn bidders(&self) -> usize
         ensures bidders { result ≡ length self.now.bidders }
