@@ -6,8 +6,9 @@ ghost use Rattle.cert_check.specs.Places.{IsFirstFailing};
 ghost use Rattle.cert_form.specs.Certificate.{CertValue};
 ghost use Rattle.cert_laws.specs.Tests.{C2, bidders_of};
 
-use crate::judging::{fits, number, value};
+use crate::judging::number;
 use bid_book::BidBook;
+use choices::{are_within, value_among};
 
 /// The first place at which C2 fails of a certificate with this choice and this value.
 pub(crate) fn choice_test(book: &BidBook, choice: &[u16], claimed: i128) -> Option<u64>
@@ -34,7 +35,7 @@ fn choice_holds(book: &BidBook, choice: &[u16], claimed: i128, place: u16) -> bo
         return number(choice, place) <= book.bids(place);
     }
     if place == bidders + 1 {
-        return fits(book, choice);
+        return are_within(book, choice);
     }
-    value(book, choice) == claimed
+    value_among(book, choice) == claimed
 }

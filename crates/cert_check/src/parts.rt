@@ -12,12 +12,13 @@ ghost use Rattle.cert_check.specs.Places.{IsFirstFailing};
 ghost use Rattle.cert_check.specs.Tested.{IsTested};
 
 use crate::claim::Claim;
-use crate::judging::{is_allowed_without, value};
+use crate::judging::is_allowed_without;
 use crate::tables::BIDDER_ROOM;
 use crate::tables::grids::table_test;
 use crate::tables::offers::Offers;
 use bid_book::BidBook;
 use cert_text::{Certificate, WithoutPart};
+use choices::value_among;
 
 /// Whether a part shows the best choice without bidder `j`.
 fn shows_best(book: &BidBook, cert: &Certificate, part: &WithoutPart, j: u16) -> bool
@@ -32,7 +33,7 @@ fn shows_best(book: &BidBook, cert: &Certificate, part: &WithoutPart, j: u16) ->
     if !is_allowed_without(book, choice, j) {
         return false;
     }
-    let most = value(book, choice);
+    let most = value_among(book, choice);
     let gains = [0i128; BIDDER_ROOM];
     let offers = Offers {
         book,
@@ -103,7 +104,7 @@ fn found_value(book: &BidBook, parts: &[WithoutPart], j: u16) -> i128
 {
     for part in parts {
         if part.winner == j {
-            return value(book, part.choice.numbers());
+            return value_among(book, part.choice.numbers());
         }
     }
     0

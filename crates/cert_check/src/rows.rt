@@ -12,11 +12,12 @@ ghost use Rattle.cert_laws.specs.Tests.{C6, IsTightRow, bidders_of};
 ghost use Rattle.cert_text.specs.Parts.{row_value};
 
 use crate::claim::Claim;
-use crate::judging::{is_allowed, value};
+use crate::judging::is_allowed;
 use crate::sums::amounts::times;
 use crate::sums::members::{uses_all, uses_none};
 use crate::sums::{paid_by, won_beside};
 use cert_text::CertRow;
+use choices::value_among;
 
 /// The first place at which C6 fails of a certificate with these payments and rows.
 pub(crate) fn rows_test(claim: &Claim, pay: &[i128], rows: &[CertRow]) -> Option<u64>
@@ -55,6 +56,6 @@ fn is_tight(claim: &Claim, pay: &[i128], members: &[u16], choice: &[u16]) -> boo
     ensures { IsTrue result ↔ (sum_over (is_member members.now) (of_bidder pay.now) (bidders_of claim.now.book.now)
         ≡ claim.now.den *ℤ (value_of (market_of claim.now.book.now) choice.now -ℤ sum_over (λ j. not (is_member members.now j)) (worth_in (market_of claim.now.book.now) claim.now.choice.now) (bidders_of claim.now.book.now))) }
 {
-    let rest = value(claim.book, choice) - won_beside(claim.book, claim.choice, members);
+    let rest = value_among(claim.book, choice) - won_beside(claim.book, claim.choice, members);
     paid_by(pay, members) == times(claim.den, rest)
 }

@@ -17,7 +17,8 @@ pub fn known(book: &BidBook, choice: &Choice) -> bool
     are_known(book, choice.numbers())
 }
 
-fn are_known(book: &BidBook, numbers: &[u16]) -> bool
+/// The same for the numbers of a choice, bidder by bidder.
+pub fn are_known(book: &BidBook, numbers: &[u16]) -> bool
     ensures { result ≡ is_known_after (menu_of book.now) 0 numbers.now }
 {
     if numbers.len() != book.bidders() {
@@ -39,7 +40,8 @@ pub fn fits(book: &BidBook, choice: &Choice) -> bool
     are_within(book, choice.numbers())
 }
 
-fn are_within(book: &BidBook, numbers: &[u16]) -> bool
+/// The same for the numbers of a choice, bidder by bidder.
+pub fn are_within(book: &BidBook, numbers: &[u16]) -> bool
     requires { IsTrue (is_known_after (menu_of book.now) 0 numbers.now) }
     ensures { result ≡ fits_after (menu_of book.now) 0 book.now.supply numbers.now }
 {
@@ -80,7 +82,8 @@ pub fn value(book: &BidBook, choice: &Choice) -> i128
     value_among(book, choice.numbers())
 }
 
-fn value_among(book: &BidBook, numbers: &[u16]) -> i128
+/// The same for the numbers of a choice, bidder by bidder.
+pub fn value_among(book: &BidBook, numbers: &[u16]) -> i128
     requires { IsTrue (is_known_after (menu_of book.now) 0 numbers.now) }
     ensures value { result ≡ value_of (market_of book.now) numbers.now }
     ensures range { (pos 0 ≤ℤ result) × (result ≤ℤ pos (MOST_BIDDERS * MOST_AMOUNT)) }

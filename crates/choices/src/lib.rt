@@ -13,6 +13,6 @@ mod tests;
 pub use choice::Choice;
 pub use chooser::{Chooser, Found, Single};
 pub use grid::Grid;
-pub use judging::{fits, known, place_after, value, worth};
+pub use judging::{are_known, are_within, fits, known, place_after, value, value_among, worth};
 pub use listing::first_by_listing;
 pub use numbers::Numbers;

@@ -132,10 +132,6 @@ winners-take c k inside some =
     winners-step c k 0 inside ∙ ap (λ l. winners_after 0 (take k c) ++ l) (newcomer-one (suc (0 + k)) (get_or c k 0) some) ∙ ap (λ j. winners_after 0 (take k c) ++ j ∷ []) next
 
 -- one winner more
-pub each-more : {X : Type 0} (P : X → Type 0) (xs : List X) (x : X) → AllByRecursion P xs → P x → AllByRecursion P (xs ++ x ∷ [])
-each-more P [] x all one = (one, tt)
-each-more P (y ∷ xs) x all one = (all.0, each-more P xs x all.1 one)
-
 pub tables-more : (book : Book) (bidders : List ℕ) (tables : List (List (List ℤ))) (j : ℕ) (table : List (List ℤ)) → AreTablesWithout book bidders tables → IsTableWithout book j table → AreTablesWithout book (bidders ++ j ∷ []) (tables ++ table ∷ [])
 tables-more book bidders tables j table all one = record {
   count = omega (arith, all.count, length-append tables (table ∷ []), length-append bidders (j ∷ []));

@@ -23,7 +23,7 @@ overflow_sub-rest c =
     let beside = some-won a c.won_beside.ensures.kept others in
     let value = allowed-value a c.won_beside.ensures.kept c.args.choice.now c.requires.allowed in
     let value_fits : SFits w128 c.args.claim.now.value = search rules in
-    omega (arith, ints, total, beside.0, beside.1, value.0, value.1, c.value.ensures.value, value_fits)
+    omega (arith, ints, total, beside.0, beside.1, value.0, value.1, c.value_among.ensures.value, value_fits)
 
 pub paid_by-requires-clause-count : goal.paid_by-requires-clause-count
 paid_by-requires-clause-count c = omega (arith, c.requires.pay.0, c.won_beside.ensures.kept.bidders)
@@ -37,11 +37,11 @@ times-requires c =
     let value = allowed-value a c.won_beside.ensures.kept c.args.choice.now c.requires.allowed in
     let value_fits : SFits w128 c.args.claim.now.value = search rules in
     let den_fits : SFits w128 c.args.claim.now.den = search rules in
-    let rest : to_z w128 (of_z w128 (to_z w128 (of_z w128 c.value.result) -ℤ to_z w128 (of_z w128 c.won_beside.result))) ≡ c.value.result -ℤ c.won_beside.result =
-    omega (arith, ints, total, beside.0, beside.1, value.0, value.1, c.value.ensures.value, value_fits) in
-    let low : unsigned_abs (c.value.result -ℤ c.won_beside.result) ≤ unsigned_abs c.args.claim.now.value = omega (arith, ints, total, beside.0, beside.1, value.0, value.1, c.value.ensures.value) in
+    let rest : to_z w128 (of_z w128 (to_z w128 (of_z w128 c.value_among.result) -ℤ to_z w128 (of_z w128 c.won_beside.result))) ≡ c.value_among.result -ℤ c.won_beside.result =
+    omega (arith, ints, total, beside.0, beside.1, value.0, value.1, c.value_among.ensures.value, value_fits) in
+    let low : unsigned_abs (c.value_among.result -ℤ c.won_beside.result) ≤ unsigned_abs c.args.claim.now.value = omega (arith, ints, total, beside.0, beside.1, value.0, value.1, c.value_among.ensures.value) in
     rw (to_z-of_z w128 c.args.claim.now.den den_fits, rest)
-    (times-small a (c.value.result -ℤ c.won_beside.result) low)
+    (times-small a (c.value_among.result -ℤ c.won_beside.result) low)
 
 pub returns : goal.returns
 returns c =
@@ -54,13 +54,13 @@ returns c =
     let value = allowed-value a c.won_beside.ensures.kept c.args.choice.now c.requires.allowed in
     let value_fits : SFits w128 c.args.claim.now.value = search rules in
     let den_fits : SFits w128 c.args.claim.now.den = search rules in
-    let rest : to_z w128 (of_z w128 (to_z w128 (of_z w128 c.value.result) -ℤ to_z w128 (of_z w128 c.won_beside.result))) ≡ c.value.result -ℤ c.won_beside.result =
-    omega (arith, ints, total, beside.0, beside.1, value.0, value.1, c.value.ensures.value, value_fits) in
+    let rest : to_z w128 (of_z w128 (to_z w128 (of_z w128 c.value_among.result) -ℤ to_z w128 (of_z w128 c.won_beside.result))) ≡ c.value_among.result -ℤ c.won_beside.result =
+    omega (arith, ints, total, beside.0, beside.1, value.0, value.1, c.value_among.ensures.value, value_fits) in
     let times_fits : SFits w128 c.times.result = search rules in
     let paid_fits : SFits w128 c.paid_by.result = search rules in
     let product = rw (to_z-of_z w128 c.args.claim.now.den den_fits, rest) at c.times.ensures in
     let times = product
-    ∙ ap (λ (z : ℤ). c.args.claim.now.den *ℤ (z -ℤ c.won_beside.result)) c.value.ensures.value
+    ∙ ap (λ (z : ℤ). c.args.claim.now.den *ℤ (z -ℤ c.won_beside.result)) c.value_among.ensures.value
     ∙ ap (λ (z : ℤ). c.args.claim.now.den *ℤ (value_of (market_of book) c.args.choice.now -ℤ z)) total in
     let paid = c.paid_by.ensures ∙ ap (λ (n : ℕ). sum_over (is_member members) (of_bidder c.args.pay.now) n) c.requires.pay.0 in
     bits-same c.paid_by.result c.times.result _ _ paid_fits times_fits paid times

@@ -4,7 +4,8 @@ use Rattle.auction_model.specs.Book.{market_of}
 use Rattle.choices.specs.declared.chooser.Single.{Single}
 use Rattle.choices.specs.Singles.{winners_after, IsSingle}
 use Rattle.value_table.specs.TableValue.{TableValue}
-use Rattle.vickrey.proofs.VickreyLaws.{winners-count, winners-skip, winners-take, each-more, tables-more}
+use Rattle.auction_model.proofs.ListLaws.{each-push}
+use Rattle.vickrey.proofs.VickreyLaws.{winners-count, winners-skip, winners-take, tables-more}
 use Rattle.vickrey.proofs.pricing.each_winner.Goals as goal
 use Rattle.vickrey.proofs.pricing.each_winner.Goals.{then-number-ne0+in_ok-one+in_ok-push+in_ok-push-2, else-number-ne0}
 
@@ -31,7 +32,7 @@ loop-k-preserved c =
           let tables : map lines c.if-number-ne0.tables.items ≡ map lines c.loop-k.tables.items ++ one.table.lines ∷ [] = rw (w.tables-is, w.in_ok-push-2.ensures.items) (map-append lines c.loop-k.tables.items (one.table ∷ [])) in
           record {
             winners = ap (map winner) singles ∙ map-append winner c.loop-k.singles.items (one.single ∷ []) ∙ ap (λ l. l ++ one.single.winner ∷ []) was.winners ∙ ap (λ n. winners_after 0 (take k z) ++ n ∷ []) w.in_ok-one.ensures.winner ∙ sym more;
-            each = rw singles (each-more (IsSingle (market_of book) z) c.loop-k.singles.items one.single was.each w.in_ok-one.ensures.single);
+            each = rw singles (each-push (IsSingle (market_of book) z) c.loop-k.singles.items one.single was.each w.in_ok-one.ensures.single);
             tables = rw (more, tables) (tables-more book (winners_after 0 (take k z)) (map lines c.loop-k.tables.items) (k + 1) one.table.lines was.tables w.in_ok-one.ensures.table);
           }
       | else-number-ne0 w ↦

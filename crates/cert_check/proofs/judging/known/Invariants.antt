@@ -1,7 +1,0 @@
-use Rattle.std.proofs.Common.{◌≡◌, drop}
-use Rattle.auction_model.specs.Menu.{is_known_after}
-use Rattle.auction_model.specs.Book.{menu_of}
-use Rattle.cert_check.proofs.judging.known.Given as goal
-
-abbrev pub invariant-loop-k : goal.invariant-loop-k
-invariant-loop-k l = is_known_after (menu_of l.book) l.k (drop l.k l.choice) ≡ is_known_after (menu_of l.book) 0 l.choice
