@@ -2,6 +2,7 @@ pub mod Places
 pub mod Head
 pub mod Fields
 pub mod Multipliers
+pub mod Columns
 pub mod Verdicts
 pub mod Faults
 pub mod Narrow

@@ -6,21 +6,26 @@ ghost use Rattle.cert_check.specs.Places.{IsFirstFailing};
 ghost use Rattle.cert_check.specs.Verdicts.{IsVerdict};
 ghost use Rattle.auction_model.specs.Prices.{AreWeights, weight_of};
 ghost use Rattle.cert_laws.specs.Sound.{IsSound};
-ghost use Rattle.cert_laws.specs.Tests.{Asks, C4, C8, bidders_of, states};
+ghost use Rattle.cert_laws.specs.Tests.{Asks, C4, C7, C8, bidders_of, states};
 ghost use Rattle.cert_text.specs.CertValues.{IsFor, cert_value};
 
 use crate::Verdict;
 use crate::choice::choice_test;
 use crate::claim::Claim;
+use crate::columns::{Column, put_multipliers, put_sums};
 use crate::multipliers::{first_test, second_test};
 use crate::parts::{parts_test, put_values};
 use crate::payments::payments_test;
 use crate::rows::rows_test;
 use crate::sizes::sizes_test;
+use crate::sums::Multiplier;
 use crate::tables::{BIDDER_ROOM, lowered_test, value_test};
 use bid_book::BidBook;
 use cert_laws::sound_yes;
 use cert_text::Certificate;
+
+/// How many rows a certificate has at most.
+const MOST_ROWS: usize = 10;
 
 /// Tests a certificate of a book.
 ///
@@ -91,9 +96,29 @@ fn later_failing(claim: &Claim, cert: &Certificate, weights: &[u32], test: u8) -
     match test {
         5 => payments_test(claim, pay),
         6 => rows_test(claim, pay, rows),
-        7 => first_test(claim, rows),
+        7 => least_failing(claim, cert),
         _ => nearest_failing(claim, cert, weights),
     }
+}
+
+/// The first place at which C7 fails.
+fn least_failing(claim: &Claim, cert: &Certificate) -> Option<u64>
+    requires shape { IsFor (bidders_of claim.now.book.now) (states claim.now.book.now) cert.now }
+    requires claim { IsOf claim.now (cert_value cert.now) }
+    ensures { IsFirstFailing (C7 claim.now.book.now (cert_value cert.now)) result }
+{
+    let _bidders = claim.book.bidders();
+    let rows = cert.rows.items();
+    let mut numbers = [0i128; MOST_ROWS];
+    let mut sums = [0i128; BIDDER_ROOM];
+    let firsts = &mut numbers[..rows.len()];
+    put_multipliers(rows, Multiplier::First, firsts);
+    put_sums(rows, Multiplier::First, &mut sums);
+    let first = Column {
+        numbers: firsts,
+        sums: &sums,
+    };
+    first_test(claim, &first)
 }
 
 /// The first place at which C8 fails.
@@ -110,5 +135,17 @@ fn nearest_failing(claim: &Claim, cert: &Certificate, weights: &[u32]) -> Option
     let rows = cert.rows.items();
     let mut values = [0i128; BIDDER_ROOM];
     put_values(claim, parts, &mut values);
-    second_test(claim, pay, &values, rows, weights)
+    let mut first_room = [0i128; MOST_ROWS];
+    let mut second_room = [0i128; MOST_ROWS];
+    let mut sums = [0i128; BIDDER_ROOM];
+    let firsts = &mut first_room[..rows.len()];
+    let seconds = &mut second_room[..rows.len()];
+    put_multipliers(rows, Multiplier::First, firsts);
+    put_multipliers(rows, Multiplier::Second, seconds);
+    put_sums(rows, Multiplier::Second, &mut sums);
+    let second = Column {
+        numbers: seconds,
+        sums: &sums,
+    };
+    second_test(claim, pay, &values, firsts, &second, weights)
 }

@@ -4,6 +4,7 @@
 mod checking;
 mod choice;
 mod claim;
+mod columns;
 mod judging;
 mod multipliers;
 mod parts;

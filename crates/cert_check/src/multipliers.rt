@@ -5,26 +5,26 @@ ghost use Rattle.auction_model.specs.Lowered.{of_bidder};
 ghost use Rattle.auction_model.specs.Market.{uses, worth_in};
 ghost use Rattle.auction_model.specs.Prices.{AreWeights, weight_of};
 ghost use Rattle.bid_book.specs.Kept.{IsBidBook};
+ghost use Rattle.cert_check.specs.Columns.{AreFirsts, AreFirstSums, AreSeconds, AreSecondSums};
 ghost use Rattle.cert_check.specs.Fields.{AreValuesWithout, IsOf, cert_with};
 ghost use Rattle.cert_check.specs.Places.{IsFirstFailing};
-ghost use Rattle.cert_form.specs.CertText.{AllInRange, AreRows};
-ghost use Rattle.cert_form.specs.Certificate.{CertValue, WithoutValue};
+ghost use Rattle.cert_form.specs.CertText.{AllInRange};
+ghost use Rattle.cert_form.specs.Certificate.{CertValue, RowValue, WithoutValue};
 ghost use Rattle.cert_laws.specs.Tests.{C7, C8, bidders_of};
-ghost use Rattle.cert_text.specs.Parts.{row_value};
 
 use crate::claim::Claim;
+use crate::columns::Column;
 use crate::sums::amounts::{is_equal, times, won};
-use crate::sums::{Multiplier, sum_of};
-use cert_text::CertRow;
 
-/// The first place at which C7 fails of a certificate with these rows.
-pub(crate) fn first_test(claim: &Claim, rows: &[CertRow]) -> Option<u64>
-    requires few { length rows.now ≤ 10 }
-    requires rows { AreRows (bidders_of claim.now.book.now) (map row_value rows.now) }
-    ensures { (c : CertValue) → IsOf claim.now c → c.rows ≡ map row_value rows.now → IsFirstFailing (C7 claim.now.book.now c) result }
+/// The first place at which C7 fails of a certificate with these first multipliers.
+pub(crate) fn first_test(claim: &Claim, first: &Column) -> Option<u64>
+    requires few { length first.now.numbers.now ≤ 10 }
+    requires sums { bidders_of claim.now.book.now ≤ length first.now.sums.now }
+    ensures { (c : CertValue) → IsOf claim.now c → AreFirsts c.rows first.now.numbers.now → AreFirstSums (bidders_of claim.now.book.now) c.rows first.now.sums.now
+        → IsFirstFailing (C7 claim.now.book.now c) result }
 {
-    for place in 1..rows.len() as u16 + claim.book.bidders() as u16 + 1 {
-        if !first_holds(claim, rows, place) {
+    for place in 1..first.numbers.len() as u16 + claim.book.bidders() as u16 + 1 {
+        if !first_holds(claim, first, place) {
             return Some(place as u64);
         }
     }
@@ -32,20 +32,20 @@ pub(crate) fn first_test(claim: &Claim, rows: &[CertRow]) -> Option<u64>
 }
 
 /// Whether C7 holds at a place: a row's sign, or a winner's sum.
-fn first_holds(claim: &Claim, rows: &[CertRow], place: u16) -> bool
-    requires few { length rows.now ≤ 10 }
-    requires rows { AreRows (bidders_of claim.now.book.now) (map row_value rows.now) }
-    requires place { (0 < place) × (place ≤ length rows.now + bidders_of claim.now.book.now) }
-    ensures { IsTrue result ↔ C7 claim.now.book.now (cert_with claim.now [] [] (map row_value rows.now)) place }
+fn first_holds(claim: &Claim, first: &Column, place: u16) -> bool
+    requires few { length first.now.numbers.now ≤ 10 }
+    requires sums { bidders_of claim.now.book.now ≤ length first.now.sums.now }
+    requires place { (0 < place) × (place ≤ length first.now.numbers.now + bidders_of claim.now.book.now) }
+    ensures { (rows : List RowValue) → AreFirsts rows first.now.numbers.now → AreFirstSums (bidders_of claim.now.book.now) rows first.now.sums.now
+        → IsTrue result ↔ C7 claim.now.book.now (cert_with claim.now [] [] rows) place }
 {
     let _bidders = claim.book.bidders();
-    let count = rows.len() as u16;
+    let count = first.numbers.len() as u16;
     if place <= count {
-        let row = &rows[place as usize - 1];
-        return is_first(row.first);
+        return is_first(first.numbers[place as usize - 1]);
     }
     let j = place - count;
-    is_least(claim, sum_of(rows, j, Multiplier::First), j)
+    is_least(claim, first.sums[j as usize - 1], j)
 }
 
 /// Whether the first multiplier of a row isn't below 0.
@@ -66,26 +66,28 @@ pub(crate) fn is_least(claim: &Claim, sum: i128, j: u16) -> bool
     is_equal(sum, claim.den)
 }
 
-/// The first place at which C8 fails of a certificate with these payments and rows, where the choices without the winners have
-/// these values.
+/// The first place at which C8 fails of a certificate with these payments and multipliers, where the choices without the winners
+/// have these values.
 pub(crate) fn second_test(
     claim: &Claim,
     pay: &[i128],
     values: &[i128],
-    rows: &[CertRow],
+    firsts: &[i128],
+    second: &Column,
     weights: &[u32],
 ) -> Option<u64>
     requires pay { (length pay.now ≡ bidders_of claim.now.book.now) × AllInRange pay.now }
     requires count { bidders_of claim.now.book.now ≤ length values.now }
     requires values { (j : ℕ) → 0 < j → j ≤ bidders_of claim.now.book.now → (pos 0 ≤ℤ of_bidder values.now j) × (of_bidder values.now j ≤ℤ claim.now.value) }
-    requires few { length rows.now ≤ 10 }
-    requires rows { AreRows (bidders_of claim.now.book.now) (map row_value rows.now) }
+    requires rows { (length second.now.numbers.now ≡ length firsts.now) × (length firsts.now ≤ 10) }
+    requires sums { bidders_of claim.now.book.now ≤ length second.now.sums.now }
     requires weights { AreWeights (bidders_of claim.now.book.now) weights.now }
-    ensures { (c : CertValue) → IsOf claim.now c → c.pay ≡ pay.now → c.rows ≡ map row_value rows.now → AreValuesWithout claim.now.book.now c.choice c.withouts values.now
+    ensures { (c : CertValue) → IsOf claim.now c → c.pay ≡ pay.now → AreValuesWithout claim.now.book.now c.choice c.withouts values.now
+        → AreFirsts c.rows firsts.now → AreSeconds c.rows second.now.numbers.now → AreSecondSums (bidders_of claim.now.book.now) c.rows second.now.sums.now
         → IsFirstFailing (C8 claim.now.book.now (weight_of weights.now) c) result }
 {
-    for place in 1..rows.len() as u16 + claim.book.bidders() as u16 + 1 {
-        if !second_holds(claim, pay, values, rows, weights, place) {
+    for place in 1..firsts.len() as u16 + claim.book.bidders() as u16 + 1 {
+        if !second_holds(claim, pay, values, firsts, second, weights, place) {
             return Some(place as u64);
         }
     }
@@ -97,31 +99,32 @@ fn second_holds(
     claim: &Claim,
     pay: &[i128],
     values: &[i128],
-    rows: &[CertRow],
+    firsts: &[i128],
+    second: &Column,
     weights: &[u32],
     place: u16,
 ) -> bool
     requires pay { (length pay.now ≡ bidders_of claim.now.book.now) × AllInRange pay.now }
     requires count { bidders_of claim.now.book.now ≤ length values.now }
     requires values { (j : ℕ) → 0 < j → j ≤ bidders_of claim.now.book.now → (pos 0 ≤ℤ of_bidder values.now j) × (of_bidder values.now j ≤ℤ claim.now.value) }
-    requires few { length rows.now ≤ 10 }
-    requires rows { AreRows (bidders_of claim.now.book.now) (map row_value rows.now) }
+    requires rows { (length second.now.numbers.now ≡ length firsts.now) × (length firsts.now ≤ 10) }
+    requires sums { bidders_of claim.now.book.now ≤ length second.now.sums.now }
     requires weights { AreWeights (bidders_of claim.now.book.now) weights.now }
-    requires place { (0 < place) × (place ≤ length rows.now + bidders_of claim.now.book.now) }
-    ensures { (withouts : List WithoutValue) → AreValuesWithout claim.now.book.now claim.now.choice.now withouts values.now
-        → IsTrue result ↔ C8 claim.now.book.now (weight_of weights.now) (cert_with claim.now withouts pay.now (map row_value rows.now)) place }
+    requires place { (0 < place) × (place ≤ length firsts.now + bidders_of claim.now.book.now) }
+    ensures { (withouts : List WithoutValue) (rows : List RowValue) → AreValuesWithout claim.now.book.now claim.now.choice.now withouts values.now
+        → AreFirsts rows firsts.now → AreSeconds rows second.now.numbers.now → AreSecondSums (bidders_of claim.now.book.now) rows second.now.sums.now
+        → IsTrue result ↔ C8 claim.now.book.now (weight_of weights.now) (cert_with claim.now withouts pay.now rows) place }
 {
     let _bidders = claim.book.bidders();
-    let count = rows.len() as u16;
+    let count = firsts.len() as u16;
     if place <= count {
-        let row = &rows[place as usize - 1];
-        return is_signed(row.first, row.second);
+        let r = place as usize - 1;
+        return is_signed(firsts[r], second.numbers[r]);
     }
     let j = place - count;
     let k = j as usize - 1;
     let weight = weights[j as usize - 1];
-    let sum = sum_of(rows, j, Multiplier::Second);
-    is_nearest(claim, pay[k], values[k], weight, sum, j)
+    is_nearest(claim, pay[k], values[k], weight, second.sums[k], j)
 }
 
 /// Whether the second multiplier of a row isn't below 0, or its first is above 0.

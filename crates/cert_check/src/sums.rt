@@ -68,7 +68,8 @@ pub(crate) fn sum_of(rows: &[CertRow], j: u16, which: Multiplier) -> i128
     sum
 }
 
-fn picked(row: &CertRow, which: Multiplier) -> i128
+/// A multiplier of a row.
+pub(crate) fn picked(row: &CertRow, which: Multiplier) -> i128
     ensures { result ≡ multiplier_of which (row_value row.now) }
 {
     match which {

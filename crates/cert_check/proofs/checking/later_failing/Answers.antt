@@ -2,7 +2,7 @@ use Rattle.std.proofs.Common.{ap, map, sym, arith}
 use Rattle.auction_model.specs.Prices.{weight_of}
 use Rattle.cert_text.specs.CertValues.{cert_value}
 use Rattle.cert_text.specs.Parts.{row_value}
-use Rattle.cert_check.proofs.VerdictLaws.{held-C4, asks-C5, asks-C6, asks-C7}
+use Rattle.cert_check.proofs.VerdictLaws.{held-C4, asks-C5, asks-C6}
 use Rattle.cert_check.proofs.checking.later_failing.Goals as goal
 
 pub nearest_failing-requires-clause-parts : goal.nearest_failing-requires-clause-parts
@@ -17,8 +17,3 @@ pub returns-in-6 : goal.returns-in-6
 returns-in-6 c =
     let cert = cert_value c.args.cert.now in
     asks-C6 c.args.claim.now.book.now (weight_of c.args.weights.now) cert c.args.test c.rows_test.result (omega arith) (c.rows_test.ensures cert c.requires.claim (sym c.items-pay.ensures) (ap (map row_value) (sym c.items-rows.ensures)))
-
-pub returns-in-7 : goal.returns-in-7
-returns-in-7 c =
-    let cert = cert_value c.args.cert.now in
-    asks-C7 c.args.claim.now.book.now (weight_of c.args.weights.now) cert c.args.test c.first_test.result (omega arith) (c.first_test.ensures cert c.requires.claim (ap (map row_value) (sym c.items-rows.ensures)))

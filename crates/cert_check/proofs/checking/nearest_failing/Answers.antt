@@ -1,11 +1,13 @@
-use Rattle.std.proofs.Common.{ℕ, List, map, sym, ap, subst}
+use Rattle.std.proofs.Common.{ℕ, List, map, sym, subst, arith}
 use Rattle.std.specs.Prelude.{IsTrue}
 use Rattle.auction_model.specs.Market.{uses}
 use Rattle.cert_form.specs.Certificate.{part_of}
-use Rattle.cert_laws.specs.Tests.{IsPart}
+use Rattle.cert_laws.specs.Tests.{IsPart, bidders_of}
 use Rattle.cert_text.specs.Parts.{row_value, without_value}
 use Rattle.cert_text.specs.CertValues.{cert_value}
 use Rattle.cert_text.specs.declared.certificate.WithoutPart.{WithoutPart}
+use Rattle.cert_text.specs.declared.certificate.CertRow.{CertRow}
+use Rattle.cert_check.specs.Columns.{AreFirsts, AreSeconds, AreSecondSums}
 use Rattle.cert_check.specs.Fields.{AreValuesWithout}
 use Rattle.cert_check.proofs.HeadLaws.{values-range}
 use Rattle.cert_check.proofs.checking.nearest_failing.Goals as goal
@@ -30,5 +32,9 @@ returns c =
     let a = c.args.claim.now in
     let cert = cert_value c.args.cert.now in
     let values = subst (λ (l : List WithoutPart). AreValuesWithout a.book.now a.choice.now (map without_value l) c.put_values.new.values) c.items-parts.ensures c.put_values.ensures.values in
-    c.second_test.ensures cert c.requires.claim (sym c.items-pay.ensures) (ap (map row_value) (sym c.items-rows.ensures))
+    c.second_test.ensures cert c.requires.claim (sym c.items-pay.ensures)
     (subst (λ (l : List ℕ). AreValuesWithout a.book.now l cert.withouts c.put_values.new.values) (sym c.requires.claim.choice_is) values)
+    (subst (λ (l : List CertRow). AreFirsts (map row_value l) c.put_multipliers.new.numbers) c.items-rows.ensures c.put_multipliers.ensures)
+    (subst (λ (l : List CertRow). AreSeconds (map row_value l) c.put_multipliers-2.new.numbers) c.items-rows.ensures c.put_multipliers-2.ensures)
+    (subst (λ (l : List CertRow). AreSecondSums (bidders_of a.book.now) (map row_value l) c.put_sums.new.sums) c.items-rows.ensures
+    (λ j some inside. c.put_sums.ensures.sums j some (omega (arith, inside, c.bidders-bidders.ensures.bidders, c.bidders-bidders.ensures.most))))

@@ -1,36 +1,29 @@
-use Rattle.std.proofs.Common.{◌≡◌, ◌+◌, ◌-◌, ◌≤◌, [], ℕ, ℤ, length, map, sym, ◌∙◌, subst, ap, refl, arith, rules}
-use Rattle.std.specs.Prelude.{IsTrue, ◌↔◌}
+use Rattle.std.proofs.Common.{◌≡◌, ◌+◌, ◌-◌, ◌≤◌, [], ℤ, length, get_or, pos, ◌∙◌, subst, refl, arith, rules}
+use Rattle.std.specs.Prelude.{IsTrue, ◌↔◌, ◌≤ℤ◌}
 use Rattle.std.proofs.lemmas.Int.{to_z-of_z}
-use Rattle.std.proofs.lemmas.List.{length-map}
 use mir.Val.{SFits}
 use mir.Syntax.{w128}
 use Rattle.auction_model.specs.Market.{uses}
-use Rattle.cert_form.specs.Certificate.{RowValue}
-use Rattle.cert_laws.specs.Tests.{bidders_of, sum_holding}
-use Rattle.cert_text.specs.Parts.{row_value}
+use Rattle.cert_form.specs.Certificate.{row_of}
+use Rattle.cert_laws.specs.Tests.{bidders_of}
 use Rattle.cert_check.specs.Fields.{cert_with}
-use Rattle.cert_check.proofs.SumLaws.{row-place}
 use Rattle.cert_check.proofs.PlaceLaws.{sign-C7, sum-C7}
 use Rattle.cert_check.proofs.multipliers.first_holds.Goals as goal
 
 pub returns-then-place-count : goal.returns-then-place-count
-returns-then-place-count c =
+returns-then-place-count c = λ rows numbers sums.
     let a = c.args.claim.now in
-    let row = c.index-rows-place.result in
-    let first_fits : SFits w128 c.index-rows-place.result.first = search rules in
-    sign-C7 a.book.now (cert_with a [] [] (map row_value c.args.rows.now)) c.args.place (row_value row) c.is_first.result c.requires.place.0 (omega (arith, c.if-place-count.true, length-map c.args.rows.now row_value))
-    (row-place c.args.rows.now c.args.rows.now c.args.place row c.requires.place.0 c.if-place-count.true refl c.index-rows-place.is)
-    (rw (to_z-of_z w128 c.index-rows-place.result.first first_fits) at c.is_first.ensures)
+    let le : c.args.place ≤ length rows = omega (arith, c.if-place-count.true, numbers.count) in
+    let first_fits : SFits w128 (get_or c.args.first.now.numbers.now (c.args.place - 1) (pos 0)) = search rules in
+    sign-C7 a.book.now (cert_with a [] [] rows) c.args.place (row_of rows c.args.place) c.is_first.result c.requires.place.0 le refl
+    (subst (λ (z : ℤ). IsTrue c.is_first.result ↔ (pos 0 ≤ℤ z)) (to_z-of_z w128 _ first_fits ∙ numbers.each c.args.place c.requires.place.0 le) c.is_first.ensures)
 
 pub returns : goal.returns
-returns c =
+returns c = λ rows numbers sums.
     let a = c.args.claim.now in
-    let rows = map row_value c.args.rows.now in
-    let count = length-map c.args.rows.now row_value in
-    let j = c.args.place - length c.args.rows.now in
-    let here : c.args.place ≡ length (map row_value c.args.rows.now) + (c.args.place - length c.args.rows.now) = omega (arith, count) in
-    let le : c.args.place - length c.args.rows.now ≤ bidders_of c.args.claim.now.book.now = omega (arith, c.requires.place.1) in
-    let sum_fits : SFits w128 c.sum_of.result = search rules in
-    let sum = to_z-of_z w128 c.sum_of.result sum_fits ∙ c.sum_of.ensures ∙ ap (λ (n : ℕ). sum_holding rows j (λ (row : RowValue). row.first) n) (sym count) in
+    let j = c.args.place - length c.args.first.now.numbers.now in
+    let here : c.args.place ≡ length rows + (c.args.place - length c.args.first.now.numbers.now) = omega (arith, numbers.count) in
+    let le : c.args.place - length c.args.first.now.numbers.now ≤ bidders_of c.args.claim.now.book.now = omega (arith, c.requires.place.1) in
+    let sum_fits : SFits w128 (get_or c.args.first.now.sums.now (c.args.place - length c.args.first.now.numbers.now - 1) (pos 0)) = search rules in
     sum-C7 a.book.now (cert_with a [] [] rows) c.args.place j _ here (omega arith) le
-    (subst (λ (z : ℤ). IsTrue c.is_least.result ↔ (IsTrue (uses a.choice.now j) → z ≡ a.den)) sum c.is_least.ensures)
+    (subst (λ (z : ℤ). IsTrue c.is_least.result ↔ (IsTrue (uses a.choice.now j) → z ≡ a.den)) (to_z-of_z w128 _ sum_fits ∙ sums j (omega arith) le) c.is_least.ensures)

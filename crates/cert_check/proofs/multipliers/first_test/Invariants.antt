@@ -1,9 +1,11 @@
-use Rattle.std.proofs.Common.{[], map}
+use Rattle.std.proofs.Common.{List, []}
+use Rattle.cert_form.specs.Certificate.{RowValue}
+use Rattle.cert_laws.specs.Tests.{C7, bidders_of}
+use Rattle.cert_check.specs.Columns.{AreFirsts, AreFirstSums}
 use Rattle.cert_check.specs.Fields.{cert_with}
 use Rattle.cert_check.specs.Head.{HoldsBefore}
-use Rattle.cert_laws.specs.Tests.{C7}
-use Rattle.cert_text.specs.Parts.{row_value}
 use Rattle.cert_check.proofs.multipliers.first_test.Given as goal
 
 abbrev pub invariant-loop-place : goal.invariant-loop-place
-invariant-loop-place l = HoldsBefore (C7 l.claim.book.now (cert_with l.claim [] [] (map row_value l.rows))) l.place
+invariant-loop-place l = (rows : List RowValue) → AreFirsts rows l.first.numbers.now → AreFirstSums (bidders_of l.claim.book.now) rows l.first.sums.now
+    → HoldsBefore (C7 l.claim.book.now (cert_with l.claim [] [] rows)) l.place
