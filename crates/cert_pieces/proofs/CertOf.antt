@@ -11,17 +11,21 @@ use Rattle.text_lines.specs.Range.{any_out, is_out, AllInRange}
 use Rattle.cert_form.proofs.Version.{version_is}
 use Rattle.cert_form.specs.CertText.{line, as_numbers, choice_line, table_lines, part_lines, row_lines, body_lines, cert_lines, AtMost, AreTableLines, AreWithouts, AreMembers, AreRows, IsCertificate}
 
+-- of lines in range, the first ones are
 in_left : (xs ys : List Line) → AllIn (xs ++ ys) → AllIn xs
 in_left [] ys all = tt
 in_left (x ∷ xs) ys all = (all.0, in_left xs ys all.1)
 
+-- and so are the last ones
 in_right : (xs ys : List Line) → AllIn (xs ++ ys) → AllIn ys
 in_right [] ys all = all
 in_right (x ∷ xs) ys all = in_right xs ys all.1
 
+-- the test of the range
 below : (x : ℕ) → nat_le (2 ^ 120) x ≡ false → x < 2 ^ 120
 below x is = grind (arith, nat_tests, is)
 
+-- numbers of which none is out of range
 all_in : (ns : List ℤ) → any_out ns ≡ false → AllInRange ns
 all_in [] e = tt
 all_in (n ∷ ns) e = first (is_out n) refl e (λ r. all_in ns r)
@@ -38,6 +42,7 @@ record Cut (xs ys : List Kind) (is : List Line) : Type 0 where
   first : Follows Fits after xs front
   last : Follows Fits after ys rest
 
+-- lines of two plans are cut where the second plan begins
 cut : (xs ys : List Kind) (is : List Line) → Follows Fits after (xs ++ ys) is → Cut xs ys is
 cut [] ys is f = record { front = []; rest = is; whole = refl; first = tt; last = f }
 cut (k ∷ ks) ys [] f = absurd f
@@ -58,10 +63,12 @@ record Next (word : List ℕ) (n : Numbers) (ks : List Kind) (is : List Line) : 
   fit : FitNumbers n numbers
   last : Follows Fits after (after_numbers n numbers ++ ks) rest
 
+-- lines of a plan begin with one of its first kind
 next : (word : List ℕ) (n : Numbers) (ks : List Kind) (is : List Line) → Follows Fits after (kind word n ∷ ks) is → Next word n ks is
 next word n ks [] f = absurd f
 next word n ks (i ∷ is) f = record { numbers = i.numbers; rest = is; whole = ap (λ (w : List ℕ). line w i.numbers ∷ is) f.0.word; fit = f.0.numbers; last = f.1 }
 
+-- a line of a table
 abbrev tkind : ℕ → Kind
 tkind s = kind (codes "t") (signed s)
 
@@ -71,6 +78,7 @@ record TableOf (s n : ℕ) (is : List Line) : Type 0 where
   long : length table ≡ n
   lines : AreTableLines s table
 
+-- the lines of a table
 table_of : (s n : ℕ) (is : List Line) → Follows Fits after (replicate n (tkind s)) is → AllIn is → TableOf s n is
 table_of s zero is f all = record { table = []; whole = none_left is f; long = refl; lines = tt }
 table_of s (suc n) is f all =
@@ -91,6 +99,7 @@ record Small (ns : List ℤ) : Type 0 where
   long : length numbers ≡ length ns
   most : AtMost 65535 numbers
 
+-- numbers of a choice
 small : (ns : List ℤ) → AreNumbers 65535 ns → Small ns
 small [] all = record { numbers = []; same = refl; long = refl; most = tt }
 small (pos n ∷ ns) all = let s = small ns all.2 in record { numbers = n ∷ s.numbers; same = ap (λ (l : List ℤ). pos n ∷ l) s.same; long = ap suc s.long; most = (omega (arith, ints, all.1), s.most) }
@@ -103,6 +112,7 @@ record Rising (b before : ℕ) (ns : List ℤ) : Type 0 where
   long : length numbers ≡ length ns
   members : AreMembers b before numbers
 
+-- members of a row
 rising : (b before : ℕ) (ns : List ℤ) → Rise b (pos before) ns → Rising b before ns
 rising b before [] rise = record { numbers = []; same = refl; long = refl; members = tt }
 rising b before (pos n ∷ ns) rise = let r = rising b n ns rise.2 in record { numbers = n ∷ r.numbers; same = ap (λ (l : List ℤ). pos n ∷ l) r.same; long = ap suc r.long; members = (omega (arith, ints, rise.0), omega (arith, ints, rise.1), r.members) }
@@ -113,6 +123,7 @@ record PartsOf (b s j : ℕ) (choice : List ℕ) (is : List Line) : Type 0 where
   whole : is ≡ part_lines parts
   are : AreWithouts b s j choice parts
 
+-- the lines of the parts
 parts_of : (b s j : ℕ) (choice : List ℕ) (is : List Line) → Follows Fits after (parts_plan b s j (as_numbers choice)) is → AllIn is → PartsOf b s j choice is
 parts_of b s j [] is f all = record { parts = []; whole = none_left is f; are = tt }
 parts_of b s j (zero ∷ choice) is f all = let p = parts_of b s (suc j) choice is f all in record { parts = p.parts; whole = p.whole; are = p.are }
@@ -147,17 +158,20 @@ record RowsOf (b r : ℕ) (is : List Line) : Type 0 where
   long : length rows ≡ r
   are : AreRows b rows
 
+-- a line of two numbers
 two_numbers : (ns : List ℤ) → length ns ≡ 2 → (x : ℤ) × (y : ℤ) × (ns ≡ x ∷ y ∷ [])
 two_numbers [] e = absurd (omega (arith, e))
 two_numbers (x ∷ []) e = absurd (omega (arith, e))
 two_numbers (x ∷ y ∷ []) e = (x, y, refl)
 two_numbers (x ∷ y ∷ z ∷ ns) e = absurd (omega (arith, e))
 
+-- a line of one number
 one_number : (ns : List ℤ) → length ns ≡ 1 → (x : ℤ) × (ns ≡ x ∷ [])
 one_number [] e = absurd (omega (arith, e))
 one_number (x ∷ []) e = (x, refl)
 one_number (x ∷ y ∷ ns) e = absurd (omega (arith, e))
 
+-- the lines of the rows
 rows_of : (b r : ℕ) (is : List Line) → Follows Fits after (rows_plan b r) is → AllIn is → RowsOf b r is
 rows_of b zero is f all = record { rows = []; whole = none_left is f; long = refl; are = tt }
 rows_of b (suc r) is f all =
@@ -199,6 +213,7 @@ record BodyOf (b s : ℕ) (is : List Line) : Type 0 where
   kept : IsCertificate b s cert
   whole : body_lines cert ≡ is
 
+-- the lines behind the version
 body_of : (b s : ℕ) (is : List Line) → Follows Fits after (body_plan b s) is → AllIn is → BodyOf b s is
 body_of b s is f all =
     let dens = next (codes "den") (signed 1) _ is f in

@@ -14,9 +14,11 @@ use Rattle.cert_pieces.specs.declared.due.Table.TheVariants.{Head, Part, Lowered
 use Rattle.cert_pieces.specs.Dues.{version_number}
 use Rattle.cert_pieces.specs.LinesLeft.{parts_behind, table_in, closing_left, rows_left, counted_left, parts_left, table_left, row_at, limits_lines, opening_left, lines_left, HasPart, HasDue, ComesNext}
 
+-- tests of order, as a Bool
 above : (m n : ℕ) → n < m → nat_le m n ≡ false
 above m n lt = grind (arith, nat_tests, lt)
 
+-- and the other way
 within : (m n : ℕ) → m ≤ n → nat_le m n ≡ true
 within m n le = grind (arith, nat_tests, le)
 
@@ -59,12 +61,14 @@ module _ (b s : ℕ) where
       same : (m n : ℕ) → m ≡ n → nat_eq m n ≡ true
       same m n e = grind (arith, nat_tests, e)
 
+  -- a part is not that of a later bidder
   not_found : (w : WithoutValue) (ws : List WithoutValue) (j : ℕ) → w.winner < j → part_of (w ∷ ws) j ≡ part_of ws j
   not_found w ws j lt = ap (λ (x : Bool). if x then w else part_of ws j) (other w.winner j lt)
     where
       other : (m n : ℕ) → m < n → nat_eq m n ≡ false
       other m n lt = grind (arith, nat_tests, lt)
 
+  -- the same for an equal number
   moved : (k l : ℕ) (ws : List WithoutValue) → k ≡ l → IsNextPart k ws → IsNextPart l ws
   moved k l ws is h = subst (λ (n : ℕ). IsNextPart n ws) is h
 
@@ -108,6 +112,7 @@ number_at [] i = refl
 number_at (n ∷ ns) zero = refl
 number_at (n ∷ ns) (suc i) = number_at ns i
 
+-- as many as the choice has
 long_numbers : (ns : List ℕ) → length (as_numbers ns) ≡ length ns
 long_numbers [] = refl
 long_numbers (n ∷ ns) = ap suc (long_numbers ns)
@@ -126,9 +131,11 @@ module _ (b s : ℕ) (c : CertValue) (is : IsCertificate b s c) where
       (append_assoc (table_lines c.table) (part_lines c.withouts) (line (codes "pay") c.pay ∷ counted_left c)
       ∙ ap (λ (ws : List WithoutValue). table_lines c.table ++ (part_lines ws ++ line (codes "pay") c.pay ∷ counted_left c)) (sym (behind_low b s 0 1 c.choice c.withouts is.withouts (omega arith))))
 
+  -- behind the first version the denominator comes
   pub first_comes : is_first_version b s ≡ true → ComesNext b s c Version Den
   first_comes first = record { left = ap (λ (f : Bool). line (codes "cert") (pos (version_number (is_first_version b s)) ∷ []) ∷ (limits_lines f ++ opening_left c)) first; has = tt }
 
+  -- and behind the second its limits
   pub limits_come : is_first_version b s ≡ false → ComesNext b s c Version Limits
   limits_come second = record { left = ap (λ (f : Bool). line (codes "cert") (pos (version_number (is_first_version b s)) ∷ []) ∷ (limits_lines f ++ opening_left c)) second; has = tt }
 
@@ -138,12 +145,14 @@ module _ (b s : ℕ) (c : CertValue) (is : IsCertificate b s c) where
   table_long (Part j) has = has.table.0
   table_long Lowered has = is.lowered.0
 
+  -- a line of a table comes
   line_left : (table : Table) (k : ℕ) → HasPart b s c table → k ≤ b → lines_left b s c (Entries table k) ≡ line (codes "t") (slice_index_or (table_in c table) k []) ∷ lines_left b s c (Entries table (k + 1))
   line_left table k has le =
       let lt : k < length (table_in c table) = omega (arith, table_long table has, le) in
       ap (λ (l : List (List ℤ)). table_lines l ++ table_left c table) (drop-cons (table_in c table) k [] lt)
       ∙ ap (λ (n : ℕ). line (codes "t") (slice_index_or (table_in c table) k []) ∷ (table_lines (drop n (table_in c table)) ++ table_left c table)) {x = suc k} {y = k + 1} (omega arith)
 
+  -- behind a line of a table the next one comes
   pub entries_come : (table : Table) (k : ℕ) → HasPart b s c table → k < b → ComesNext b s c (Entries table k) (Entries table (k + 1))
   entries_come table k has lt = record { left = line_left table k has (omega (arith, lt)); has = has }
 
@@ -157,9 +166,11 @@ module _ (b s : ℕ) (c : CertValue) (is : IsCertificate b s c) where
   }
 
   module _ (choice : List ℤ) (known : choice ≡ as_numbers c.choice) (k : ℕ) where
+    -- the number of a bidder
     number_is : get_or choice k (pos 0) ≡ pos (get_or c.choice k 0)
     number_is = ap (λ (l : List ℤ). get_or l k (pos 0)) known ∙ number_at c.choice k
 
+    -- how many there are
     long : length choice ≡ length c.choice
     long = ap (λ (l : List ℤ). length l) known ∙ long_numbers c.choice
 
@@ -200,6 +211,7 @@ module _ (b s : ℕ) (c : CertValue) (is : IsCertificate b s c) where
   pub no_rows : rows_left c 0 ≡ lines_left b s c (Title Lowered)
   no_rows = ap (λ (l : List RowValue). row_lines l ++ closing_left c) (drop_all (length c.rows - 0) c.rows (omega arith))
 
+  -- behind a row's members its multipliers come
   pub row_comes : (r : ℕ) → 0 < r → r ≤ length c.rows → ComesNext b s c (Members r) (Multipliers r)
   row_comes r some le = record {
     left = ap (λ (l : List RowValue). row_lines l ++ closing_left c) (drop-cons c.rows (length c.rows - r) (record { members = []; first = pos 0; second = pos 0; choice = [] }) (omega (arith, some, le)))

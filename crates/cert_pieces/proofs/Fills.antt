@@ -19,17 +19,21 @@ use Rattle.cert_pieces.proofs.CertOf.{cert_of}
 use Rattle.cert_pieces.specs.Standing.{AllIn, IsReading}
 use Rattle.cert_pieces.specs.declared.line.LinePart.{LinePart}
 
+-- so many zeros
 abbrev zeros : ℕ → List ℤ
 zeros n = replicate n (pos 0)
 
+-- how many they are
 zeros_long : (n : ℕ) → length (zeros n) ≡ n
 zeros_long zero = refl
 zeros_long (suc n) = ap suc (zeros_long n)
 
+-- they are numbers of a choice
 zeros_small : (n : ℕ) → AreNumbers 65535 (zeros n)
 zeros_small zero = tt
 zeros_small (suc n) = (omega (arith, ints), omega (arith, ints), zeros_small n)
 
+-- and in range
 zeros_in : (n : ℕ) → any_out (zeros n) ≡ false
 zeros_in zero = refl
 zeros_in (suc n) = zeros_in n
@@ -43,6 +47,7 @@ CanFill (headed b s) = Unit {0}
 CanFill (counted b) = Unit {0}
 CanFill (members b) = 0 < b
 
+-- the same for each kind of a plan
 abbrev pub CanFillAll : List Kind → Type 0
 CanFillAll [] = Unit {0}
 CanFillAll (k ∷ ks) = CanFill k.numbers × CanFillAll ks
@@ -52,6 +57,7 @@ record Filled (ks : List Kind) : Type 0 where
   follows : Follows Fits after ks lines
   inside : AllIn lines
 
+-- lines in range, one behind the other
 both_in : (xs ys : List Line) → AllIn xs → AllIn ys → AllIn (xs ++ ys)
 both_in [] ys a b = b
 both_in (x ∷ xs) ys a b = (a.0, both_in xs ys a.1 b)
@@ -62,19 +68,23 @@ record Own (n : Numbers) : Type 0 where
   inside : any_out numbers ≡ false
   next : Filled (after_numbers n numbers)
 
+-- the lines of a table
 filled_lines : (s n : ℕ) → Filled (replicate n (kind (codes "t") (signed s)))
 filled_lines s zero = record { lines = []; follows = tt; inside = tt }
 filled_lines s (suc n) =
     let rest = filled_lines s n in
     record { lines = line (codes "t") (zeros s) ∷ rest.lines; follows = (record { word = refl; numbers = zeros_long s }, rest.follows); inside = (zeros_in s, rest.inside) }
 
+-- a choice of nobody has no part
 no_parts : (b s j n : ℕ) → parts_plan b s j (zeros n) ≡ []
 no_parts b s j zero = refl
 no_parts b s j (suc n) = no_parts b s (suc j) n
 
+-- nothing is to come
 nothing : Filled []
 nothing = record { lines = []; follows = tt; inside = tt }
 
+-- a line of each kind
 own : (n : Numbers) → CanFill n → Own n
 own (these ms) can = record { numbers = ms; fit = refl; inside = can; next = nothing }
 own (signed n) can = record { numbers = zeros n; fit = zeros_long n; inside = zeros_in n; next = nothing }
@@ -89,6 +99,7 @@ own (headed b s) can = record {
 own (counted b) can = record { numbers = pos 0 ∷ []; fit = (0, refl, omega arith, λ some. absurd (omega (arith, some))); inside = refl; next = nothing }
 own (members b) can = record { numbers = pos 1 ∷ []; fit = (omega arith, (omega (arith, ints), omega (arith, ints, can), tt)); inside = refl; next = nothing }
 
+-- lines of a whole plan
 fill : (ks : List Kind) → CanFillAll ks → Filled ks
 fill [] can = nothing
 fill (k ∷ ks) can =
@@ -108,14 +119,17 @@ front_of_cert b s items plan leads inside can =
     let c = cert_of b s (items ++ rest.lines) (leads rest.lines rest.follows) (both_in items rest.lines inside rest.inside) in
     (c.cert, rest.lines, c.kept, c.whole)
 
+-- plans one behind the other
 can_append : (xs ys : List Kind) → CanFillAll xs → CanFillAll ys → CanFillAll (xs ++ ys)
 can_append [] ys a b = b
 can_append (x ∷ xs) ys a b = (a.0, can_append xs ys a.1 b)
 
+-- the lines of a table can be found
 can_lines : (s n : ℕ) → CanFillAll (replicate n (kind (codes "t") (signed s)))
 can_lines s zero = tt
 can_lines s (suc n) = (tt, can_lines s n)
 
+-- a number of a bidder is in range
 one_in : (j : ℕ) → j ≤ 65535 → any_out (pos j ∷ []) ≡ false
 one_in j le = grind (arith, nat_tests, le)
 
@@ -124,51 +138,64 @@ version_in : (first : Bool) → any_out (pos (version_number first) ∷ []) ≡ 
 version_in true = refl
 version_in false = refl
 
+-- and its limits
 can_limits : (first : Bool) → CanFillAll (limits_plan first)
 can_limits true = tt
 can_limits false = (refl, tt)
 
 module _ (b s : ℕ) where
+  -- a part
   can_part : (j : ℕ) → j ≤ 65535 → CanFillAll (part_plan b s j)
   can_part j le = (one_in j le, (tt, (refl, can_lines s (suc b))))
 
+  -- a part or none
   can_unless : (z : ℤ) (kinds : List Kind) → CanFillAll kinds → CanFillAll (unless_zero z kinds)
   can_unless (pos zero) kinds can = tt
   can_unless (pos (suc n)) kinds can = can
   can_unless (negsuc n) kinds can = can
 
+  -- the parts
   can_parts : (j : ℕ) (ns : List ℤ) → j + length ns ≤ 65536 → CanFillAll (parts_plan b s j ns)
   can_parts j [] le = tt
   can_parts j (n ∷ ns) le = can_append (unless_zero n (part_plan b s j)) (parts_plan b s (suc j) ns) (can_unless n (part_plan b s j) (can_part j (omega (arith, le)))) (can_parts (suc j) ns (omega (arith, le)))
 
+  -- the rows
   can_rows : (r : ℕ) → (0 < r → 0 < b) → CanFillAll (rows_plan b r)
   can_rows zero some = tt
   can_rows (suc r) some = (some (omega arith), (tt, (tt, can_rows r (λ _. some (omega arith)))))
 
+  -- what stands behind the rows
   can_closing : CanFillAll (closing b s)
   can_closing = (refl, can_append (table_plan b s) (kind (codes "end") (these []) ∷ []) (can_lines s (suc b)) (refl, tt))
 
+  -- what stands behind the parts
   can_ending : CanFillAll (ending b s)
   can_ending = (tt, (tt, can_closing))
 
+  -- what stands behind the version
   can_opening : CanFillAll (opening b s)
   can_opening = (tt, (tt, (tt, can_ending)))
 
   module _ (choice : List ℤ) (few : b ≤ 65535) (many : length choice ≤ b) where
+    -- the parts behind a bidder, and what stands behind them
     can_from : (j : ℕ) → j ≤ b → CanFillAll (from_part b s choice j)
     can_from j le = can_append (parts_plan b s (suc j) (drop j choice)) (ending b s) (can_parts (suc j) (drop j choice) (omega (arith, few, many, le, length-drop j choice))) can_ending
 
+    -- what stands behind a table
     can_behind : (table : Table) → IsTableOf b table → CanFillAll (behind_table b s choice table)
     can_behind Head is = can_from 0 (omega arith)
     can_behind (Part j) is = can_from j is.1
     can_behind Lowered is = (refl, tt)
 
+    -- a table, and what stands behind it
     can_title : (table : Table) → IsTableOf b table → CanFillAll (table_plan b s ++ behind_table b s choice table)
     can_title table is = can_append (table_plan b s) (behind_table b s choice table) (can_lines s (suc b)) (can_behind table is)
 
+    -- rows, and what stands behind them
     can_left : (r : ℕ) → 0 < b → CanFillAll (rows_plan b r ++ closing b s)
     can_left r some = can_append (rows_plan b r) (closing b s) (can_rows r (λ _. some)) can_closing
 
+    -- for each line that is due, all that is to come can be found
     pub can_due : (due : Due) → IsDue b due → CanFillAll (plan_due b s choice due)
     can_due Version is = (version_in (is_first_version b s), can_append (limits_plan (is_first_version b s)) (opening b s) (can_limits (is_first_version b s)) can_opening)
     can_due Limits is = (refl, can_opening)

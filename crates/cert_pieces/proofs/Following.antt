@@ -13,21 +13,26 @@ use Rattle.cert_pieces.specs.declared.line.phase.Kept.{Kept}
 use Rattle.cert_pieces.specs.Tallies.{IsKept}
 use Rattle.cert_pieces.specs.Forms.{numbers_of, room_for, MayBegin, MayFollow, Keeps, last_of}
 
+-- how many there are with one more
 pub more_long : (ns : List ℤ) (z : ℤ) (more : List ℤ) → length (ns ++ z ∷ more) ≡ length ns + suc (length more)
 more_long ns z more = length-append ns (z ∷ more)
 
+-- one more number of a choice
 small_push : (ns : List ℤ) (z : ℤ) → AreNumbers 65535 ns → pos 0 ≤ℤ z → z ≤ℤ pos 65535 → AreNumbers 65535 (ns ++ z ∷ [])
 small_push [] z all low high = (low, high, tt)
 small_push (n ∷ ns) z all low high = (all.0, all.1, small_push ns z all.2 low high)
 
+-- a number among those of a choice
 small_next : (ns : List ℤ) (z : ℤ) (more : List ℤ) → AreNumbers 65535 (ns ++ z ∷ more) → (pos 0 ≤ℤ z) × (z ≤ℤ pos 65535)
 small_next [] z more all = (all.0, all.1)
 small_next (n ∷ ns) z more all = small_next ns z more all.2
 
+-- one more member
 rise_push : (bidders : ℕ) (before : ℤ) (ns : List ℤ) (z : ℤ) → Rise bidders before ns → last_of before ns <ℤ z → z ≤ℤ pos bidders → Rise bidders before (ns ++ z ∷ [])
 rise_push bidders before [] z rise low high = (low, high, tt)
 rise_push bidders before (n ∷ ns) z rise low high = (rise.0, rise.1, rise_push bidders n ns z rise.2 low high)
 
+-- a member among others
 rise_next : (bidders : ℕ) (before : ℤ) (ns : List ℤ) (z : ℤ) (more : List ℤ) → Rise bidders before (ns ++ z ∷ more) → (last_of before ns <ℤ z) × (z ≤ℤ pos bidders)
 rise_next bidders before [] z more rise = (rise.0, rise.1)
 rise_next bidders before (n ∷ ns) z more rise = rise_next bidders n ns z more rise.2
@@ -45,6 +50,7 @@ pub last_low : (bidders : ℕ) (before : ℤ) (ns : List ℤ) → pos 0 ≤ℤ b
 last_low bidders before [] low rise = low
 last_low bidders before (n ∷ ns) low rise = last_low bidders n ns (omega (arith, ints, low, rise.0)) rise.2
 
+-- the last of the numbers
 pub last_at : (before : ℤ) (n : ℤ) (ns : List ℤ) (d : ℤ) → get_or (n ∷ ns) (length ns) d ≡ last_of before (n ∷ ns)
 last_at before n [] d = refl
 last_at before n (m ∷ ns) d = last_at n m ns d
@@ -72,6 +78,7 @@ has_to_follow (counted bidders) [] z (m ∷ more) (r, e, few, some) = absurd (tw
 has_to_follow (counted bidders) (n ∷ ns) z more (r, e, few, some) = absurd (omega (arith, ap length e, more_long ns z more))
 has_to_follow (members bidders) ns z more fit = rise_next bidders (pos 0) ns z more fit.1
 
+-- there are no more than the room is for
 pub within_room : (form : Form) (ns : List ℤ) → MayBegin (numbers_of form) ns → length ns ≤ room_for form
 within_room Nothing ns (rest, e) = omega (arith, ap length e, length-append ns rest)
 within_room (Just number) ns (rest, e) = omega (arith, ap length e, length-append ns rest)
@@ -81,6 +88,7 @@ within_room (Chosen bidders) ns begins = begins.0
 within_room (Counted bidders) ns begins = begins.0
 within_room (Members bidders) ns begins = let few = rise_few bidders 0 (pos 0) ns refl begins (omega arith) in omega (arith, few)
 
+-- one more number, in range or not
 out-push : (ns : List ℤ) (z : ℤ) → any_out (ns ++ z ∷ []) ≡ any_out ns || is_out z
 out-push [] z = alone (is_out z)
   where
@@ -114,10 +122,12 @@ has_room form ns z count room begins next many le = omega (arith, within_room fo
 pub none_next : (ns : List ℤ) (z : ℤ) → MayFollow (these []) ns z → ⊥
 none_next ns z (rest, e) = omega (arith, ap length e, more_long ns z rest)
 
+-- just one number is asked for
 pub one_next : (number : ℕ) (ns : List ℤ) (z : ℤ) → MayFollow (these (pos number ∷ [])) ns z → (length ns ≡ 0) × (z ≡ pos number)
 one_next number [] z (rest, e) = (refl, cc)
 one_next number (n ∷ ns) z (rest, e) = absurd (omega (arith, ap length e, more_long ns z rest))
 
+-- and it may stand there
 pub one_first : (number : ℕ) (ns : List ℤ) (z : ℤ) → length ns ≡ 0 → z ≡ pos number → MayFollow (these (pos number ∷ [])) ns z
 one_first number [] z none is = ([], ap (λ (x : ℤ). x ∷ []) (sym is))
 one_first number (n ∷ ns) z none is = absurd (omega (arith, none))
@@ -139,6 +149,7 @@ pub two_number : (m n number : ℕ) (ns : List ℤ) (z : ℤ) → (length ns ≡
 two_number m n number [] z none some next = (two_next m n [] z next).1 refl ∙ ap pos (sym (none refl))
 two_number m n number (x ∷ ns) z none some next = (two_next m n (x ∷ ns) z next).2 (omega arith) ∙ ap pos (sym (some (omega arith)))
 
+-- a count of rows is at most ten, and 0 without a bidder
 pub count_next : (bidders : ℕ) (most : ℤ) (ns : List ℤ) (z : ℤ) → (bidders ≡ 0 → most ≡ pos 0) → (0 < bidders → most ≡ pos 10) → MayFollow (counted bidders) ns z → (length ns ≡ 0) × (negsuc 0 <ℤ z) × (z ≤ℤ most)
 count_next bidders most ns z none some (empty, (r, e, few, has)) =
     let is : z ≡ pos r = cc in (
@@ -153,6 +164,7 @@ count_next bidders most ns z none some (empty, (r, e, few, has)) =
       ],
     )
 
+-- and such a count may stand there
 pub count_first : (bidders : ℕ) (most : ℤ) (ns : List ℤ) (z : ℤ) → (bidders ≡ 0 → most ≡ pos 0) → (0 < bidders → most ≡ pos 10) → length ns ≡ 0 → negsuc 0 <ℤ z → z ≤ℤ most → MayFollow (counted bidders) ns z
 count_first bidders most [] (pos r) none some empty low high = (
   refl,
@@ -200,12 +212,15 @@ these_whole ms ns (rest, e) same = sym (e ∙ ap (λ (l : List ℤ). ns ++ l) (n
     none [] z = refl
     none (x ∷ rest) z = absurd (omega (arith, z))
 
+-- a line without numbers is whole
 pub nothing_whole : (ns : List ℤ) → MayBegin (these []) ns → ns ≡ []
 nothing_whole ns begins = these_whole [] ns begins (omega (arith, within_room Nothing ns begins))
 
+-- with one number the line is whole
 pub just_whole : (number : ℕ) (ns : List ℤ) (count : ℕ) → length ns ≡ count → MayBegin (these (pos number ∷ [])) ns → nat_eq count 1 ≡ true → ns ≡ pos number ∷ []
 just_whole number ns count many begins one = these_whole (pos number ∷ []) ns begins (let is : count ≡ 1 = grind (arith, nat_tests, one) in omega (arith, many, is))
 
+-- and only then
 pub just_one : (number : ℕ) (ns : List ℤ) (count : ℕ) → length ns ≡ count → ns ≡ pos number ∷ [] → nat_eq count 1 ≡ true
 just_one number ns count many is = let one : count ≡ 1 = omega (arith, many, ap length is) in grind (arith, nat_tests, one)
 
@@ -213,9 +228,11 @@ just_one number ns count many is = let one : count ≡ 1 = omega (arith, many, a
 pub two_whole : (m n : ℕ) (ns : List ℤ) (count : ℕ) → length ns ≡ count → MayBegin (these (pos m ∷ pos n ∷ [])) ns → nat_eq count 2 ≡ true → ns ≡ pos m ∷ pos n ∷ []
 two_whole m n ns count many begins two = these_whole (pos m ∷ pos n ∷ []) ns begins (let is : count ≡ 2 = grind (arith, nat_tests, two) in omega (arith, many, is))
 
+-- and only then
 pub two_there : (m n : ℕ) (ns : List ℤ) (count : ℕ) → length ns ≡ count → ns ≡ pos m ∷ pos n ∷ [] → nat_eq count 2 ≡ true
 two_there m n ns count many is = let two : count ≡ 2 = omega (arith, many, ap length is) in grind (arith, nat_tests, two)
 
+-- what is kept, for equal lists, counts and flags
 pub kept_now : (ns out now : List ℤ) (count next : ℕ) (beyond flag : Bool) → Keeps ns out count beyond → out ≡ now → count ≡ next → beyond ≡ flag → Keeps ns now next flag
 kept_now ns out now count next beyond flag keeps outs counts flags =
     subst (λ (l : List ℤ). Keeps ns l next flag) outs (subst (λ (n : ℕ). Keeps ns out n flag) counts (subst (λ (b : Bool). Keeps ns out count b) flags keeps))

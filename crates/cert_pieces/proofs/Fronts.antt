@@ -6,6 +6,7 @@ use Rattle.text_lines.specs.Numeral.{numeral, signed_numeral, numbers_text}
 use Rattle.wide_num.proofs.Decimal.{AreDigits, IsDigit, IsNumeral}
 use Rattle.text_lines.proofs.Numerals.{Ends, numeral_is, numeral-more, one_signed}
 
+-- the text of one number more
 pub numbers-push : (ns : List ℤ) (z : ℤ) → numbers_text (ns ++ z ∷ []) ≡ numbers_text ns ++ 32 ∷ signed_numeral z
 numbers-push [] z = ap (λ (l : List ℕ). 32 ∷ l) (append-nil (signed_numeral z))
 numbers-push (n ∷ ns) z = ap (λ (l : List ℕ). 32 ∷ signed_numeral n ++ l) (numbers-push ns z) ∙ ap (λ (l : List ℕ). 32 ∷ l) (sym (append_assoc (signed_numeral n) (numbers_text ns) (32 ∷ signed_numeral z)))
@@ -50,6 +51,7 @@ first_byte (pos n) c r s e plain = at (numeral n) (numeral_is n).digits (numeral
     at (x ∷ ds) d some e = let same : x ≡ c = cc in subst IsDigit same d.0
 first_byte (negsuc n) c r s e plain = absurd (plain cc)
 
+-- and behind a minus a digit above 0
 pub minus_byte : (m : ℤ) (c : ℕ) (r s : List ℕ) → 45 ∷ c ∷ r ≡ signed_numeral m ++ s → IsDigit c × (48 < c)
 minus_byte (pos n) c r s e = absurd (at (numeral n) (numeral_is n).digits (numeral_is n).some e)
   where
@@ -65,6 +67,7 @@ minus_byte (negsuc n) c r s e =
     at (x ∷ []) is e = let same : x ≡ c = cc in subst (λ (b : ℕ). IsDigit b × (48 < b)) same (is.digits.0, omega (arith, is.value, is.digits.0))
     at (x ∷ y ∷ ds) is e = let same : x ≡ c = cc in subst (λ (b : ℕ). IsDigit b × (48 < b)) same (is.digits.0, is.leading (omega arith))
 
+-- digits end where neither a digit nor a space follows
 no_stop : (rest : List ℤ) (c : ℕ) (r xs ys : List ℕ) → c ≢ 32 → (IsDigit c → ⊥) → AreDigits xs → AreDigits ys → xs ++ c ∷ r ≡ ys ++ numbers_text rest → ⊥
 no_stop [] c r [] [] space digit dx dy e = cc e
 no_stop (n ∷ rest) c r [] [] space digit dx dy e = space cc

@@ -11,19 +11,23 @@ use Rattle.cert_pieces.specs.LineParts.{IsUnfit}
 use Rattle.cert_pieces.specs.Stops.{StopsFor}
 use Rattle.cert_pieces.specs.declared.stop.TextStop.TheVariants.{Form, Range}
 
+-- what stands behind a place, with more bytes
 pub drop_more : (n : ℕ) (xs ys : List ℕ) → n ≤ length xs → drop n (xs ++ ys) ≡ drop n xs ++ ys
 drop_more zero xs ys le = refl
 drop_more (suc n) [] ys le = absurd (omega (arith, le))
 drop_more (suc n) (x ∷ xs) ys le = drop_more n xs ys (omega (arith, le))
 
+-- the first list of two
 take_whole : (xs ys : List ℕ) → take (length xs) (xs ++ ys) ≡ xs
 take_whole [] ys = refl
 take_whole (x ∷ xs) ys = ap (λ (l : List ℕ). x ∷ l) (take_whole xs ys)
 
+-- and the second
 drop_whole : (xs ys : List ℕ) → drop (length xs) (xs ++ ys) ≡ ys
 drop_whole [] ys = refl
 drop_whole (x ∷ xs) ys = drop_whole xs ys
 
+-- the second behind one byte
 drop_next : (xs ys : List ℕ) (c : ℕ) → drop (length xs + 1) (xs ++ c ∷ ys) ≡ ys
 drop_next [] ys c = refl
 drop_next (x ∷ xs) ys c = ap (λ (n : ℕ). drop n (x ∷ xs ++ c ∷ ys)) same ∙ drop_next xs ys c
@@ -38,6 +42,7 @@ record HasLine (xs : List ℕ) : Type 0 where
   feed : drop size xs ≡ 10 ∷ drop (size + 1) xs
   inside : size < length xs
 
+-- bytes have a line feed or none
 first_line : (xs : List ℕ) → IsLine xs ⊎ HasLine xs
 first_line [] = inl tt
 first_line (x ∷ xs) =
@@ -63,11 +68,13 @@ longer_line [] more r m is feed = (take m more, refl)
 longer_line (x ∷ front) more r zero is feed = absurd (is.0 cc)
 longer_line (x ∷ front) more r (suc m) is feed = let rest = longer_line front more r m is.1 feed in (rest.0, ap (λ (l : List ℕ). x ∷ l) rest.1)
 
+-- one more byte of a line
 pub line_push : (xs : List ℕ) (c : ℕ) → IsLine xs → c ≢ 10 → IsLine (xs ++ c ∷ [])
 line_push [] c is other = (other, tt)
 line_push (x ∷ xs) c is other = (is.0, line_push xs c is.1 other)
 
 module _ (b s : ℕ) (text : List ℕ) (place : ℕ) where
+  -- the place is within the text
   pub reached_within : (plan : List Kind) (items : List Line) → Reached b s text place plan items → place ≤ length text
   reached_within plan items here = omega (arith, here.so_far.here, ap length here.so_far.split, length-append (text_of here.so_far.behind) (drop place text))
 
@@ -88,27 +95,34 @@ module _ (b s : ℕ) (text : List ℕ) (place : ℕ) where
         mark_is = here.mark_is;
       }
 
+  -- what stands behind the place, with one more byte
   behind : (plan : List Kind) (items : List Line) → Reached b s text place plan items → (c : ℕ) (more : List ℕ) → drop place ((text ++ c ∷ []) ++ more) ≡ drop place text ++ c ∷ more
   behind plan items here c more = ap (λ (l : List ℕ). drop place l) (append_assoc text (c ∷ []) more) ∙ drop_more place text (c ∷ more) (reached_within plan items here)
 
   module _ (word : List ℕ) (n : Numbers) (plan : List Kind) (items : List Line) (here : Reached b s text place (kind word n ∷ plan) items) (is_line : IsLine (drop place text)) where
+    -- the line so far
     abbrev this : List ℕ
     this = drop place text
 
+    -- the place is still reached
     grown : (more : List ℕ) → Reached b s ((text ++ 10 ∷ []) ++ more) place (kind word n ∷ plan) items
     grown more = subst (λ (l : List ℕ). Reached b s l place (kind word n ∷ plan) items) (sym (append_assoc text (10 ∷ []) more)) (reached_more (kind word n ∷ plan) items (10 ∷ more) here)
 
+    -- what stands behind it
     tail_is : (more : List ℕ) → drop place ((text ++ 10 ∷ []) ++ more) ≡ this ++ 10 ∷ more
     tail_is more = behind (kind word n ∷ plan) items here 10 more
 
+    -- the line is whole
     line_is : (more : List ℕ) → take (length this) (drop place ((text ++ 10 ∷ []) ++ more)) ≡ this
     line_is more = ap (λ (l : List ℕ). take (length this) l) (tail_is more) ∙ take_whole this (10 ∷ more)
 
+    -- and the line feed follows it
     ends_line : (more : List ℕ) → drop (length this) (drop place ((text ++ 10 ∷ []) ++ more)) ≡ 10 ∷ drop (length this + 1) (drop place ((text ++ 10 ∷ []) ++ more))
     ends_line more =
         ap (λ (l : List ℕ). drop (length this) l) (tail_is more) ∙ drop_whole this (10 ∷ more)
         ∙ ap (λ (l : List ℕ). 10 ∷ l) (sym (ap (λ (l : List ℕ). drop (length this + 1) l) (tail_is more) ∙ drop_next this more 10))
 
+    -- it has no line feed
     fine_line : (more : List ℕ) → IsLine (take (length this) (drop place ((text ++ 10 ∷ []) ++ more)))
     fine_line more = subst IsLine (sym (line_is more)) is_line
 
@@ -170,5 +184,6 @@ module _ (b s : ℕ) (text : List ℕ) (place : ℕ) where
         split : drop place ((text ++ c ∷ []) ++ more) ≡ c ∷ more
         split = behind [] items here c more ∙ ap (λ (l : List ℕ). l ++ c ∷ more) none
 
+    -- the plan is done, and the text ends
     pub all_there : IsTextOf (IsCertText b s) lines text items
     all_there = reached-end b s text place items here (ap length none)

@@ -20,6 +20,7 @@ module _ (b s : ℕ) (choice : List ℤ) where
       same : suc k ≡ k + 1
       same = omega arith
 
+  -- the bidder behind the first k has one
   pub a_part : (k : ℕ) → k < length choice → get_or choice k (pos 0) ≢ pos 0 → from_part b s choice k ≡ plan_due b s choice (Without (k + 1))
   a_part k lt some =
       ap (λ (l : List ℤ). parts_plan b s (suc k) l ++ ending b s) (drop-cons choice k (pos 0) lt)
@@ -39,6 +40,7 @@ module _ (b s : ℕ) (choice : List ℤ) where
       whole : (k : ℕ) → part_plan b s (suc k) ++ (parts_plan b s (suc (suc k)) (drop (suc k) choice) ++ ending b s) ≡ plan_due b s choice (Without (suc k))
       whole k = refl
 
+  -- no bidder is left
   pub last_part : (k : ℕ) → length choice ≤ k → from_part b s choice k ≡ ending b s
   last_part k le = ap (λ (l : List ℤ). parts_plan b s (suc k) l ++ ending b s) (drop_all k choice le)
 
@@ -46,6 +48,7 @@ module _ (b s : ℕ) (choice : List ℤ) where
   pub first_version : (ns : List ℤ) → is_first_version b s ≡ true → Follows b s choice Version ns Den
   first_version ns is = ap (λ (first : Bool). limits_plan first ++ opening b s) is
 
+  -- and of the second
   pub second_version : (ns : List ℤ) → is_first_version b s ≡ false → Follows b s choice Version ns Limits
   second_version ns is = ap (λ (first : Bool). limits_plan first ++ opening b s) is
 
@@ -62,6 +65,7 @@ module _ (b s : ℕ) (choice : List ℤ) where
       left : (k : ℕ) → k < b → b - k ≡ suc (b - (k + 1))
       left k lt = omega (arith, lt)
 
+  -- and behind its last one
   pub no_entries : (table : Table) (k : ℕ) (ns : List ℤ) (next : Due) → b ≤ k → behind_table b s choice table ≡ plan_due b s choice next → Follows b s choice (Entries table k) ns next
   no_entries table k ns next le is = ap (λ (n : ℕ). replicate n (kind (codes "t") (signed s)) ++ behind_table b s choice table) (none k le) ∙ is
     where

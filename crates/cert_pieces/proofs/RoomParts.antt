@@ -16,6 +16,7 @@ use Rattle.cert_pieces.specs.Forms.{numbers_of, room_for}
 use Rattle.cert_pieces.specs.Rooms.{den_start, value_start, payments_start, part_start, members_start, row_choice_start, rows_start, entries_start, form_due, start_due, segment, KeepsOthers}
 use Rattle.cert_pieces.proofs.Segments.{part_fits, line_of}
 
+-- fewer of the first numbers
 take_less : (size start : ℕ) (xs : List ℤ) → size ≤ start → take size xs ≡ take size (take start xs)
 take_less zero start xs le = refl
 take_less (suc size) zero xs le = absurd (omega (arith, le))
@@ -29,6 +30,7 @@ within_front (suc from) size zero xs le = absurd (omega (arith, le))
 within_front (suc from) size (suc start) [] le = refl
 within_front (suc from) size (suc start) (x ∷ xs) le = within_front from size start xs (omega (arith, le))
 
+-- numbers behind a place
 within_back : (from end : ℕ) (xs : List ℤ) → end ≤ from → drop from xs ≡ drop (from - end) (drop end xs)
 within_back from end xs le = sym (drop-drop (from - end) end xs ∙ ap (λ (n : ℕ). drop n xs) {y = from} (omega (arith, le)))
 
@@ -41,11 +43,13 @@ abbrev Ascends : ℕ → List ℕ → Type 0
 Ascends m [] = Unit {0}
 Ascends m (x ∷ xs) = (m ≤ x) × Ascends x xs
 
+-- all are at least the first
 at_least : (m : ℕ) (xs : List ℕ) (i : ℕ) → Ascends m xs → i < length xs → m ≤ get_or xs i 0
 at_least m [] i up lt = absurd (omega (arith, lt))
 at_least m (x ∷ xs) zero up lt = up.0
 at_least m (x ∷ xs) (suc i) up lt = omega (arith, up.0, at_least x xs i up.1 (omega (arith, lt)))
 
+-- a later number is at least an earlier one
 ascending : (m : ℕ) (xs : List ℕ) (i j : ℕ) → Ascends m xs → i ≤ j → j < length xs → get_or xs i 0 ≤ get_or xs j 0
 ascending m [] i j up le lt = absurd (omega (arith, lt))
 ascending m (x ∷ xs) zero zero up le lt = omega arith
@@ -53,6 +57,7 @@ ascending m (x ∷ xs) zero (suc j) up le lt = at_least x xs j up.1 (omega (arit
 ascending m (x ∷ xs) (suc i) zero up le lt = absurd (omega (arith, le))
 ascending m (x ∷ xs) (suc i) (suc j) up le lt = ascending x xs i j up.1 (omega (arith, le)) (omega (arith, lt))
 
+-- the parts of the room stand in order
 bounds_ascend : (b s : ℕ) → Ascends 0 (bounds b s)
 bounds_ascend b s = (omega arith, (omega arith, (omega arith, (omega arith, (omega arith, (omega arith, (omega arith, (omega arith, (omega arith, (omega arith, (omega arith, tt)))))))))))
 
@@ -68,6 +73,7 @@ part_due (RowChoice r) = 7
 part_due (Entries table k) = 9
 part_due due = 1
 
+-- there are ten
 few_parts : (due : Due) → part_due due ≤ 9
 few_parts Version = omega arith
 few_parts Limits = omega arith
@@ -106,6 +112,7 @@ module _ (b s : ℕ) where
   from_bound End = omega arith
   from_bound Nothing = omega arith
 
+  -- and end in it
   to_bound : (due : Due) → IsDue b due → start_due b s due + room_for (form_due b s due) ≤ get_or (bounds b s) (suc (part_due due)) 0
   to_bound Version is = omega arith
   to_bound Limits is = omega arith
@@ -126,10 +133,12 @@ module _ (b s : ℕ) where
 
   -- A line has been read, and the room has other numbers only in the line's segment.
   module _ (due : Due) (is : IsDue b due) (old new : List ℤ) (others : KeepsOthers b s due old new) where
+    -- numbers before the segment
     before_line : (from size : ℕ) → from + size ≤ start_due b s due → take size (drop from new) ≡ take size (drop from old)
     before_line from size le =
         within_front from size (start_due b s due) new le ∙ ap (λ (l : List ℤ). take size (drop from l)) others.front ∙ sym (within_front from size (start_due b s due) old le)
 
+    -- numbers behind it
     behind_line : (from size : ℕ) → start_due b s due + room_for (form_due b s due) ≤ from → take size (drop from new) ≡ take size (drop from old)
     behind_line from size le =
         let end = start_due b s due + room_for (form_due b s due) in
@@ -222,6 +231,7 @@ IsFixed (Chosen bidders) = Unit {0}
 IsFixed (Counted bidders) = Unit {0}
 IsFixed (form.Members bidders) = ⊥
 
+-- how many numbers such a line has
 fixed_long : (f : Form) (ns : List ℤ) → IsFixed f → FitNumbers (numbers_of f) ns → length ns ≡ room_for f
 fixed_long form.Nothing ns fixed fit = ap (λ (l : List ℤ). length l) fit
 fixed_long (Just number) ns fixed fit = ap (λ (l : List ℤ). length l) fit
@@ -231,6 +241,7 @@ fixed_long (Chosen bidders) ns fixed fit = fit.0
 fixed_long (Counted bidders) ns fixed fit = ap (λ (l : List ℤ). length l) fit.1
 fixed_long (form.Members bidders) ns fixed fit = absurd fixed
 
+-- the first numbers, twice
 take_twice : (n : ℕ) (xs : List ℤ) → take n (take n xs) ≡ take n xs
 take_twice zero xs = refl
 take_twice (suc n) [] = refl

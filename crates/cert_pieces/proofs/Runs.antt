@@ -17,6 +17,7 @@ use Rattle.cert_pieces.specs.declared.line.Outcome.TheVariants.{Open, Whole, Fau
 use Rattle.cert_pieces.specs.LineParts.{IsPart, Becomes, ReadsOn}
 use Rattle.cert_pieces.proofs.Fronts.{numbers-push, numeral_push}
 
+-- one byte more of a piece
 pub between_more : (at i : ℕ) (piece : List ℕ) → at ≤ i → i < length piece → between at (i + 1) piece ≡ between at i piece ++ get_or piece i 0 ∷ []
 between_more at i piece le lt =
     ap (λ (n : ℕ). take n (drop at piece)) (omega (arith, le))
@@ -46,12 +47,14 @@ open_on negative t u (negsuc n) ds last some all tally =
       ap (λ (l : List ℕ). 45 ∷ l) (ap numeral back ∙ numeral_on (suc n) ds (omega arith) all),
     )
 
+-- a line with more digits
 pub line_on : (word : List ℕ) (ns : List ℤ) (z x : ℤ) (bytes ds : List ℕ) → bytes ≡ word ++ numbers_text (ns ++ z ∷ []) → signed_numeral x ≡ signed_numeral z ++ ds → bytes ++ ds ≡ word ++ numbers_text (ns ++ x ∷ [])
 line_on word ns z x bytes ds is e =
     ap (λ (l : List ℕ). l ++ ds) (is ∙ ap (λ (l : List ℕ). word ++ l) (numbers-push ns z))
     ∙ append_assoc word (numbers_text ns ++ 32 ∷ signed_numeral z) ds
     ∙ ap (λ (l : List ℕ). word ++ l) (append_assoc (numbers_text ns) (32 ∷ signed_numeral z) ds ∙ ap (λ (l : List ℕ). numbers_text ns ++ 32 ∷ l) (sym e) ∙ sym (numbers-push ns x))
 
+-- digits are no line feed
 pub digits_line : (ds : List ℕ) → AreDigits ds → IsLine ds
 digits_line [] all = tt
 digits_line (d ∷ ds) all = (λ e. omega (arith, e, all.0.0), digits_line ds all.1)
@@ -64,27 +67,33 @@ between_join at mid end piece from to =
     ∙ sym (take-add (mid - at) (end - mid) (drop at piece))
     ∙ ap (λ (n : ℕ). take n (drop at piece)) (omega (arith, from, to))
 
+-- two pieces of a line
 pub lines_join : (xs ys : List ℕ) → IsLine xs → IsLine ys → IsLine (xs ++ ys)
 lines_join [] ys a b = b
 lines_join (x ∷ xs) ys a b = (a.0, lines_join xs ys a.1 b)
 
 module _ (word : List ℕ) (form : Form) where
+  -- two pieces, one behind the other
   pub part_join : (part : LinePart) (out : List ℤ) (bytes piece : List ℕ) (at mid end : ℕ) → at ≤ mid → mid ≤ end → IsPart word form part out ((bytes ++ between at mid piece) ++ between mid end piece) → IsPart word form part out (bytes ++ between at end piece)
   part_join part out bytes piece at mid end from to is =
       subst (IsPart word form part out) (append_assoc bytes (between at mid piece) (between mid end piece) ∙ ap (λ (l : List ℕ). bytes ++ l) (between_join at mid end piece from to)) is
 
+  -- one byte more
   pub part_next : (part : LinePart) (out : List ℤ) (bytes piece : List ℕ) (at end : ℕ) → at ≤ end → end < length piece → IsPart word form part out ((bytes ++ between at end piece) ++ get_or piece end 0 ∷ []) → IsPart word form part out (bytes ++ between at (end + 1) piece)
   part_next part out bytes piece at end from lt is =
       subst (IsPart word form part out) (append_assoc bytes (between at end piece) (get_or piece end 0 ∷ []) ∙ ap (λ (l : List ℕ). bytes ++ l) (sym (between_more at end piece from lt))) is
 
+  -- and it is no line feed
   pub line_next : (piece : List ℕ) (at end : ℕ) → at ≤ end → end < length piece → get_or piece end 0 ≢ 10 → IsLine (between at end piece) → IsLine (between at (end + 1) piece)
   line_next piece at end from lt other is = subst IsLine (sym (between_more at end piece from lt)) (lines_join (between at end piece) (get_or piece end 0 ∷ []) is (other, tt))
 
+  -- a byte that ends a line or makes it wrong
   pub reads_stop : (part : LinePart) (out : List ℤ) (bytes piece : List ℕ) (at end : ℕ) (outcome : Outcome) → (outcome ≡ Open → ⊥) → end < length piece → Becomes word form part out (bytes ++ between at end piece) (get_or piece end 0) outcome → ReadsOn word form part out bytes piece at end outcome
   reads_stop part out bytes piece at end Open other lt becomes = absurd (other refl)
   reads_stop part out bytes piece at end Whole other lt becomes = (lt, becomes.0, becomes.1)
   reads_stop part out bytes piece at end Fault other lt becomes = (lt, becomes)
 
+-- digits one behind the other
 pub digits_join : (xs ys : List ℕ) → AreDigits xs → AreDigits ys → AreDigits (xs ++ ys)
 digits_join [] ys a b = b
 digits_join (x ∷ xs) ys a b = (a.0, digits_join xs ys a.1 b)

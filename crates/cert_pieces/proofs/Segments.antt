@@ -70,10 +70,12 @@ behind_choice b s (RowChoice r) other = omega arith
 behind_choice b s End other = omega arith
 behind_choice b s Nothing other = omega arith
 
+-- the first list of two
 take_front : (xs ys : List ℤ) → take (length xs) (xs ++ ys) ≡ xs
 take_front [] ys = refl
 take_front (x ∷ xs) ys = ap (λ (l : List ℤ). x ∷ l) (take_front xs ys)
 
+-- what stands behind the first numbers
 drop_front : (n : ℕ) (xs ys : List ℤ) → n ≤ length xs → drop n (take n xs ++ ys) ≡ ys
 drop_front zero xs ys le = refl
 drop_front (suc n) [] ys le = absurd (omega (arith, le))

@@ -23,6 +23,7 @@ use Rattle.cert_pieces.specs.Standing.{AllIn, Lead, IsReading, IsEnding, ReadsBe
 use Rattle.cert_pieces.proofs.Runs.{lines_join}
 use Rattle.cert_pieces.proofs.Places.{reached_more, reached_within, drop_more, line_unfit, line_done, line_out, line_unfinished, behind_last, all_there}
 
+-- one more line in range
 all_push : (items : List Line) (l : Line) → AllIn items → over l ≡ false → AllIn (items ++ l ∷ [])
 all_push [] l all own = (own, tt)
 all_push (x ∷ items) l all own = (all.0, all_push items l all.1 own)
@@ -83,6 +84,7 @@ to_due b s (RowChoice r) ns fit = fit
 to_due b s End ns fit = fit
 to_due b s Nothing ns fit = fit
 
+-- and the other way
 pub from_due : (b s : ℕ) (due : Due) (ns : List ℤ) → FitNumbers (numbers_due b s due) ns → FitNumbers (numbers_of (form_due b s due)) ns
 from_due b s Version ns fit = fit
 from_due b s Limits ns fit = fit
@@ -107,21 +109,27 @@ module _ (b s : ℕ) (due : Due) (part : LinePart) (place read : ℕ) (room : Li
   more_behind none c = behind_last b s text place items (subst (λ (d : Due). Reached b s text place (plan_due b s (take b room) d) items) none is.reached) (is.done none) c
 
   module _ (some : due ≡ Nothing → ⊥) (more : List ℕ) (line : IsLine more) (now : LinePart) (grown : List ℤ) (same : due ≢ Choice → take b grown ≡ take b room) where
+    -- what stands behind the place, with more bytes
     there : drop place (text ++ more) ≡ drop place text ++ more
     there = drop_more place text more (reached_within b s text place (plan_due b s (take b room) due) items is.reached)
 
+    -- the place is still reached
     further : Reached b s (text ++ more) place (plan_due b s (take b room) due) items
     further = reached_more b s text place (plan_due b s (take b room) due) items more is.reached
 
+    -- the line has no line feed
     longer : IsLine (drop place (text ++ more))
     longer = subst IsLine (sym there) (lines_join (drop place text) more is.line line)
 
+    -- the line that is due is the next of the plan
     planned : Reached b s (text ++ more) place (kind (word_of due) (numbers_due b s due) ∷ behind b s (take b room) due) items
     planned = subst (λ (p : List Kind). Reached b s (text ++ more) place p items) (plan_is b s (take b room) due some) further
 
+    -- the plan is the same in the room as it is now
     renewed : Reached b s (text ++ more) place (plan_due b s (take b grown) due) items
     renewed = subst (λ (p : List Kind). Reached b s (text ++ more) place p items) (same_plan b s (take b room) (take b grown) due (λ other. sym (same other))) further
 
+    -- and lines of it still go on to the end
     leading : Lead b s (plan_due b s (take b grown) due) items
     leading rest f = is.leads rest (subst (λ (p : List Kind). ToEnd Fits after p rest) (same_plan b s (take b grown) (take b room) due same) f)
 
@@ -159,9 +167,11 @@ module _ (b s : ℕ) (due : Due) (part : LinePart) (place read : ℕ) (room : Li
     }
 
 module _ (b s : ℕ) (due : Due) (part : LinePart) (place read : ℕ) (room : List ℤ) (text : List ℕ) (items : List Line) (is : IsEnding b s due part place read room text items) where
+  -- the line that is due is the next of the plan
   set_out : Reached b s text place (kind (word_of due) (numbers_due b s due) ∷ behind b s (take b room) due) items
   set_out = subst (λ (p : List Kind). Reached b s text place p items) (plan_is b s (take b room) due is.some) is.reached
 
+  -- that line
   abbrev own : Line
   own = line (word_of due) is.whole.numbers
 
@@ -233,9 +243,11 @@ module _ (b s : ℕ) (due : Due) (part : LinePart) (place read : ℕ) (room : Li
       known End ns fit keeps at = tt
       known Nothing ns fit keeps at = tt
 
+-- a reader that has not stopped reads on
 pub still_reading : (b s : ℕ) (due : Due) (part : LinePart) (place read : ℕ) (room : List ℤ) (text : List ℕ) (items : List Line) (stop : Option TextStop) → stop ≡ None → ReadsBehind b s due part place read room text items stop → IsReading b s due part place read room text items
 still_reading b s due part place read room text items stop none is = subst (ReadsBehind b s due part place read room text items) none is
 
+-- and the other way
 pub reads_on : (b s : ℕ) (due : Due) (part : LinePart) (place read : ℕ) (room : List ℤ) (text : List ℕ) (items : List Line) (stop : Option TextStop) → stop ≡ None → IsReading b s due part place read room text items → ReadsBehind b s due part place read room text items stop
 reads_on b s due part place read room text items stop none is = subst (ReadsBehind b s due part place read room text items) (sym none) is
 
@@ -248,6 +260,7 @@ version_due false = refl
 pub first_plan : (b s : ℕ) (choice : List ℤ) → plan_due b s choice Version ≡ cert_plan b s
 first_plan b s choice = sym (ap (λ (l : List Kind). l ++ body_plan b s) (version_due (is_first_version b s)))
 
+-- a reader to which nothing was fed
 pub at_first : (b s : ℕ) (part : LinePart) (room : List ℤ) → ((out : List ℤ) → IsPart (word_of Version) (form_due b s Version) part out []) → IsReading b s Version part 0 0 room [] []
 at_first b s part room fresh = record {
   reached = subst (λ (p : List Kind). Reached b s [] 0 p []) (sym (first_plan b s (take b room))) (reached-start b s []);
@@ -260,12 +273,15 @@ at_first b s part room fresh = record {
   long = refl;
 }
 
+-- a stop is one of each longer text
 pub stands_more : (b s : ℕ) (text more : List ℕ) (stop : TextStop) → StopsFor b s text stop → StopsFor b s (text ++ more) stop
 stands_more b s text more stop is rest = subst (λ (l : List ℕ). SaysStop b s l stop) (sym (append_assoc text more rest)) (is (more ++ rest))
 
+-- and of the text itself
 pub says : (b s : ℕ) (text : List ℕ) (stop : TextStop) → StopsFor b s text stop → SaysStop b s text stop
 says b s text stop is = subst (λ (l : List ℕ). SaysStop b s l stop) (append-nil text) (is [])
 
+-- what a reader that has stopped says
 pub stopped : (b s : ℕ) (due : Due) (part : LinePart) (place read : ℕ) (room : List ℤ) (text : List ℕ) (items : List Line) (o : Option TextStop) (stop : TextStop) → o ≡ Some stop → ReadsBehind b s due part place read room text items o → SaysStop b s text stop
 stopped b s due part place read room text items o stop some is = says b s text stop (subst (ReadsBehind b s due part place read room text items) some is)
 
@@ -274,6 +290,7 @@ pub not_yet : (b s : ℕ) (due : Due) (part : LinePart) (place read : ℕ) (room
 not_yet b s due part place read room text items is some =
     line_unfinished b s text place (word_of due) (numbers_due b s due) (behind b s (take b room) due) items (subst (λ (p : List Kind). Reached b s text place p items) (plan_is b s (take b room) due some) is.reached) is.line
 
+-- no line is due: the text is whole
 pub whole_text : (b s : ℕ) (due : Due) (part : LinePart) (place read : ℕ) (room : List ℤ) (text : List ℕ) (items : List Line) → IsReading b s due part place read room text items → due ≡ Nothing → IsTextOf (IsCertText b s) lines text items
 whole_text b s due part place read room text items is none = all_there b s text place items (subst (λ (d : Due). Reached b s text place (plan_due b s (take b room) d) items) none is.reached) (is.done none)
 

@@ -17,19 +17,23 @@ module _ (word : List ℕ) (ns : List ℤ) (tail bytes : List ℕ) (is : bytes �
       sym (append_assoc (numbers_text ns) tail x)
       ∙ word_off word ((numbers_text ns ++ tail) ++ x) (numbers_text ms) (sym (append_assoc word (numbers_text ns ++ tail) x) ∙ ap (λ (l : List ℕ). l ++ x) (sym is) ∙ e)
 
+  -- and where nothing follows
   pub behind_last : (ms : List ℤ) → bytes ≡ word ++ numbers_text ms → numbers_text ns ++ tail ≡ numbers_text ms
   behind_last ms e = word_off word (numbers_text ns ++ tail) (numbers_text ms) (sym is ∙ e)
 
+  -- more bytes behind the numbers
   pub longer : (x : List ℕ) → bytes ++ x ≡ word ++ (numbers_text ns ++ (tail ++ x))
   longer x = ap (λ (l : List ℕ). l ++ x) is ∙ append_assoc word (numbers_text ns ++ tail) x ∙ ap (λ (l : List ℕ). word ++ l) (append_assoc (numbers_text ns) tail x)
 
 module _ (word : List ℕ) (ns : List ℤ) (bytes : List ℕ) (c : ℕ) where
+  -- behind a space neither a digit nor a minus
   pub space_refused : bytes ≡ word ++ (numbers_text ns ++ 32 ∷ []) → c ≢ 45 → (IsDigit c → ⊥) → IsRefused word bytes c
   space_refused is minus digit = record {
     ended = λ e ms text. let m = next_number ns ms [] (behind_last word ns (32 ∷ []) bytes is ms text) in some_byte m.0 (numbers_text m.1) m.2;
     inside = λ e ms rest text. let m = next_number ns ms (c ∷ rest) (behind word ns (32 ∷ []) bytes is (c ∷ rest) ms text) in digit (first_byte m.0 c rest (numbers_text m.1) m.2 minus);
   }
 
+  -- behind a minus no digit above 0
   pub minus_refused : bytes ≡ word ++ (numbers_text ns ++ 32 ∷ 45 ∷ []) → (IsDigit c → 48 < c → ⊥) → IsRefused word bytes c
   minus_refused is digit = record {
     ended = λ e ms text. let m = next_number ns ms (45 ∷ []) (behind_last word ns (32 ∷ 45 ∷ []) bytes is ms text) in lone m.0 (numbers_text m.1) m.2;
@@ -44,6 +48,7 @@ module _ (word : List ℕ) (ns : List ℤ) (bytes : List ℕ) (c : ℕ) where
           at (x ∷ ds) is e = let same : x ≡ 45 = cc in omega (arith, is.digits.0.0, same)
       lone (negsuc n) s e = some_byte (pos (suc n)) s cc
 
+  -- behind the word neither a space nor a line feed
   pub word_refused : (count : ℕ) → length word ≤ count → bytes ≡ take count word → c ≢ 32 → c ≢ 10 → IsRefused word bytes c
   word_refused count le is space feed = record {
     ended = λ e. absurd (feed e);
@@ -54,9 +59,11 @@ module _ (word : List ℕ) (ns : List ℤ) (bytes : List ℕ) (c : ℕ) where
       first [] rest e = cc
       first (m ∷ ms) rest e = space cc
 
+  -- the last number behind its space
   whole : (z : ℤ) → bytes ≡ word ++ numbers_text (ns ++ z ∷ []) → bytes ≡ word ++ (numbers_text ns ++ 32 ∷ signed_numeral z)
   whole z is = is ∙ ap (λ (l : List ℕ). word ++ l) (numbers-push ns z)
 
+  -- behind digits neither a digit, a space nor a line feed; behind 0 no digit
   pub digit_refused : (z : ℤ) → bytes ≡ word ++ numbers_text (ns ++ z ∷ []) → c ≢ 32 → c ≢ 10 → (IsDigit c → unsigned_abs z ≡ 0) → IsRefused word bytes c
   digit_refused z is space feed digit = record {
     ended = λ e. absurd (feed e);
@@ -69,6 +76,7 @@ module _ (word : List ℕ) (ns : List ℤ) (bytes : List ℕ) (c : ℕ) where
       zero (pos n) m rest more d none e = zero_byte m c rest more d (ap (λ (l : List ℕ). l ++ c ∷ rest) (sym (ap numeral none ∙ numeral-one 0 (omega arith))) ∙ e)
       zero (negsuc n) m rest more d none e = omega (arith, none)
 
+  -- a digit behind a space
   pub space_digit : (t : Tally) → bytes ≡ word ++ (numbers_text ns ++ 32 ∷ []) → IsDigit c → IsTally t (c - 48) → (z : ℤ) × IsOpen false t z × (bytes ++ c ∷ [] ≡ word ++ numbers_text (ns ++ z ∷ []))
   space_digit t is digit tally =
       let one : numeral (c - 48) ≡ c ∷ [] = numeral-one (c - 48) (omega (arith, digit)) ∙ ap (λ (k : ℕ). k ∷ []) (omega (arith, digit)) in (
@@ -77,6 +85,7 @@ module _ (word : List ℕ) (ns : List ℤ) (bytes : List ℕ) (c : ℕ) where
         longer word ns (32 ∷ []) bytes is (c ∷ []) ∙ ap (λ (l : List ℕ). word ++ (numbers_text ns ++ 32 ∷ l)) (sym one) ∙ ap (λ (l : List ℕ). word ++ l) (sym (numbers-push ns (pos (c - 48)))),
       )
 
+  -- a digit behind a minus
   pub minus_digit : (t : Tally) → bytes ≡ word ++ (numbers_text ns ++ 32 ∷ 45 ∷ []) → IsDigit c → 48 < c → IsTally t (c - 48) → (z : ℤ) × IsOpen true t z × (bytes ++ c ∷ [] ≡ word ++ numbers_text (ns ++ z ∷ []))
   minus_digit t is digit some tally =
       let one : numeral (suc (c - 49)) ≡ c ∷ [] = numeral-one (suc (c - 49)) (omega (arith, digit, some)) ∙ ap (λ (k : ℕ). k ∷ []) (omega (arith, digit, some)) in (
@@ -85,6 +94,7 @@ module _ (word : List ℕ) (ns : List ℤ) (bytes : List ℕ) (c : ℕ) where
         longer word ns (32 ∷ 45 ∷ []) bytes is (c ∷ []) ∙ ap (λ (l : List ℕ). word ++ (numbers_text ns ++ 32 ∷ 45 ∷ l)) (sym one) ∙ ap (λ (l : List ℕ). word ++ l) (sym (numbers-push ns (negsuc (c - 49)))),
       )
 
+  -- one more digit
   pub digit_more : (negative : Bool) (t u : Tally) (z : ℤ) → IsOpen negative t z → bytes ≡ word ++ numbers_text (ns ++ z ∷ []) → IsDigit c → (unsigned_abs z ≡ 0 → ⊥) → IsTally u (10 * unsigned_abs z + (c - 48)) → (x : ℤ) × IsOpen negative u x × (bytes ++ c ∷ [] ≡ word ++ numbers_text (ns ++ x ∷ []))
   digit_more negative t u z last is digit some tally =
       let one = pushed z last.sign some tally in (
