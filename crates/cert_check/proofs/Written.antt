@@ -1,6 +1,6 @@
 -- Numbers that are written bidder by bidder.
-use Rattle.std.specs.Prelude.{◌≡◌, ℕ, ◌+◌, ◌-◌, ◌<◌, ◌≤◌, List, get_or, length, ℤ, pos}
-use Rattle.std.proofs.Common.{◌≢◌, subst, arith, set, get_or-set_other, get_or-set_same, below_more}
+use Rattle.std.specs.Prelude.{◌≡◌, ℕ, ◌+◌, ◌-◌, ◌<◌, ◌≤◌, List, get_or, length, ℤ, pos, ◌+ℤ◌}
+use Rattle.std.proofs.Common.{◌≢◌, ◌∙◌, ap, subst, arith, set, get_or-set_other, get_or-set_same, below_more}
 use Rattle.auction_model.specs.Lowered.{of_bidder}
 
 -- the numbers of the first n bidders are those of f
@@ -16,3 +16,16 @@ pub written-all : (f : ℕ → ℤ) (numbers : List ℤ) (n bidders : ℕ) → b
 written-all f numbers n bidders all done j some inside =
     let back : j - 1 + 1 ≡ j = omega arith in
     subst (λ (x : ℕ). get_or numbers (j - 1) (pos 0) ≡ f x) back (done (j - 1) (omega (arith, all, inside)))
+
+-- to the first n numbers something was added, and the others stay
+pub record AreAdded (add : ℕ → ℤ) (before numbers : List ℤ) (n : ℕ) : Type 0 where
+  pub done : (q : ℕ) → q < n → get_or numbers q (pos 0) ≡ get_or before q (pos 0) +ℤ add (q + 1)
+  pub rest : (q : ℕ) → n ≤ q → get_or numbers q (pos 0) ≡ get_or before q (pos 0)
+
+pub added-more : (add : ℕ → ℤ) (before numbers : List ℤ) (n : ℕ) (number : ℤ) → n < length numbers → AreAdded add before numbers n → number ≡ get_or numbers n (pos 0) +ℤ add (n + 1) → AreAdded add before (set numbers n number) (n + 1)
+added-more add before numbers n number inside to is = record {
+  done = below_more (λ q. get_or (set numbers n number) q (pos 0) ≡ get_or before q (pos 0) +ℤ add (q + 1)) n
+      (λ q h. let other : q ≢ n = omega arith in rw get_or-set_other (to.done q h))
+      (rw get_or-set_same (is ∙ ap (λ (z : ℤ). z +ℤ add (n + 1)) (to.rest n (omega arith))));
+  rest = λ q past. (let other : q ≢ n = omega arith in rw get_or-set_other (to.rest q (omega (arith, past))));
+}

@@ -1,10 +1,15 @@
 // The multipliers of rows as numbers.
-ghost use Rattle.std.specs.Prelude.{ℕ, ◌≡◌, ◌≤◌, length, map};
+ghost use Rattle.std.specs.Prelude.{ℕ, ◌≡◌, ◌≤◌, ◌<◌, ◌*◌, ◌^◌, length, map, pos, unsigned_abs, ◌+ℤ◌, if◌then◌else◌};
+ghost use Rattle.auction_model.specs.Lowered.{of_bidder};
 ghost use Rattle.cert_check.specs.Columns.{AreMultipliers, AreSums};
 ghost use Rattle.cert_form.specs.CertText.{AreRows};
+ghost use Rattle.cert_form.specs.Certificate.{is_member};
 ghost use Rattle.cert_text.specs.Parts.{row_value};
 ghost use Rattle.limits.specs.declared.TheConstants.{MOST_BIDDERS};
+ghost use Rattle.wide_num.specs.Sums.{nth};
 
+use crate::sums::amounts::counted;
+use crate::sums::members::is_among;
 use crate::sums::{Multiplier, picked, sum_of};
 use cert_text::CertRow;
 
@@ -37,5 +42,18 @@ pub(crate) fn put_sums(rows: &[CertRow], which: Multiplier, sums: &mut [i128])
 {
     for k in 0..sums.len() {
         sums[k] = sum_of(rows, k as u16 + 1, which);
+    }
+}
+
+/// Adds a multiplier of one more row to the sums of its members. Each sum is that of fewer than 16 rows.
+pub(crate) fn add_row(sums: &mut [i128], members: &[u16], multiplier: i128)
+    requires room { length sums.old ≤ MOST_BIDDERS }
+    requires sizes { (k : ℕ) → unsigned_abs (nth sums.old k) ≤ 15 * 2 ^ 120 }
+    requires multiplier { unsigned_abs multiplier ≤ 2 ^ 120 }
+    ensures room { length sums.new ≡ length sums.old }
+    ensures sums { (j : ℕ) → 0 < j → j ≤ length sums.old → of_bidder sums.new j ≡ of_bidder sums.old j +ℤ (if is_member members.now j then multiplier else pos 0) }
+{
+    for k in 0..sums.len() {
+        sums[k] += counted(is_among(members, k as u16 + 1), multiplier);
     }
 }
