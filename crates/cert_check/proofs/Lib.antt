@@ -6,6 +6,8 @@ pub mod SumLaws
 pub mod PlaceLaws
 pub mod PartLaws
 pub mod VerdictLaws
+pub mod PartwayLaws
+pub mod HeadLines
 pub mod Blocks
 pub mod Gains
 pub mod Written

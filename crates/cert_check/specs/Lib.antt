@@ -1,4 +1,5 @@
 pub mod Places
+pub mod Partway
 pub mod Head
 pub mod Fields
 pub mod Multipliers

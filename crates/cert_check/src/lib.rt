@@ -5,6 +5,7 @@ mod checking;
 mod choice;
 mod claim;
 mod columns;
+mod failure;
 mod judging;
 mod multipliers;
 mod parts;

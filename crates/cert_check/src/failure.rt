@@ -1,0 +1,115 @@
+// What fails first, as far as a certificate has come.
+ghost use Rattle.std.specs.Prelude.{◌≡◌, ◌≤◌, ◌<◌, ◌+◌, ◌^◌, ◌↔◌, ℕ, IsTrue, None};
+ghost use Rattle.auction_model.specs.Book.{Book};
+ghost use Rattle.cert_form.specs.Certificate.{CertValue};
+ghost use Rattle.cert_check.specs.Faults.{FirstFault};
+ghost use Rattle.cert_laws.specs.Tests.{Asks};
+ghost use Rattle.cert_check.specs.Partway.{HoldsTo, IsJudged, IsLate, IsSmallPlace};
+ghost use Rattle.cert_check.specs.Verdicts.{IsVerdict};
+
+use crate::Verdict;
+
+/// The first test that fails, and the first place at which it does.
+#[derive(Clone, Copy, Debug, PartialEq, Eq)]
+pub(crate) struct Failure {
+    /// The number of the test.
+    pub test: u8,
+    /// The place.
+    pub place: u64,
+}
+
+/// What fails first behind one more line of a table. Its places begin at `base`, and `fault` is the first of them at which a rule is
+/// broken, or their number.
+pub(crate) fn behind_line(
+    failed: Option<Failure>,
+    test: u8,
+    base: u64,
+    fault: usize,
+    states: usize,
+) -> Option<Failure>
+    requires base { base < 2 ^ 62 }
+    requires states { states < 2 ^ 40 }
+    ensures { (book : Book) (w : ℕ → ℕ) (c : CertValue) → IsJudged book w c test base failed → FirstFault (λ s. Asks book w c test (base + s)) states fault → IsJudged book w c test (base + states) result }
+{
+    match failed {
+        Some(failure) => Some(failure),
+        None => of_line(test, base, fault, states),
+    }
+}
+
+/// The first failure within one line.
+fn of_line(test: u8, base: u64, fault: usize, states: usize) -> Option<Failure>
+    requires base { base < 2 ^ 62 }
+    requires states { states < 2 ^ 40 }
+    ensures { (book : Book) (w : ℕ → ℕ) (c : CertValue) → HoldsTo book w c test base → FirstFault (λ s. Asks book w c test (base + s)) states fault → IsJudged book w c test (base + states) result }
+{
+    if fault >= states {
+        return None;
+    }
+    Some(Failure {
+        test,
+        place: base + fault as u64,
+    })
+}
+
+/// What fails first behind a table, once all its rules were tested: what was found early comes behind the rules.
+pub(crate) fn behind_table(
+    failed: Option<Failure>,
+    test: u8,
+    base: u64,
+    late: Option<u64>,
+) -> Option<Failure>
+    requires late { IsSmallPlace late }
+    requires base { base < 2 ^ 62 }
+    ensures { (book : Book) (w : ℕ → ℕ) (c : CertValue) (n : ℕ) → IsJudged book w c test base failed → IsLate book w c test base n late → ((q : ℕ) → base + n ≤ q → Asks book w c test q) → IsJudged book w c (test + 1) 0 result }
+{
+    match failed {
+        Some(failure) => Some(failure),
+        None => of_table(test, base, late),
+    }
+}
+
+/// The first failure of those that were found early.
+fn of_table(test: u8, base: u64, late: Option<u64>) -> Option<Failure>
+    requires late { IsSmallPlace late }
+    requires base { base < 2 ^ 62 }
+    ensures { (book : Book) (w : ℕ → ℕ) (c : CertValue) (n : ℕ) → HoldsTo book w c test base → IsLate book w c test base n late → ((q : ℕ) → base + n ≤ q → Asks book w c test q) → IsJudged book w c (test + 1) 0 result }
+{
+    match late {
+        Some(place) => Some(Failure {
+            test,
+            place: base + place,
+        }),
+        None => None,
+    }
+}
+
+/// What is found early, with one more place of those behind the rules.
+pub(crate) fn with_late(late: Option<u64>, place: u64, holds: bool) -> Option<u64>
+    ensures { (book : Book) (w : ℕ → ℕ) (c : CertValue) (test base : ℕ) → IsLate book w c test base place late → (late ≡ None → IsTrue holds ↔ Asks book w c test (base + place)) → IsLate book w c test base (place + 1) result }
+{
+    match late {
+        Some(earlier) => Some(earlier),
+        None => one_late(place, holds),
+    }
+}
+
+/// The place, where it fails.
+fn one_late(place: u64, holds: bool) -> Option<u64>
+    ensures { (book : Book) (w : ℕ → ℕ) (c : CertValue) (test base : ℕ) → IsLate book w c test base place None → (IsTrue holds ↔ Asks book w c test (base + place)) → IsLate book w c test base (place + 1) result }
+{
+    if holds { None } else { Some(place) }
+}
+
+/// The verdict, once all lines were read.
+pub(crate) fn verdict_of(failed: Option<Failure>) -> Verdict
+    ensures { (book : Book) (w : ℕ → ℕ) (c : CertValue) → IsJudged book w c 10 0 failed → IsVerdict book w c result }
+{
+    match failed {
+        Some(failure) => Verdict::No {
+            test: failure.test,
+            place: failure.place,
+        },
+        None => Verdict::Yes,
+    }
+}
