@@ -1,5 +1,5 @@
 -- A search for the amounts themselves, in which one bidder may have no bids.
-use Rattle.std.specs.Prelude.{◌≡◌, ℕ, zero, suc, ◌+◌, ◌-◌, ◌*◌, ◌^◌, ◌≤◌, ◌<◌, Bool, true, false, cond, ◌&&◌, not, ◌==◌, List, [], ◌∷◌, length, get_or, refl, ℤ, pos, ◌≤ℤ◌, unsigned_abs}
+use Rattle.std.specs.Prelude.{IsTrue, ◌≡◌, ℕ, zero, suc, ◌+◌, ◌-◌, ◌*◌, ◌^◌, ◌≤◌, ◌<◌, Bool, true, false, cond, ◌&&◌, not, ◌==◌, List, [], ◌∷◌, length, get_or, refl, ℤ, pos, ◌≤ℤ◌, unsigned_abs}
 use Rattle.std.proofs.Common.{sym, ◌∙◌, ap, arith, subst}
 use Rattle.std.proofs.lemmas.Bool.{and_parts, cond_both}
 use Rattle.std.proofs.lemmas.Int.{ints}
@@ -15,7 +15,9 @@ use Rattle.slot_places.specs.Slots.{SlotList, bids_of, bid_of, amount_of}
 use Rattle.slot_places.specs.Kept.{AreSlots}
 use Rattle.slot_places.specs.Board.{Board, nobody, menu_of, is_known, can_place, is_placed, board_of, board_without, market_of}
 use Rattle.slot_places.specs.SetTable.{holds, fits_behind, counts_outside, sum_outside, IsSetTable, StaysInRange}
-use Rattle.slot_places.proofs.MarketLaws.{placed-number}
+use Rattle.auction_model.proofs.ChoiceLaws.{known-length}
+use Rattle.slot_places.proofs.MarketLaws.{placed-number, slots-idle}
+use Rattle.slot_places.proofs.SizeLaws.{sum-size}
 use Rattle.slot_places.proofs.NumberLaws.{idle-always}
 use Rattle.slot_places.proofs.StepLaws.{sum-same}
 use Rattle.slot_places.proofs.WithoutLaws.{place-without}
@@ -28,7 +30,7 @@ amount-small slots kept j (suc i) some low known = (kept.bidders j some low).amo
 bids-fewer : (slots : SlotList) (skip j : ℕ) → (board_without slots skip).bids j ≤ length (bids_of slots j)
 bids-fewer slots skip j = cond_both (j == skip) 0 (length (bids_of slots j)) (λ n. n ≤ length (bids_of slots j)) (λ _. omega arith) (λ _. omega arith)
 
-sum-most : (f : ℕ → ℕ) (most n : ℕ) → ((j : ℕ) → 0 < j → j ≤ n → f j ≤ most) → sum_to f n ≤ n * most
+pub sum-most : (f : ℕ → ℕ) (most n : ℕ) → ((j : ℕ) → 0 < j → j ≤ n → f j ≤ most) → sum_to f n ≤ n * most
 sum-most f most zero h = omega arith
 sum-most f most (suc n) h =
     let rest = sum-most f most n (λ j some low. h j some (omega (arith, low))) in
@@ -49,6 +51,24 @@ range-plain slots skip surplus kept zeros c t =
     let sum = sum-most (λ j. 1 * (bid_of slots j (number_of c j)).amount + unsigned_abs (of_bidder surplus j)) (2 ^ 42) n each in
     let few = kept.few in
     omega (arith, sum, few)
+
+-- no allowed choice is worth more than so many of the greatest amounts
+pub value-small : (slots : SlotList) (c : List ℕ) → AreSlots slots → IsTrue (is_placed (board_of slots) c) → unsigned_abs (value_of (market_of slots) c) ≤ 6 * 2 ^ 42
+value-small slots c kept t =
+    let n = length slots.bidders in
+    let b = board_of slots in
+    let known = (and_parts (is_known b c) (can_place b c n nobody) t).0 in
+    let count = known-length (menu_of b) 0 c known in
+    let each : (i : ℕ) → i < length c → unsigned_abs (amount_of slots (suc (0 + i)) (get_or c i 0)) ≤ 2 ^ 42 = λ i inside.
+    let number = placed-number b (slots-idle slots) c (suc i) known (omega arith) (omega (arith, inside, count)) in
+    let down : suc i - 1 ≡ i = omega arith in
+    let low : get_or c i 0 ≤ length (bids_of slots (suc i)) = subst (λ h. get_or c h 0 ≤ length (bids_of slots (suc i))) down number in
+    let same : i ≡ 0 + i = omega arith in
+    subst (λ h. unsigned_abs (amount_of slots (suc h) (get_or c i 0)) ≤ 2 ^ 42) same (amount-small slots kept (suc i) (get_or c i 0) (omega arith) (omega (arith, inside, count)) low) in
+    let sum = sum-size (amount_of slots) (λ j. 2 ^ 42) 0 c each in
+    let whole = sum-most (λ j. 2 ^ 42) (2 ^ 42) (0 + length c) (λ j some low. omega arith) in
+    let few = kept.few in
+    omega (arith, sum, whole, count, few)
 
 -- a lowered amount is the amount itself
 amount-plain : (slots : SlotList) (surplus : List ℤ) (j i : ℕ) → of_bidder surplus j ≡ pos 0 → lowered (pos 1) (amount_of slots) surplus j i ≡ amount_of slots j i

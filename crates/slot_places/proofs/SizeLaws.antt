@@ -133,7 +133,7 @@ abs-less a b = let h = abs-high a in let l = abs-low a in let i = abs-high b in 
 abs-add : (a b : ℤ) → unsigned_abs (a +ℤ b) ≤ unsigned_abs a + unsigned_abs b
 abs-add a b = let h = abs-high a in let l = abs-low a in let i = abs-high b in let m = abs-low b in abs-of (a +ℤ b) (unsigned_abs a + unsigned_abs b) (omega (arith, ints, h, l, i, m)) (omega (arith, ints, h, l, i, m))
 
-sum-size : (f : ℕ → ℕ → ℤ) (caps : ℕ → ℕ) (k : ℕ) (c : List ℕ) → ((i : ℕ) → i < length c → unsigned_abs (f (suc (k + i)) (get_or c i 0)) ≤ caps (suc (k + i))) → sum_to caps k + unsigned_abs (sum_after f k c) ≤ sum_to caps (k + length c)
+pub sum-size : (f : ℕ → ℕ → ℤ) (caps : ℕ → ℕ) (k : ℕ) (c : List ℕ) → ((i : ℕ) → i < length c → unsigned_abs (f (suc (k + i)) (get_or c i 0)) ≤ caps (suc (k + i))) → sum_to caps k + unsigned_abs (sum_after f k c) ≤ sum_to caps (k + length c)
 sum-size f caps k [] all = let e : k + 0 ≡ k = omega arith in rw e (omega arith)
 sum-size f caps k (x ∷ c) all =
     let zero_at : suc (k + 0) ≡ suc k = omega arith in

@@ -15,6 +15,7 @@ pub struct Best {
     pub sum: i128,
 }
 
+/// Whether number `i` comes before `j` by the order of ties, in which 0 is the last.
 fn is_before(i: u16, j: u16) -> bool
     ensures { result ≡ is_number_before i j }
 {

@@ -11,6 +11,8 @@ mod searching;
 mod slot_chooser;
 mod slots;
 mod stop;
+#[cfg(test)]
+mod tests;
 
 pub use laws::{one_slots, slot_market, slot_orders};
 pub use limits::LimitKind;

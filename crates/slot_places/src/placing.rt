@@ -79,13 +79,14 @@ impl Slots {
         ensures some { IfSome result (λ j. IsFirstNext (board_of self.now) numbers.now left (holds set) j) }
         ensures none { IfNone result (IsFalse (can_place (board_of self.now) numbers.now (left + 1) (holds set))) }
     {
-        for k in 0..self.bidders() {
-            let j = k as u16 + 1;
-            if !self.can_follow(numbers, set, j) {
+        let count = self.bidders();
+        for k in 0..count {
+            let next = k as u16 + 1;
+            if !self.can_follow(numbers, set, next) {
                 continue;
             }
-            if self.can_place(numbers, left, set + weight(j)) {
-                return Some(j);
+            if self.can_place(numbers, left, set + weight(next)) {
+                return Some(next);
             }
         }
         None

@@ -83,6 +83,7 @@ pub fn weight(j: u16) -> usize
     }
 }
 
+/// What a bid counts.
 fn lowered_worth(den: i128, amount: u64, surplus: i128) -> i128
     requires { unsigned_abs den * amount + unsigned_abs surplus ≤ 2 ^ 120 }
     ensures { result ≡ (den *ℤ pos amount) -ℤ surplus }
@@ -90,6 +91,7 @@ fn lowered_worth(den: i128, amount: u64, surplus: i128) -> i128
     den * amount as i128 - surplus
 }
 
+/// What a bidder without a bid counts.
 fn idle_worth(surplus: i128) -> i128
     requires { unsigned_abs surplus ≤ 2 ^ 120 }
     ensures { result ≡ int_max (pos 0) (neg_ℤ surplus) }

@@ -50,6 +50,7 @@ impl<'a> SlotChooser<'a> {
     }
 }
 
+/// So many zeros.
 fn zeros(alloc: Global, count: usize) -> Result<Vec<i128>, AllocError>
     requires { count ≤ 6 }
     ensures count { IfOk result (λ v. length v.items ≡ count) }
