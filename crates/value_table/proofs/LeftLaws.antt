@@ -16,6 +16,7 @@ use Rattle.value_table.proofs.SingleLaws.{none-sum}
 use Rattle.value_table.proofs.TurnLaws.{onto, Parted, parted, sum-parts, known-parts, taken-parts, turned-length}
 
 module _ (m : Menu) (counts : ℕ → ℕ → ℤ) (k : ℕ) (left : List ℕ) (inside : k ≤ m.bidders) (empty : (j : ℕ) → m.lots j 0 ≡ []) (none : (j : ℕ) → counts j 0 ≡ pos 0) where
+  -- the bidders up to k have the bids of all
   near : (j : ℕ) → j ≤ k → (up_to m k).bids j ≡ m.bids j
   near j h = cond-true (nat_le j k) (m.bids j) 0 (le-leb j k h)
 
@@ -30,6 +31,7 @@ module _ (m : Menu) (counts : ℕ → ℕ → ℤ) (k : ℕ) (left : List ℕ) (
       let own : counts (suc j) i ≡ pos 0 = ap (counts (suc j)) zeroth ∙ none (suc j) in
       omega (arith, ints, own, rest)
 
+  -- no bid for each bidder after k is known
   zeros-known : IsTrue (is_known_after (up_to m k) k (replicate (m.bidders - k) 0))
   zeros-known = none-known (up_to m k) k (m.bidders - k) (omega (arith, inside))
 
@@ -44,6 +46,7 @@ module _ (m : Menu) (counts : ℕ → ℕ → ℤ) (k : ℕ) (left : List ℕ) (
       taken-parts m (up_to m k).bids k inside near front zeros count ∙ ap (together packages) (none-taken (up_to m k) k (m.bidders - k) empty) ∙ together-comm packages [] in
       and_from (is_known_after (up_to m k) 0 (onto front zeros)) (is_within (packages_after (up_to m k) 0 (onto front zeros)) left) known (ap (λ q. is_within q left) taken ∙ p.1)
 
+  -- and its sum
   filled-sum : (front : List ℕ) → length front ≡ k → sum_after counts 0 (onto front (replicate (m.bidders - k) 0)) ≡ sum_after (worths_in_order true m.bidders counts) (m.bidders - k) front
   filled-sum front count = omega (arith, ints, sum-parts m.bidders counts k front (replicate (m.bidders - k) 0) inside count, none-sum counts k (m.bidders - k) none)
 
@@ -57,11 +60,13 @@ module _ (m : Menu) (counts : ℕ → ℕ → ℤ) (k : ℕ) (left : List ℕ) (
       let within = and_parts (is_within packages left) (is_within others (less left packages)) (sym (within-together packages others left) ∙ ap (λ q. is_within q left) (sym (taken-parts m (up_to m k).bids k inside near front back count)) ∙ p.1) in
       and_from (is_known_after (in_order true m) (m.bidders - k) front) (is_within packages left) known.0 within.0
 
+  -- and their sum
   front-sum : (front back : List ℕ) → length front ≡ k → IsTrue (is_known_after (up_to m k) 0 (onto front back)) → sum_after counts 0 (onto front back) ≡ sum_after (worths_in_order true m.bidders counts) (m.bidders - k) front
   front-sum front back count t =
       let known = and_parts (is_known_after (in_order true m) (m.bidders - k) front) (is_known_after (up_to m k) k back) (sym (known-parts m (up_to m k).bids k inside near front back count) ∙ t) in
       omega (arith, ints, sum-parts m.bidders counts k front back inside count, none-after k back (omega arith) known.1)
 
+  -- no choice of the first k bidders counts more than the entry
   left-bound : (most : ℤ) → IsEntry (in_order true m) (worths_in_order true m.bidders counts) (m.bidders - k) left most → (c : List ℕ) → Parted c k → IsTrue (fits_after (up_to m k) 0 left c) → sum_after counts 0 c ≤ℤ most
   left-bound most e c p t =
       let whole : IsTrue (fits_after (up_to m k) 0 left (onto p.front p.back)) = ap (fits_after (up_to m k) 0 left) p.whole ∙ t in
@@ -69,6 +74,7 @@ module _ (m : Menu) (counts : ℕ → ℕ → ℤ) (k : ℕ) (left : List ℕ) (
       let sum : sum_after counts 0 c ≡ sum_after (worths_in_order true m.bidders counts) (m.bidders - k) p.front = ap (sum_after counts 0) (sym p.whole) ∙ front-sum p.front p.back p.count known.0 in
       rw sum (e.bound p.front (front-fits p.front p.back p.count whole))
 
+  -- an entry of the turned table is one of the bidders up to k
   pub left-entry : (most : ℤ) → IsEntry (in_order true m) (worths_in_order true m.bidders counts) (m.bidders - k) left most → IsEntry (up_to m k) counts 0 left most
   left-entry most e =
       let front = e.reached.0 in

@@ -25,6 +25,7 @@ left_at-other supply s h =
     let same : left_at supply (place_of supply rest) ≡ rest = rw left_at-whole at (left_at-less supply (left_at supply s) (S - 1) (omega (arith, states-positive supply))) in
     ap (left_at supply) (sym place) ∙ same
 
+-- a package is within what the rest leaves
 within-twice : (p l : List ℕ) → IsTrue (is_within p l) → IsTrue (is_within p (less l (less l p)))
 within-twice [] l h = refl
 within-twice (a ∷ p) [] h = h
@@ -40,19 +41,23 @@ pub record Pair (m : Menu) (supply : List ℕ) (k : ℕ) (front back : List ℕ)
   pub after : IsTrue (fits_after (without m (suc k)) (suc k) (left_at supply (states_of supply - 1 - place)) back)
 
 module _ (m : Menu) (counts : ℕ → ℕ → ℤ) (supply : List ℕ) (k : ℕ) (inside : suc k ≤ m.bidders) (empty : m.lots (suc k) 0 ≡ []) (none : counts (suc k) 0 ≡ pos 0) where
+  -- the bidders up to k have the bids of all
   near : (j : ℕ) → j ≤ k → (without m (suc k)).bids j ≡ m.bids j
   near j h = cond-false (eqb j (suc k)) 0 (m.bids j) (ne_eqb j (suc k) (omega (arith, h)))
 
+  -- the bidder after them has none
   skipped : (without m (suc k)).bids (suc k) ≡ 0
   skipped = cond-true (eqb (suc k) (suc k)) 0 (m.bids (suc k)) (eq-eqb (suc k) (suc k) refl)
 
+  -- they are bidders
   low : k ≤ m.bidders
   low = omega (arith, inside)
 
-  -- what the bidder without bids counts, and what it takes
+  -- the bidder without bids counts nothing
   pair-sum : (front back : List ℕ) → length front ≡ k → sum_after counts 0 (onto front (0 ∷ back)) ≡ sum_after (worths_in_order true m.bidders counts) (m.bidders - k) front +ℤ sum_after counts (suc k) back
   pair-sum front back count = omega (arith, ints, none, sum-parts m.bidders counts k front (0 ∷ back) low count)
 
+  -- and takes nothing
   pair-taken : (front back : List ℕ) → length front ≡ k → packages_after (without m (suc k)) 0 (onto front (0 ∷ back)) ≡ together (packages_after (in_order true m) (m.bidders - k) front) (packages_after (without m (suc k)) (suc k) back)
   pair-taken front back count =
       taken-parts m (without m (suc k)).bids k low near front (0 ∷ back) count
@@ -75,6 +80,7 @@ module _ (m : Menu) (counts : ℕ → ℕ → ℤ) (supply : List ℕ) (k : ℕ)
       (within-within Q (less supply left) (less supply P) other (less-within supply left P p.1)) in
       and_from (is_known_after o 0 (onto front (0 ∷ back))) (is_within (packages_after o 0 (onto front (0 ∷ back))) supply) known (ap (λ p. is_within p supply) (pair-taken front back count) ∙ both)
 
+  -- a choice without the bidder is such a pair
   pair-of : (front back : List ℕ) → length front ≡ k → IsTrue (fits_after (without m (suc k)) 0 supply (onto front (0 ∷ back))) → Pair m supply k front back
   pair-of front back count t =
       let o = without m (suc k) in
@@ -109,6 +115,7 @@ module _ (m : Menu) (counts : ℕ → ℕ → ℤ) (supply : List ℕ) (k : ℕ)
       omega (arith, skipped, leb-true i (o.bids (suc k)) rest.0)
 
   module _ (before after : List ℤ) (lefts : (s : ℕ) → s < states_of supply → IsEntry (in_order true m) (worths_in_order true m.bidders counts) (m.bidders - k) (left_at supply s) (get_or before s (pos 0))) (rights : (s : ℕ) → s < states_of supply → IsEntry (without m (suc k)) counts (suc k) (left_at supply s) (get_or after s (pos 0))) where
+    -- so it counts no more than the greatest pair
     pair-bound : (most : ℤ) → IsGreatestPair (states_of supply) before after most → (front back : List ℕ) → length front ≡ k → IsTrue (fits_after (without m (suc k)) 0 supply (onto front (0 ∷ back))) → sum_after counts 0 (onto front (0 ∷ back)) ≤ℤ most
     pair-bound most g front back count t =
         let p = pair-of front back count t in
@@ -117,6 +124,7 @@ module _ (m : Menu) (counts : ℕ → ℕ → ℤ) (supply : List ℕ) (k : ℕ)
         let rest = (rights (S - 1 - p.place) (omega (arith, p.below))).bound back p.after in
         omega (arith, ints, pair-sum front back count, own, rest, g.bound p.place p.below)
 
+    -- whatever its number for the bidder
     choice-bound : (most : ℤ) → IsGreatestPair (states_of supply) before after most → (front back : List ℕ) → length front ≡ k → IsTrue (fits_after (without m (suc k)) 0 supply (onto front back)) → sum_after counts 0 (onto front back) ≤ℤ most
     choice-bound most g front [] count t =
         let o = without m (suc k) in
@@ -128,11 +136,13 @@ module _ (m : Menu) (counts : ℕ → ℕ → ℤ) (supply : List ℕ) (k : ℕ)
         let at : IsTrue (fits_after (without m (suc k)) 0 supply (onto front (0 ∷ back))) = subst (λ h. IsTrue (fits_after (without m (suc k)) 0 supply (onto front (h ∷ back)))) zeroth t in
         subst (λ h. sum_after counts 0 (onto front (h ∷ back)) ≤ℤ most) (sym zeroth) (pair-bound most g front back count at)
 
+    -- and however it is taken apart
     parted-bound : (most : ℤ) → IsGreatestPair (states_of supply) before after most → (c : List ℕ) → Parted c k → IsTrue (fits_after (without m (suc k)) 0 supply c) → sum_after counts 0 c ≤ℤ most
     parted-bound most g c p t =
         let at : IsTrue (fits_after (without m (suc k)) 0 supply (onto p.front p.back)) = ap (fits_after (without m (suc k)) 0 supply) p.whole ∙ t in
         subst (λ d. sum_after counts 0 d ≤ℤ most) p.whole (choice-bound most g p.front p.back p.count at)
 
+    -- the greatest pair is reached by a choice
     pair-reached : (most : ℤ) (s : ℕ) → s < states_of supply → most ≡ get_or before s (pos 0) +ℤ get_or after (states_of supply - 1 - s) (pos 0) → (c : List ℕ) × IsTrue (fits_after (without m (suc k)) 0 supply c) × (sum_after counts 0 c ≡ most)
     pair-reached most s h is =
         let e = lefts s h in

@@ -3,7 +3,6 @@ use Rattle.std.specs.Prelude.{◌≡◌, ℕ, ◌+◌, ◌-◌, ◌^◌, ◌≤�
 use Rattle.std.specs.Int.{int_max}
 use Rattle.std.proofs.Common.{arith, below_more, ap}
 use Rattle.std.proofs.lemmas.Int.{ints, by_lt_z, int_max_is}
-use Rattle.value_table.specs.SideValues.{IsGreatestPair}
 
 -- the sum at a place
 abbrev pub pair_at : ℕ → List ℤ → List ℤ → ℕ → ℤ
@@ -14,16 +13,20 @@ pub record IsPairSoFar (states : ℕ) (before after : List ℤ) (k : ℕ) (most 
   pub reached : (s : ℕ) × (s < states) × (most ≡ pair_at states before after s)
   pub bound : (s : ℕ) → s < k → pair_at states before after s ≤ℤ most
 
+-- the greater of two numbers is the first
 max-left : (a b : ℤ) → b ≤ℤ a → int_max a b ≡ a
 max-left a b h = omega (arith, ints, int_max_is a b)
 
+-- or the second
 max-right : (a b : ℤ) → a <ℤ b → int_max a b ≡ b
 max-right a b h = omega (arith, ints, int_max_is a b)
 
+-- the sum of two numbers of a table
 pub sum-size : (a b : ℤ) → unsigned_abs a ≤ 2 ^ 120 → unsigned_abs b ≤ 2 ^ 120 → unsigned_abs (a +ℤ b) ≤ 2 ^ 121
 sum-size a b h k = omega (arith, ints, h, k)
 
 module _ (states : ℕ) (before after : List ℤ) where
+  -- at first the sum at place 0
   pub pair-first : 0 < states → IsPairSoFar states before after 1 (get_or before 0 (pos 0) +ℤ get_or after (states - 1) (pos 0))
   pair-first some =
       let last : states - 1 ≡ states - 1 - 0 = omega arith in
@@ -33,6 +36,7 @@ module _ (states : ℕ) (before after : List ℤ) where
         bound = λ s h. let zeroth : s ≡ 0 = omega (arith, h) in rw zeroth (omega (arith, ints, own));
       }
 
+  -- then the greater one at each place
   pub pair-next : (k : ℕ) (most : ℤ) → k < states → IsPairSoFar states before after k most → IsPairSoFar states before after (k + 1) (int_max most (pair_at states before after k))
   pair-next k most inside was =
       let sum = pair_at states before after k in
@@ -45,14 +49,3 @@ module _ (states : ℕ) (before after : List ℤ) where
         reached = was.reached;
         bound = below_more (λ s. pair_at states before after s ≤ℤ most) k was.bound (omega (arith, ints, ge));
       }))
-
-  pub pair-all : (k : ℕ) (most : ℤ) → states ≤ k → IsPairSoFar states before after k most → IsGreatestPair states before after most
-  pair-all k most all was = record {
-    reached = was.reached;
-    bound = λ s h. was.bound s (omega (arith, h, all));
-  }
-
-  pub pair-size : (k : ℕ) (most : ℤ) → ((s : ℕ) → unsigned_abs (get_or before s (pos 0)) ≤ 2 ^ 120) → ((s : ℕ) → unsigned_abs (get_or after s (pos 0)) ≤ 2 ^ 120) → IsPairSoFar states before after k most → unsigned_abs most ≤ 2 ^ 121
-  pair-size k most h i was =
-      let s = was.reached.0 in
-      rw was.reached.2 (sum-size (get_or before s (pos 0)) (get_or after (states - 1 - s) (pos 0)) (h s) (i (states - 1 - s)))

@@ -36,6 +36,7 @@ entry-worths m worth surplus k left most none zeros e =
 entry-all_bids : (m : Menu) (worth : ℕ → ℕ → ℤ) (k : ℕ) (left : List ℕ) (most : ℤ) → IsEntry (without m 0) worth k left most → IsEntry m worth k left most
 entry-all_bids m worth k left most e = IsGreatestValue-same (fits_after (without m 0) k left) (fits_after m k left) (sum_after worth k) most (λ c. fits-without_none m k left c) e
 
+-- so the table of all bids is one of the plain worths
 pub table-plain : (m : Menu) (worth : ℕ → ℕ → ℤ) (surplus : List ℤ) (supply : List ℕ) (lines : List (List ℤ)) → ((j : ℕ) → worth j 0 ≡ pos 0) → ((k : ℕ) → get_or surplus k (pos 0) ≡ pos 0) → IsExactTable (without m 0) (lowered (pos 1) worth surplus) supply lines → IsExactTable m worth supply lines
 table-plain m worth surplus supply lines none zeros table = record {
   lines = table.lines;
@@ -47,6 +48,7 @@ table-plain m worth surplus supply lines none zeros table = record {
   };
 }
 
+-- the right side of a book
 pub right-table : (book : Book) (t : TableValue) → IsTableOf book t → IsPlain t → IsExactTable (menu_of book) (net_of book) book.supply t.lines
 right-table book t table plain =
     let exact : IsExactTable (without (menu_of book) 0) (lowered (pos 1) (net_of book) t.surplus) book.supply t.lines = rw (plain.skip, plain.den) at table.exact in
@@ -70,6 +72,7 @@ full-lines m worth supply lines few small table = record {
   sizes = λ k s h. omega (arith, few, sum_to-at_most (λ _. 2 ^ 42) m.bidders (2 ^ 42) (λ _. omega arith), line-sizes m worth supply k (get_or lines k []) (λ _. 2 ^ 42) small (table.exact k h) s);
 }
 
+-- so both sides have full lines
 pub full-sides : (book : Book) (sides : SidesValue) → IsBidBook book → AreSidesOf book sides → AreFullSides sides
 full-sides book sides kept own =
     let turned : (j i : ℕ) → i ≤ (in_order true (menu_of book)).bids j → unsigned_abs (worths_in_order true (length book.bidders) (net_of book) j i) ≤ 2 ^ 42 = λ j i known. net-small book (bidder_at true (length book.bidders) j) i kept known in
@@ -82,21 +85,25 @@ full-sides book sides kept own =
     }
 
 module _ (book : Book) (sides : SidesValue) (own : AreSidesOf book sides) where
+  -- an entry of the right side
   pub right-is : (k s : ℕ) → k ≤ sides.bidders → s < sides.states → IsRightEntry book k (left_at book.supply s) (get_or (get_or sides.right.lines k []) s (pos 0))
   right-is k s h inside =
       let table = right-table book sides.right own.right own.plain in
       (table.exact k (omega (arith, h, own.bidders))).exact s (omega (arith, inside, own.states))
 
+  -- an entry of the turned table
   turned-entry : (k s : ℕ) → k ≤ sides.bidders → s < states_of book.supply → IsEntry (in_order true (menu_of book)) (worths_in_order true (length book.bidders) (net_of book)) (length book.bidders - k) (left_at book.supply s) (get_or (get_or sides.left (sides.bidders - k) []) s (pos 0))
   turned-entry k s h inside =
       let line : IsLine (in_order true (menu_of book)) (worths_in_order true (length book.bidders) (net_of book)) book.supply (length book.bidders - k) (get_or sides.left (length book.bidders - k) []) = own.left.exact (length book.bidders - k) (omega arith) in
       rw own.bidders (line.exact s inside)
 
+  -- an entry of the left side
   pub left-is : (k s : ℕ) → k ≤ sides.bidders → s < sides.states → IsLeftEntry book k (left_at book.supply s) (get_or (get_or sides.left (sides.bidders - k) []) s (pos 0))
   left-is k s h inside =
       left-entry (menu_of book) (net_of book) k (left_at book.supply s) (omega (arith, h, own.bidders)) (λ j. refl) (λ j. refl) (get_or (get_or sides.left (sides.bidders - k) []) s (pos 0))
       (turned-entry k s h (omega (arith, inside, own.states)))
 
+  -- an entry of the bidders after j, of whom j is none
   rights : (j s : ℕ) → j ≤ sides.bidders → s < states_of book.supply → IsEntry (without (menu_of book) j) (net_of book) j (left_at book.supply s) (get_or (get_or sides.right.lines j []) s (pos 0))
   rights j s h inside =
       let t = sides.right in

@@ -22,6 +22,7 @@ pub record Parted (c : List ℕ) (k : ℕ) : Type 0 where
   pub whole : onto front back ≡ c
   pub count : length front ≡ k
 
+-- k numbers more are turned round
 part : (k : ℕ) (front back : List ℕ) → k ≤ length back → Parted (onto front back) (length front + k)
 part zero front back h = record { front = front; back = back; whole = refl; count = omega arith }
 part (suc k) front [] h = absurd (omega arith)
@@ -29,18 +30,22 @@ part (suc k) front (i ∷ back) h =
     let p = part k (i ∷ front) back (omega (arith, h)) in
     record { front = p.front; back = p.back; whole = p.whole; count = omega (arith, p.count) }
 
+-- each choice of at least k numbers is taken apart so
 pub parted : (c : List ℕ) (k : ℕ) → k ≤ length c → Parted c k
 parted c k h = let p = part k [] c h in record { front = p.front; back = p.back; whole = p.whole; count = omega (arith, p.count) }
 
+-- three packages together
 together-assoc : (p q r : List ℕ) → together (together p q) r ≡ together p (together q r)
 together-assoc [] q r = refl
 together-assoc (a ∷ p) [] r = refl
 together-assoc (a ∷ p) (b ∷ q) [] = refl
 together-assoc (a ∷ p) (b ∷ q) (c ∷ r) = let e : a + b + c ≡ a + (b + c) = omega arith in rw (e, together-assoc p q r) refl
 
+-- the package of one bidder goes from the others to the first ones
 move-between : (p own q : List ℕ) → together p (together own q) ≡ together (together own p) q
 move-between p own q = sym (together-assoc p own q) ∙ ap (λ r. together r q) (together-comm p own)
 
+-- the same for the test of its number
 swap-known : (a b c : Bool) → a && (b && c) ≡ (b && a) && c
 swap-known true true c = refl
 swap-known true false c = refl
@@ -51,9 +56,11 @@ swap-known false false c = refl
 turn-back : (n k : ℕ) → suc k ≤ n → suc n - suc (n - suc k) ≡ suc k
 turn-back n k h = omega (arith, h)
 
+-- and the place behind it in the turned order
 turn-next : (n k : ℕ) → suc k ≤ n → suc (n - suc k) ≡ n - k
 turn-next n k h = omega (arith, h)
 
+-- the sum of such a choice is that of both parts
 pub sum-turned : (n : ℕ) (counts : ℕ → ℕ → ℤ) (front back : List ℕ) → length front ≤ n
     → sum_after counts 0 (onto front back) ≡ sum_after (worths_in_order true n counts) (n - length front) front +ℤ sum_after counts (length front) back
 sum-turned n counts [] back h = omega (arith, ints)
@@ -65,6 +72,7 @@ sum-turned n counts (i ∷ front) back h =
     let rest : sum_after turned (suc (n - suc k)) front ≡ sum_after turned (n - k) front = ap (λ j. sum_after turned j front) (turn-next n k h) in
     omega (arith, ints, was, own, rest)
 
+-- it is known where both parts are
 pub known-turned : (m : Menu) (front back : List ℕ) → length front ≤ m.bidders
     → is_known_after m 0 (onto front back) ≡ is_known_after (in_order true m) (m.bidders - length front) front && is_known_after m (length front) back
 known-turned m [] back h = let last : ((m.bidders - 0) == m.bidders) ≡ true = eq-eqb (m.bidders - 0) m.bidders (omega arith) in rw last refl
@@ -78,6 +86,7 @@ known-turned m (i ∷ front) back h =
     ∙ ap (λ b. (nat_le i b && is_known_after (in_order true m) (n - k) front) && is_known_after m (suc k) back) (sym own)
     ∙ ap (λ b. (nat_le i ((in_order true m).bids (suc (n - suc k))) && b) && is_known_after m (suc k) back) (sym rest)
 
+-- it takes what both parts take
 pub taken-turned : (m : Menu) (front back : List ℕ) → length front ≤ m.bidders
     → packages_after m 0 (onto front back) ≡ together (packages_after (in_order true m) (m.bidders - length front) front) (packages_after m (length front) back)
 taken-turned m [] back h = refl
@@ -96,6 +105,7 @@ pub known-same : (m o : Menu) (k : ℕ) (c : List ℕ) → m.bidders ≡ o.bidde
 known-same m o k [] e same = rw e refl
 known-same m o k (i ∷ c) e same = rw (same (suc k) (omega arith), known-same m o (suc k) c e (λ j h. same j (omega (arith, h)))) refl
 
+-- menus with the same packages
 pub taken-same : (m o : Menu) (k : ℕ) (c : List ℕ) → ((j i : ℕ) → m.lots j i ≡ o.lots j i) → packages_after m k c ≡ packages_after o k c
 taken-same m o k [] same = refl
 taken-same m o k (i ∷ c) same = rw (same (suc k) i, taken-same m o (suc k) c same) refl
@@ -112,23 +122,28 @@ sum-parts n counts k front back inside count =
     (sum-turned n counts front back (omega (arith, count, inside)))
 
 module _ (m : Menu) (bids : ℕ → ℕ) (k : ℕ) (inside : k ≤ m.bidders) (near : (j : ℕ) → j ≤ k → bids j ≡ m.bids j) where
+  -- the first k bidders have the bids of all
   known-near : (front : List ℕ) → is_known_after (in_order true (with_bids m bids)) (m.bidders - k) front ≡ is_known_after (in_order true m) (m.bidders - k) front
   known-near front = known-same (in_order true (with_bids m bids)) (in_order true m) (m.bidders - k) front refl (λ j h. near (suc m.bidders - j) (omega (arith, h, inside)))
 
+  -- and their packages
   taken-near : (front : List ℕ) → packages_after (in_order true (with_bids m bids)) (m.bidders - k) front ≡ packages_after (in_order true m) (m.bidders - k) front
   taken-near front = taken-same (in_order true (with_bids m bids)) (in_order true m) (m.bidders - k) front (λ j i. refl)
 
+  -- so where only their bids are the same, a choice is known where its parts are
   pub known-parts : (front back : List ℕ) → length front ≡ k → is_known_after (with_bids m bids) 0 (onto front back) ≡ is_known_after (in_order true m) (m.bidders - k) front && is_known_after (with_bids m bids) k back
   known-parts front back count =
       subst (λ h. is_known_after (with_bids m bids) 0 (onto front back) ≡ is_known_after (in_order true (with_bids m bids)) (m.bidders - h) front && is_known_after (with_bids m bids) h back) count
       (known-turned (with_bids m bids) front back (omega (arith, count, inside)))
       ∙ ap (λ b. b && is_known_after (with_bids m bids) k back) (known-near front)
 
+  -- and takes what its parts take
   pub taken-parts : (front back : List ℕ) → length front ≡ k → packages_after (with_bids m bids) 0 (onto front back) ≡ together (packages_after (in_order true m) (m.bidders - k) front) (packages_after (with_bids m bids) k back)
   taken-parts front back count =
       subst (λ h. packages_after (with_bids m bids) 0 (onto front back) ≡ together (packages_after (in_order true (with_bids m bids)) (m.bidders - h) front) (packages_after (with_bids m bids) h back)) count
       (taken-turned (with_bids m bids) front back (omega (arith, count, inside)))
       ∙ ap (λ p. together p (packages_after (with_bids m bids) k back)) (taken-near front)
 
+-- a known choice of the first k bidders, turned round, has k numbers
 pub turned-length : (m : Menu) (k : ℕ) (front : List ℕ) → k ≤ m.bidders → IsTrue (is_known_after (in_order true m) (m.bidders - k) front) → length front ≡ k
 turned-length m k front inside t = omega (arith, inside, known-length (in_order true m) (m.bidders - k) front t)
