@@ -12,3 +12,4 @@ pub mod Stated
 pub mod Comings
 pub mod Fills
 pub mod RoomParts
+pub mod OtherRooms
