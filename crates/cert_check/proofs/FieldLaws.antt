@@ -14,10 +14,12 @@ use Rattle.cert_check.proofs.PlaceLaws.{row-C6}
 use Rattle.cert_check.proofs.PlaceTests.{failing-same}
 use Rattle.cert_check.proofs.SumLaws.{row-place}
 
-pub sizes-of : (c : CertValue) (r : Option ℕ) → IsFirstFailing (C1 (cert_of c.den c.value [] [] [] [])) r → IsFirstFailing (C1 c) r
-sizes-of c r f = failing-same (C1 (cert_of c.den c.value [] [] [] [])) (C1 c)
+pub sizes-of : (c : CertValue) (den value : ℤ) (r : Option ℕ) → c.den ≡ den → c.value ≡ value → IsFirstFailing (C1 (cert_of den value [] [] [] [])) r → IsFirstFailing (C1 c) r
+sizes-of c den value r den_is value_is f = failing-same (C1 (cert_of c.den c.value [] [] [] [])) (C1 c)
     (λ p t. record { den = t.den; value = t.value; size = t.size })
-    (λ p t. record { den = t.den; value = t.value; size = t.size }) r f
+    (λ p t. record { den = t.den; value = t.value; size = t.size }) r
+    (subst (λ (z : ℤ). IsFirstFailing (C1 (cert_of z c.value [] [] [] [])) r) (sym den_is)
+    (subst (λ (z : ℤ). IsFirstFailing (C1 (cert_of den z [] [] [] [])) r) (sym value_is) f))
 
 pub choice-of : (book : Book) (c : CertValue) (value : ℤ) (choice : List ℕ) (r : Option ℕ) → c.choice ≡ choice → c.value ≡ value
     → IsFirstFailing (C2 book (cert_of (pos 0) value choice [] [] [])) r → IsFirstFailing (C2 book c) r

@@ -7,7 +7,7 @@ ghost use Rattle.auction_model.specs.Prices.{sum_over};
 ghost use Rattle.cert_check.specs.Fields.{IsOf, cert_with, row_with};
 ghost use Rattle.cert_check.specs.Places.{IsFirstFailing};
 ghost use Rattle.cert_form.specs.CertText.{AllInRange, AreMembers, AreRows};
-ghost use Rattle.cert_form.specs.Certificate.{CertValue, is_member};
+ghost use Rattle.cert_form.specs.Certificate.{CertValue, RowValue, is_member};
 ghost use Rattle.cert_laws.specs.Tests.{C6, IsTightRow, bidders_of};
 ghost use Rattle.cert_text.specs.Parts.{row_value};
 
@@ -35,6 +35,16 @@ pub(crate) fn rows_test(claim: &Claim, pay: &[i128], rows: &[CertRow]) -> Option
 
 /// Whether the members of a row win, its choice fits and uses none of them, and they pay just what it asks of them.
 pub(crate) fn row_holds(claim: &Claim, pay: &[i128], members: &[u16], choice: &[u16]) -> bool
+    requires pay { (length pay.now ≡ bidders_of claim.now.book.now) × AllInRange pay.now }
+    requires members { AreMembers (bidders_of claim.now.book.now) 0 members.now }
+    requires choice { length choice.now ≡ bidders_of claim.now.book.now }
+    ensures { (c : CertValue) (row : RowValue) → IsOf claim.now c → c.pay ≡ pay.now → row.members ≡ members.now → row.choice ≡ choice.now → IsTrue result ↔ IsTightRow claim.now.book.now c row }
+{
+    pays_tightly(claim, pay, members, choice)
+}
+
+/// The same for the certificate and the row of these numbers alone.
+fn pays_tightly(claim: &Claim, pay: &[i128], members: &[u16], choice: &[u16]) -> bool
     requires pay { (length pay.now ≡ bidders_of claim.now.book.now) × AllInRange pay.now }
     requires members { AreMembers (bidders_of claim.now.book.now) 0 members.now }
     requires choice { length choice.now ≡ bidders_of claim.now.book.now }

@@ -4,7 +4,6 @@ use mir.Val.{SFits}
 use mir.Syntax.{w128}
 use Rattle.auction_model.specs.Prices.{weight_of}
 use Rattle.cert_text.specs.CertValues.{cert_value}
-use Rattle.cert_check.proofs.FieldLaws.{sizes-of}
 use Rattle.cert_check.proofs.VerdictLaws.{held-C1, held-C2, held-C3, asks-C1, asks-C2}
 use Rattle.cert_check.proofs.checking.first_failing.Goals as goal
 
@@ -34,7 +33,7 @@ returns-in-1 c =
     let den_fits : SFits w128 c.args.cert.now.den = search rules in
     let value_fits : SFits w128 c.args.cert.now.value = search rules in
     asks-C1 c.args.book.now (weight_of c.args.weights.now) cert c.args.test c.sizes_test.result (omega arith)
-    (sizes-of cert c.sizes_test.result (rw (to_z-of_z w128 c.args.cert.now.den den_fits, to_z-of_z w128 c.args.cert.now.value value_fits) at c.sizes_test.ensures))
+    (c.sizes_test.ensures cert (sym (to_z-of_z w128 c.args.cert.now.den den_fits)) (sym (to_z-of_z w128 c.args.cert.now.value value_fits)))
 
 pub returns-in-2 : goal.returns-in-2
 returns-in-2 c =

@@ -1,9 +1,9 @@
-use Rattle.std.proofs.Common.{◌≡◌, ◌+◌, ◌∙◌, ℕ, List, [], length, map, true, Some, None, sym, ap, subst, arith, rules}
+use Rattle.std.proofs.Common.{◌≡◌, ◌+◌, ◌∙◌, ℕ, List, [], length, map, true, Some, None, refl, sym, ap, subst, arith, rules}
 use Rattle.std.proofs.lemmas.List.{length-map}
 use Rattle.cert_form.specs.CertText.{AreMembers}
 use Rattle.cert_laws.specs.Tests.{C6, bidders_of}
 use Rattle.cert_text.specs.Parts.{row_value}
-use Rattle.cert_check.specs.Fields.{cert_with}
+use Rattle.cert_check.specs.Fields.{cert_with, row_with}
 use Rattle.cert_check.proofs.FieldLaws.{rows-of, row-here}
 use Rattle.cert_check.proofs.PlaceTests.{before-next, fails-here, holds-everywhere}
 use Rattle.cert_check.proofs.PlaceLaws.{past-C6}
@@ -25,13 +25,13 @@ returns-then-not-row_holds c = λ cert is pay_is rows_is.
     let a = c.args.claim.now in
     let rows = map row_value c.args.rows.now in
     rows-of a.book.now a cert c.args.pay.now rows (Some (c.loop-r.r + 1)) is pay_is rows_is
-    (fails-here (C6 a.book.now (cert_with a [] c.args.pay.now rows)) (c.loop-r.r + 1) c.row_holds.result c.loop-r.invariant (row-here a c.args.pay.now c.args.rows.now c.loop-r.r c.index-rows-r.result c.items.result.now c.numbers.result.now c.row_holds.result c.loop-r-test.true c.index-rows-r.is c.items.ensures c.numbers.ensures c.row_holds.ensures) c.if-not-row_holds.true)
+    (fails-here (C6 a.book.now (cert_with a [] c.args.pay.now rows)) (c.loop-r.r + 1) c.row_holds.result c.loop-r.invariant (row-here a c.args.pay.now c.args.rows.now c.loop-r.r c.index-rows-r.result c.items.result.now c.numbers.result.now c.row_holds.result c.loop-r-test.true c.index-rows-r.is c.items.ensures c.numbers.ensures (c.row_holds.ensures (cert_with a [] c.args.pay.now []) (row_with c.items.result.now c.numbers.result.now) (record { den_is = refl; value_is = refl; choice_is = refl }) refl refl refl)) c.if-not-row_holds.true)
 
 pub loop-r-preserved : goal.loop-r-preserved
 loop-r-preserved c =
     let passed : c.row_holds.result ≡ true = search rules in
     let a = c.args.claim.now in
-    before-next (C6 a.book.now (cert_with a [] c.args.pay.now (map row_value c.args.rows.now))) (c.loop-r.r + 1) c.row_holds.result c.loop-r.invariant (row-here a c.args.pay.now c.args.rows.now c.loop-r.r c.index-rows-r.result c.items.result.now c.numbers.result.now c.row_holds.result c.loop-r-test.true c.index-rows-r.is c.items.ensures c.numbers.ensures c.row_holds.ensures) passed
+    before-next (C6 a.book.now (cert_with a [] c.args.pay.now (map row_value c.args.rows.now))) (c.loop-r.r + 1) c.row_holds.result c.loop-r.invariant (row-here a c.args.pay.now c.args.rows.now c.loop-r.r c.index-rows-r.result c.items.result.now c.numbers.result.now c.row_holds.result c.loop-r-test.true c.index-rows-r.is c.items.ensures c.numbers.ensures (c.row_holds.ensures (cert_with a [] c.args.pay.now []) (row_with c.items.result.now c.numbers.result.now) (record { den_is = refl; value_is = refl; choice_is = refl }) refl refl refl)) passed
 
 pub returns : goal.returns
 returns c = λ cert is pay_is rows_is.
