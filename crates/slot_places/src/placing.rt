@@ -5,6 +5,7 @@ ghost use Rattle.slot_places.specs.Board.{board_of, market_of, start_behind, sta
 ghost use Rattle.slot_places.specs.SetTable.{holds};
 ghost use Rattle.slot_places.specs.Orders.{allows, IsPlacement};
 ghost use Rattle.slot_places.specs.Steps.{CanFollow, IsFirstNext};
+ghost use Rattle.slot_places.specs.declared.TheConstants.{MOST_PLACED};
 
 use crate::Slots;
 use crate::search::{is_in, weight};
@@ -130,7 +131,7 @@ impl Slots {
     /// Whether a bidder has this number.
     fn is_bidder(&self, j: u16) -> bool
         ensures bidder { IsTrue result ↔ ((0 < j) × (j ≤ length self.now.bidders)) }
-        ensures most { IsTrue result → j ≤ 6 }
+        ensures most { IsTrue result → j ≤ MOST_PLACED }
     {
         0 < j && j as usize <= self.bidders()
     }

@@ -2,9 +2,11 @@
 ghost use Rattle.std.specs.Prelude.{◌≡◌, ◌+◌, ◌*◌, ◌^◌, ◌≤◌, ◌<◌, length, pos, unsigned_abs, ℤ, neg_ℤ, ◌-ℤ◌, ◌-◌, ◌*ℤ◌};
 ghost use Rattle.std.specs.Int.{int_max};
 ghost use Rattle.auction_model.specs.Lowered.{of_bidder};
+ghost use Rattle.limits.specs.declared.TheConstants.{MOST_LOTS};
 ghost use Rattle.slot_places.specs.Slots.{amount_of};
 ghost use Rattle.slot_places.specs.Board.{board_without, start_behind};
 ghost use Rattle.slot_places.specs.SetTable.{holds, StaysInRange};
+ghost use Rattle.slot_places.specs.declared.TheConstants.{MOST_PLACED};
 
 use crate::Slots;
 
@@ -27,7 +29,7 @@ impl<'a> Search<'a> {
     pub fn bids(&self, j: u16) -> u16
         requires { (0 < j) × (j ≤ length self.now.slots.now.bidders) }
         ensures bids { result ≡ (searched self.now).bids j }
-        ensures most { result ≤ 40 }
+        ensures most { result ≤ MOST_LOTS }
     {
         if j == self.skip {
             0
@@ -62,7 +64,7 @@ impl<'a> Search<'a> {
 
 /// Whether a set holds bidder `j`.
 pub fn is_in(set: usize, j: u16) -> bool
-    requires { (0 < j) × (j ≤ 6) }
+    requires { (0 < j) × (j ≤ MOST_PLACED) }
     ensures { result ≡ holds set j }
 {
     (set >> (j - 1)) & 1 == 1
@@ -70,7 +72,7 @@ pub fn is_in(set: usize, j: u16) -> bool
 
 /// What bidder `j` counts in the bits of a set.
 pub fn weight(j: u16) -> usize
-    requires { (0 < j) × (j ≤ 6) }
+    requires { (0 < j) × (j ≤ MOST_PLACED) }
     ensures { result ≡ 2 ^ (j - 1) }
 {
     match j {

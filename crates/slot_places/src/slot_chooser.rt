@@ -7,6 +7,7 @@ ghost use Rattle.auction_model.specs.Prices.{allowed_without};
 ghost use Rattle.slot_places.specs.Slots.{amount_of};
 ghost use Rattle.slot_places.specs.Board.{market_of, board_without, is_placed};
 ghost use Rattle.slot_places.specs.SetTable.{IsSetTable};
+ghost use Rattle.slot_places.specs.declared.TheConstants.{MOST_PLACED};
 
 use crate::search::Search;
 use crate::searching::greatest;
@@ -52,7 +53,7 @@ impl<'a> SlotChooser<'a> {
 
 /// So many zeros.
 fn zeros(alloc: Global, count: usize) -> Result<Vec<i128>, AllocError>
-    requires { count ≤ 6 }
+    requires { count ≤ MOST_PLACED }
     ensures count { IfOk result (λ v. length v.items ≡ count) }
     ensures zeros { IfOk result (λ v. (k : ℕ) → slice_index_or v.items k (pos 0) ≡ pos 0) }
 {

@@ -1,6 +1,7 @@
 // Slots, and the calls that read them.
 ghost use Rattle.std.specs.Prelude.{◌≡◌, ◌≤◌, ◌<◌, ◌+◌, ◌++◌, ◌∷◌, [], OnOk, length};
 ghost use Rattle.limits.specs.declared.TheConstants.{MOST_LOTS};
+ghost use Rattle.slot_places.specs.declared.TheConstants.{MOST_PLACED};
 ghost use Rattle.slot_places.specs.Kept.{AreSlots};
 ghost use Rattle.slot_places.specs.Slots.{bidder_of, width_of, bids_of, bid_of};
 
@@ -127,7 +128,7 @@ impl Slots {
     /// How many bidders there are.
     pub fn bidders(&self) -> usize
         ensures bidders { result ≡ length self.now.bidders }
-        ensures most { result ≤ 6 }
+        ensures most { result ≤ MOST_PLACED }
         ensures kept { AreSlots self.now }
     {
         self.bidders.len()
@@ -155,7 +156,7 @@ impl Slots {
     pub fn places(&self, j: u16) -> u16
         requires { (0 < j) × (j ≤ length self.now.bidders) }
         ensures bids { result ≡ length (bids_of self.now j) }
-        ensures most { result ≤ 40 }
+        ensures most { result ≤ MOST_LOTS }
     {
         let bidder = &self.bidders[j as usize - 1];
         bidder.places.len() as u16
