@@ -5,8 +5,7 @@ use Rattle.std.specs.Fmt.{decimal}
 use Rattle.std.specs.List.{AllByRecursion}
 use Rattle.std.proofs.lemmas.Bool.Decides.{nat_tests}
 use Rattle.std.proofs.lemmas.List.{append_cancel_left, take_more}
-use Rattle.bid_book.proofs.Numbers.{NoSpace, number_own, one_field}
-use Rattle.bid_book.specs.Stops.{Stops}
+use Rattle.text_lines.proofs.DecimalFields.{NoSpace, number_own, one_field}
 use Rattle.text_lines.specs.Fields.{FieldEnds}
 use Rattle.book_form.specs.BookForm.{IsName}
 use Rattle.limits.specs.declared.LimitKind.TheVariants.{Lots, Bidders}
@@ -20,12 +19,8 @@ use Rattle.slot_places.proofs.LineLaws.{bidder_no_place, name_own, two_parts}
 -- a text whose first field ends without a space has one field
 pub one_only : (text field behind : List ℕ) → text ≡ field ++ behind → NoSpace field → FieldEnds behind → ((more : List ℕ) → behind ≡ codes " " ++ more → ⊥) → (first second : List ℕ) → NoSpace first → text ≡ first ++ 32 ∷ second → ⊥
 one_only text field behind whole own ends other first second first_own is =
-    let parts = one_field field first behind (32 ∷ second) own first_own (stops behind ends) refl (sym whole ∙ is) in
+    let parts = one_field field first behind (32 ∷ second) own first_own ends refl (sym whole ∙ is) in
     other second parts.1
-  where
-    stops : (cs : List ℕ) → FieldEnds cs → Stops cs
-    stops [] e = tt
-    stops (c ∷ cs) e = e
 
 pub many_lots : (n : ℕ) → 40 < n → band_excess n ≡ Some (Lots, n)
 many_lots n many = grind (arith, nat_tests)

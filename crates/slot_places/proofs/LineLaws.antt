@@ -4,42 +4,29 @@ use Rattle.std.specs.Prelude.{codes}
 use Rattle.std.specs.List.{AllByRecursion}
 use Rattle.std.specs.Fmt.{decimal}
 use Rattle.std.proofs.lemmas.List.{append_cancel_left}
-use Rattle.wide_num.proofs.Decimal.{decimal_one, numeral_decimal, AreDigits}
+use Rattle.wide_num.proofs.Decimal.{decimal_one}
 use Rattle.line_text.specs.LineText.{IsLine}
 use Rattle.book_form.specs.BookForm.{IsName, IsNameByte}
-use Rattle.bid_book.proofs.Numbers.{NoSpace, one_field, number_own}
+use Rattle.bid_book.proofs.Spelled.{number_line, name_line}
+use Rattle.line_text.proofs.Lines.{line_append}
+use Rattle.text_lines.proofs.DecimalFields.{NoSpace, one_field, number_own}
 use Rattle.slot_places.specs.Slots.{SlotBid, SlotList}
 use Rattle.slot_places.specs.SlotForm.{band_line, bidder_line, place_line}
 use Rattle.slot_places.specs.Stages.{with_bid, bidder_with, with_bidders, IsEntrant, AddsBidder, AddsPlace, Adds}
 
-digits_line : (ds : List ℕ) → AreDigits ds → IsLine ds
-digits_line [] all = tt
-digits_line (d ∷ ds) all = ((λ is. absurd (omega (arith, all.0))), digits_line ds all.1)
+name_byte : (c : ℕ) → IsNameByte c → c ≢ 32
+name_byte c (inl letter) is = omega (arith, letter, is)
+name_byte c (inr (inl digit)) is = omega (arith, digit, is)
+name_byte c (inr (inr low)) is = omega (arith, low, is)
 
-pub line_append : (xs ys : List ℕ) → IsLine xs → IsLine ys → IsLine (xs ++ ys)
-line_append [] ys x y = y
-line_append (c ∷ xs) ys x y = (x.0, line_append xs ys x.1 y)
-
-number_line : (n : ℕ) → n < 2 ^ 120 → IsLine (decimal n)
-number_line n small = digits_line (decimal n) (numeral_decimal n (omega arith)).digits
-
-name_byte : (c : ℕ) → IsNameByte c → (c ≢ 10) × (c ≢ 32)
-name_byte c (inl letter) = ((λ is. omega (arith, letter, is)), (λ is. omega (arith, letter, is)))
-name_byte c (inr (inl digit)) = ((λ is. omega (arith, digit, is)), (λ is. omega (arith, digit, is)))
-name_byte c (inr (inr low)) = ((λ is. omega (arith, low, is)), (λ is. omega (arith, low, is)))
-
-name_bytes : (cs : List ℕ) → AllByRecursion IsNameByte cs → IsLine cs × NoSpace cs
-name_bytes [] all = (tt, tt)
-name_bytes (c ∷ cs) all = let own = name_byte c all.0 in let rest = name_bytes cs all.1 in ((own.0, rest.0), (own.1, rest.1))
-
-name_line : (name : List ℕ) → IsName name → IsLine name
-name_line [] is = absurd is
-name_line (c ∷ cs) is = ((λ feed. omega (arith, is.0, feed)), (name_bytes cs is.1).0)
+name_bytes : (cs : List ℕ) → AllByRecursion IsNameByte cs → NoSpace cs
+name_bytes [] all = tt
+name_bytes (c ∷ cs) all = (name_byte c all.0, name_bytes cs all.1)
 
 -- no space stands in a name
 pub name_own : (name : List ℕ) → IsName name → NoSpace name
 name_own [] is = absurd is
-name_own (c ∷ cs) is = ((λ space. omega (arith, is.0, space)), (name_bytes cs is.1).1)
+name_own (c ∷ cs) is = ((λ space. omega (arith, is.0, space)), name_bytes cs is.1)
 
 pub slots_word : IsLine (codes "slots 1")
 slots_word = ((λ is. absurd (omega arith)), ((λ is. absurd (omega arith)), ((λ is. absurd (omega arith)), ((λ is. absurd (omega arith)), ((λ is. absurd (omega arith)), ((λ is. absurd (omega arith)), ((λ is. absurd (omega arith)), tt)))))))
