@@ -1,11 +1,11 @@
 //! Exact tables of a book, and the winning choice.
 #![tactic(auto)]
 
+mod amount;
 mod book_chooser;
 mod lines;
 mod lowering;
 mod narrow;
-mod narrow_runs;
 mod runs;
 mod sides;
 mod table;

@@ -4,7 +4,7 @@ ghost use Rattle.limits.specs.declared.TheConstants.{MOST_STATES};
 ghost use Rattle.value_table.specs.Counted.{counted_bids, counted, IsCountedLine, IsNarrow};
 
 use crate::lowering::Lowering;
-use crate::narrow_runs::add_narrow_bid;
+use crate::runs::add_bid;
 use std::alloc::{AllocError, Global};
 
 /// The numbers in 64 bits each.
@@ -62,7 +62,7 @@ fn count_narrow_bids(lowering: &Lowering, j: u16, line: &mut [i64], below: &[i64
         }
         let worth = lowering.worth(j, i + 1) as i64;
         let bid = lowering.bid(j, i + 1);
-        add_narrow_bid(lowering.book.supply(), line, below, &bid.package, worth);
+        add_bid(lowering.book.supply(), line, below, &bid.package, worth);
     }
 }
 

@@ -1,36 +1,21 @@
 // Counting one bid in a line, run by run. In one category, block `q` of a line has the places with `q` lots of that category
 // left, and a bid of `count` lots raises block `q` from block `q - count` of the line below.
-ghost use Rattle.std.specs.Prelude.{◌≡◌, ℕ, ◌^◌, ◌≤◌, ◌<◌, length, slice_index_or, pos, ◌+ℤ◌, unsigned_abs};
-ghost use Rattle.std.specs.Int.{int_max};
+ghost use Rattle.std.specs.Prelude.{◌≡◌, ℕ, ◌≤◌, ◌<◌, length, slice_index_or, pos, unsigned_abs, map};
 ghost use Rattle.auction_model.specs.Place.{states_of, widths_of};
 ghost use Rattle.auction_model.specs.Steps.{raised};
 ghost use Rattle.limits.specs.declared.TheConstants.{MOST_STATES};
 
+use crate::amount::Amount;
 use lots::{Package, Supply, used_categories};
 
-/// Raises each number of `line` to that of `below` with the worth, where it is smaller.
-fn raise_run(line: &mut [i128], below: &[i128], worth: i128)
-    requires places { length line.old ≡ length below.now }
-    requires worth { unsigned_abs worth ≤ 2 ^ 120 }
-    requires sizes { (s : ℕ) → unsigned_abs (slice_index_or below.now s (pos 0)) ≤ 2 ^ 120 }
-    ensures { (s : ℕ) → s < length line.old → slice_index_or line.new s (pos 0) ≡ int_max (slice_index_or line.old s (pos 0)) (worth +ℤ slice_index_or below.now s (pos 0)) }
-{
-    for i in 0..line.len() {
-        let sum = worth + below[i];
-        if line[i] < sum {
-            line[i] = sum;
-        }
-    }
-}
-
 /// Counts one more bid that wants lots of the first of some categories alone: in the places with enough of it, which are one run.
-fn raise_one(
+fn raise_one<A: Amount>(
     supply: &[u16],
     widths: &[usize],
     counts: &[u16],
-    line: &mut [i128],
-    below: &[i128],
-    worth: i128,
+    line: &mut [A],
+    below: &[A],
+    worth: A,
 )
     requires widths { widths.now ≡ widths_of supply.now }
     requires one { length counts.now ≡ 1 }
@@ -38,25 +23,25 @@ fn raise_one(
     requires states { states_of supply.now ≤ MOST_STATES }
     requires places { length below.now ≡ states_of supply.now }
     requires line { length line.old ≡ states_of supply.now }
-    requires worth { unsigned_abs worth ≤ 2 ^ 120 }
-    requires sizes { (s : ℕ) → unsigned_abs (slice_index_or below.now s (pos 0)) ≤ 2 ^ 120 }
-    ensures { (s : ℕ) → s < length line.old → slice_index_or line.new s (pos 0) ≡ raised supply.now below.now counts.now worth s (slice_index_or line.old s (pos 0)) }
+    requires worth { unsigned_abs (A.number worth) ≤ A.most }
+    requires sizes { (s : ℕ) → unsigned_abs (slice_index_or (map A.number below.now) s (pos 0)) ≤ A.most }
+    ensures { (s : ℕ) → s < length line.old → slice_index_or (map A.number line.new) s (pos 0) ≡ raised supply.now (map A.number below.now) counts.now (A.number worth) s (slice_index_or (map A.number line.old) s (pos 0)) }
 {
     let from = counts[0] as usize * widths[0];
     let all = line.len();
     if from < all {
-        raise_run(&mut line[from..], &below[..all - from], worth);
+        A::raise_run(&mut line[from..], &below[..all - from], worth);
     }
 }
 
 /// Counts one more bid that wants lots of two categories, without a call for each run.
-fn raise_two(
+fn raise_two<A: Amount>(
     supply: &[u16],
     widths: &[usize],
     counts: &[u16],
-    line: &mut [i128],
-    below: &[i128],
-    worth: i128,
+    line: &mut [A],
+    below: &[A],
+    worth: A,
 )
     requires widths { widths.now ≡ widths_of supply.now }
     requires two { length counts.now ≡ 2 }
@@ -64,9 +49,9 @@ fn raise_two(
     requires states { states_of supply.now ≤ MOST_STATES }
     requires places { length below.now ≡ states_of supply.now }
     requires line { length line.old ≡ states_of supply.now }
-    requires worth { unsigned_abs worth ≤ 2 ^ 120 }
-    requires sizes { (s : ℕ) → unsigned_abs (slice_index_or below.now s (pos 0)) ≤ 2 ^ 120 }
-    ensures { (s : ℕ) → s < length line.old → slice_index_or line.new s (pos 0) ≡ raised supply.now below.now counts.now worth s (slice_index_or line.old s (pos 0)) }
+    requires worth { unsigned_abs (A.number worth) ≤ A.most }
+    requires sizes { (s : ℕ) → unsigned_abs (slice_index_or (map A.number below.now) s (pos 0)) ≤ A.most }
+    ensures { (s : ℕ) → s < length line.old → slice_index_or (map A.number line.new) s (pos 0) ≡ raised supply.now (map A.number below.now) counts.now (A.number worth) s (slice_index_or (map A.number line.old) s (pos 0)) }
 {
     let width = widths[0];
     let count = counts[0] as usize;
@@ -85,13 +70,13 @@ fn raise_two(
 }
 
 /// Counts one more bid in the places of some categories.
-fn raise_block(
+fn raise_block<A: Amount>(
     supply: &[u16],
     widths: &[usize],
     counts: &[u16],
-    line: &mut [i128],
-    below: &[i128],
-    worth: i128,
+    line: &mut [A],
+    below: &[A],
+    worth: A,
 )
     requires widths { widths.now ≡ widths_of supply.now }
     requires some { 0 < length counts.now }
@@ -99,9 +84,9 @@ fn raise_block(
     requires states { states_of supply.now ≤ MOST_STATES }
     requires places { length below.now ≡ states_of supply.now }
     requires line { length line.old ≡ states_of supply.now }
-    requires worth { unsigned_abs worth ≤ 2 ^ 120 }
-    requires sizes { (s : ℕ) → unsigned_abs (slice_index_or below.now s (pos 0)) ≤ 2 ^ 120 }
-    ensures { (s : ℕ) → s < length line.old → slice_index_or line.new s (pos 0) ≡ raised supply.now below.now counts.now worth s (slice_index_or line.old s (pos 0)) }
+    requires worth { unsigned_abs (A.number worth) ≤ A.most }
+    requires sizes { (s : ℕ) → unsigned_abs (slice_index_or (map A.number below.now) s (pos 0)) ≤ A.most }
+    ensures { (s : ℕ) → s < length line.old → slice_index_or (map A.number line.new) s (pos 0) ≡ raised supply.now (map A.number below.now) counts.now (A.number worth) s (slice_index_or (map A.number line.old) s (pos 0)) }
 {
     if counts.len() == 1 {
         return raise_one(supply, widths, counts, line, below, worth);
@@ -126,13 +111,13 @@ fn raise_block(
 }
 
 /// Counts one more bid in each entry of the line.
-pub fn add_bid(supply: &Supply, line: &mut [i128], below: &[i128], lots: &Package, worth: i128)
+pub fn add_bid<A: Amount>(supply: &Supply, line: &mut [A], below: &[A], lots: &Package, worth: A)
     requires places { length below.now ≡ states_of supply.now }
     requires line { length line.old ≡ states_of supply.now }
     requires categories { length lots.now ≡ length supply.now }
-    requires worth { unsigned_abs worth ≤ 2 ^ 120 }
-    requires sizes { (s : ℕ) → unsigned_abs (slice_index_or below.now s (pos 0)) ≤ 2 ^ 120 }
-    ensures { (s : ℕ) → s < length line.old → slice_index_or line.new s (pos 0) ≡ raised supply.now below.now lots.now worth s (slice_index_or line.old s (pos 0)) }
+    requires worth { unsigned_abs (A.number worth) ≤ A.most }
+    requires sizes { (s : ℕ) → unsigned_abs (slice_index_or (map A.number below.now) s (pos 0)) ≤ A.most }
+    ensures { (s : ℕ) → s < length line.old → slice_index_or (map A.number line.new) s (pos 0) ≡ raised supply.now (map A.number below.now) lots.now (A.number worth) s (slice_index_or (map A.number line.old) s (pos 0)) }
 {
     let _states = supply.states();
     let radices = supply.counts();

@@ -1,6 +1,7 @@
-use Rattle.std.proofs.Common.{◌≡◌, ◌∙◌, ◌+◌, refl, arith, rules}
+use Rattle.std.proofs.Common.{◌≡◌, ◌∙◌, ◌+◌, ◌^◌, refl, arith, rules}
 use Rattle.std.proofs.lemmas.Int.{to_z-of_z}
 use Rattle.auction_model.proofs.BidderLaws.{bidder-none, bidder-more, bidder-all}
+use Rattle.value_table.proofs.NumberParts.{plain-small, plain-raised}
 use Rattle.value_table.proofs.Sizes.{line-small}
 use Rattle.value_table.proofs.Needless.{line-needless}
 use Rattle.value_table.specs.Counted.{counted_bids, counted}
@@ -14,7 +15,8 @@ loop-i-init c =
     bidder-none (counted_bids l) (counted l) l.book.now.supply c.args.j c.requires.bidder.0 c.args.below.now c.args.line.now (counted l c.args.j 0) refl refl c.requires.below c.requires.places c.requires.line
 
 pub add_bid-requires-clause-sizes : goal.add_bid-requires-clause-sizes
-add_bid-requires-clause-sizes c = line-small c.args.lowering.now c.args.j c.args.below.now c.requires.below
+add_bid-requires-clause-sizes c =
+    plain-small c.args.below.now (2 ^ 120) (line-small c.args.lowering.now c.args.j c.args.below.now c.requires.below)
 
 pub loop-i-preserved : goal.loop-i-preserved
 loop-i-preserved c =
@@ -22,7 +24,7 @@ loop-i-preserved c =
     let worth_fits : SFits w128 c.worth-worth.result = search rules in
     let worth : to_z w128 (of_z w128 c.worth-worth.result) ≡ counted l c.args.j (c.loop-i.i + 1) = to_z-of_z w128 c.worth-worth.result worth_fits ∙ c.worth-worth.ensures.worth in
     bidder-more (counted_bids l) (counted l) l.book.now.supply c.args.j c.requires.bidder.0 c.loop-i.i c.args.below.now c.loop-i.line c.add_bid.new.line c.requires.below c.loop-i.invariant c.add_bid.auto.line
-    (λ s h. simp (c.supply.ensures.supply, c.bid-bid.ensures.lots, worth) at (c.add_bid.ensures s h))
+    (λ s h. simp (c.supply.ensures.supply, c.bid-bid.ensures.lots, worth) at (plain-raised c.supply.result.now c.bid-bid.result.now.package c.add_bid.new.line c.args.below.now c.loop-i.line (to_z w128 (of_z w128 c.worth-worth.result)) s (c.add_bid.ensures s h)))
 
 pub returns : goal.returns
 returns c =

@@ -1,14 +1,15 @@
 use Rattle.std.proofs.Common.{◌≡◌, ◌∙◌, ◌<◌, ◌≤◌, ◌^◌, ℕ, sym, ap, arith, rules, get_or, set, length, ℤ, pos, ◌+ℤ◌, ◌<ℤ◌, ◌≤ℤ◌, unsigned_abs, Bool, true, false, not}
 use Rattle.std.specs.Int.{int_max}
 use Rattle.std.proofs.lemmas.Int.{to_z-of_z, ints, fits_signed_from_abs, int_max_is}
+use Rattle.value_table.proofs.NumberParts.{read-plain, plain-run}
 use Rattle.value_table.proofs.Places.{done-more, rest-more, done-kept, rest-kept}
 use Rattle.std.proofs.lemmas.Bool.{false≢true, not_from_false}
 use Rattle.std.specs.Int.Signed.{lt_z, lt_z_no}
 use lib.Dec.{T}
 use mir.Val.{SFits, to_z, of_z}
 use mir.Syntax.{w128}
-use Rattle.value_table.proofs.runs.raise_run.Goals as goal
-use Rattle.value_table.proofs.runs.raise_run.Goals.{then-line-i, else-line-i}
+use Rattle.value_table.proofs.amount.I128Amount.raise_run.Goals as goal
+use Rattle.value_table.proofs.amount.I128Amount.raise_run.Goals.{then-line-i, else-line-i}
 
 holds : (b : Bool) → b ≡ true → T b
 holds true h = tt
@@ -28,7 +29,7 @@ loop-i-preserved c =
     let b = get_or c.args.below.now at (pos 0) in
     let old = get_or line at (pos 0) in
     let inside : at < length line = omega arith in
-    let size : unsigned_abs b ≤ 2 ^ 120 = c.requires.sizes at in
+    let size : unsigned_abs b ≤ 2 ^ 120 = rw (read-plain c.args.below.now at) at (c.requires.sizes at) in
     let old_fits : SFits w128 old = search rules in
     let worth_fits : SFits w128 c.args.worth = search rules in
     let below_fits : SFits w128 b = fits_signed_from_abs w128 b (omega (arith, size)) in
@@ -52,3 +53,18 @@ loop-i-preserved c =
             rest = rest-kept f line c.args.line.now at old inside c.loop-i.invariant.rest;
           })
     ]
+
+pub overflow_add-sum : goal.overflow_add-sum
+overflow_add-sum c =
+    let at = c.loop-i.i in
+    let b = get_or c.args.below.now at (pos 0) in
+    let size : unsigned_abs b ≤ 2 ^ 120 = rw (read-plain c.args.below.now at) at (c.requires.sizes at) in
+    let worth_fits : SFits w128 c.args.worth = search rules in
+    let below_fits : SFits w128 b = fits_signed_from_abs w128 b (omega (arith, size)) in
+    let sum_fits : SFits w128 (c.args.worth +ℤ b) = search rules in
+    rw (to_z-of_z w128 c.args.worth worth_fits, to_z-of_z w128 b below_fits) sum_fits
+
+pub returns : goal.returns
+returns c =
+    let worth_fits : SFits w128 c.args.worth = search rules in
+    λ s h. plain-run c.loop-i.line c.args.below.now c.args.line.now c.args.worth s (rw (to_z-of_z w128 c.args.worth worth_fits) at (c.loop-i.invariant.done s (omega arith)))

@@ -1,10 +1,11 @@
 use Rattle.std.proofs.Common.{◌≡◌, ◌∙◌, ◌<◌, ◌≤◌, ◌^◌, sym, ap, arith, rules, get_or, length, ℤ, pos, ◌+ℤ◌, unsigned_abs}
 use Rattle.std.specs.Int.{int_max}
 use Rattle.std.proofs.lemmas.Int.{to_z-of_z, fits_signed_from_abs}
+use Rattle.value_table.proofs.NumberParts.{read-plain, plain-run}
 use Rattle.value_table.proofs.Places.{done-more, rest-more}
 use mir.Val.{SFits, to_z, of_z}
 use mir.Syntax.{w64}
-use Rattle.value_table.proofs.narrow_runs.raise_run.Goals as goal
+use Rattle.value_table.proofs.amount.I64Amount.raise_run.Goals as goal
 
 pub loop-i-preserved : goal.loop-i-preserved
 loop-i-preserved c =
@@ -14,7 +15,7 @@ loop-i-preserved c =
     let made = to_z w64 (of_z w64 c.max.result) in
     let b = get_or c.args.below.now at (pos 0) in
     let inside : at < length line = omega arith in
-    let size : unsigned_abs b ≤ 2 ^ 61 = c.requires.sizes at in
+    let size : unsigned_abs b ≤ 2 ^ 61 = rw (read-plain c.args.below.now at) at (c.requires.sizes at) in
     let old_fits : SFits w64 (get_or line at (pos 0)) = search rules in
     let worth_fits : SFits w64 c.args.worth = search rules in
     let below_fits : SFits w64 b = fits_signed_from_abs w64 b (omega (arith, size)) in
@@ -27,3 +28,18 @@ loop-i-preserved c =
       done = done-more f line c.args.line.now at made inside c.loop-i.invariant.rest c.loop-i.invariant.done is;
       rest = rest-more f line c.args.line.now at made inside c.loop-i.invariant.rest;
     }
+
+pub overflow_add-worth : goal.overflow_add-worth
+overflow_add-worth c =
+    let at = c.loop-i.i in
+    let b = get_or c.args.below.now at (pos 0) in
+    let size : unsigned_abs b ≤ 2 ^ 61 = rw (read-plain c.args.below.now at) at (c.requires.sizes at) in
+    let worth_fits : SFits w64 c.args.worth = search rules in
+    let below_fits : SFits w64 b = fits_signed_from_abs w64 b (omega (arith, size)) in
+    let sum_fits : SFits w64 (c.args.worth +ℤ b) = search rules in
+    rw (to_z-of_z w64 c.args.worth worth_fits, to_z-of_z w64 b below_fits) sum_fits
+
+pub returns : goal.returns
+returns c =
+    let worth_fits : SFits w64 c.args.worth = search rules in
+    λ s h. plain-run c.loop-i.line c.args.below.now c.args.line.now c.args.worth s (rw (to_z-of_z w64 c.args.worth worth_fits) at (c.loop-i.invariant.done s (omega arith)))

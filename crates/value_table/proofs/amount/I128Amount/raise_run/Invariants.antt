@@ -1,6 +1,6 @@
 use Rattle.std.proofs.Common.{◌≡◌, ℕ, ◌<◌, ◌≤◌, get_or, pos, ◌+ℤ◌}
 use Rattle.std.specs.Int.{int_max}
-use Rattle.value_table.proofs.narrow_runs.raise_run.Given as goal
+use Rattle.value_table.proofs.amount.I128Amount.raise_run.Given as goal
 
 abbrev pub invariant-loop-i : goal.invariant-loop-i
 invariant-loop-i l = record {

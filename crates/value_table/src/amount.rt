@@ -1,0 +1,46 @@
+// The numbers of a line, in the two sizes in which lines are worked out.
+ghost use Rattle.std.specs.Prelude.{◌≡◌, ℕ, ◌^◌, ◌≤◌, ◌<◌, length, slice_index_or, ℤ, pos, ◌+ℤ◌, unsigned_abs, map};
+ghost use Rattle.std.specs.Int.{int_max};
+
+/// A number of a line, so that bids are counted by the same functions in lines of each size.
+pub trait Amount: Copy {
+    /// The whole number.
+    ghost number: { Self → ℤ };
+
+    /// How far from zero a worth and a number of the line below may be.
+    ghost most: { ℕ };
+
+    /// Raises each number of `line` to that of `below` with the worth, where it is smaller.
+    fn raise_run(line: &mut [Self], below: &[Self], worth: Self)
+        requires places { length line.old ≡ length below.now }
+        requires worth { unsigned_abs (number worth) ≤ most }
+        requires sizes { (s : ℕ) → unsigned_abs (slice_index_or (map number below.now) s (pos 0)) ≤ most }
+        ensures { (s : ℕ) → s < length line.old → slice_index_or (map number line.new) s (pos 0) ≡ int_max (slice_index_or (map number line.old) s (pos 0)) (number worth +ℤ slice_index_or (map number below.now) s (pos 0)) };
+}
+
+impl Amount for i128 {
+    ghost number = { λ z. z };
+
+    ghost most = { 2 ^ 120 };
+
+    fn raise_run(line: &mut [i128], below: &[i128], worth: i128) {
+        for i in 0..line.len() {
+            let sum = worth + below[i];
+            if line[i] < sum {
+                line[i] = sum;
+            }
+        }
+    }
+}
+
+impl Amount for i64 {
+    ghost number = { λ z. z };
+
+    ghost most = { 2 ^ 61 };
+
+    fn raise_run(line: &mut [i64], below: &[i64], worth: i64) {
+        for i in 0..line.len() {
+            line[i] = line[i].max(worth + below[i]);
+        }
+    }
+}
