@@ -7,6 +7,7 @@ use Rattle.cert_form.specs.Certificate.{CertValue, WithoutValue, RowValue, part_
 use Rattle.cert_form.specs.Lines.{Line, is_first_version, version_of}
 use Rattle.cert_form.specs.CertText.{line, as_numbers, choice_line, table_lines, part_lines, row_lines, body_lines, cert_lines, IsCertificate, IsWithout, AreWithouts}
 use Rattle.cert_form.proofs.Version.{version_is}
+use Rattle.cert_form.proofs.Written.{long_numbers}
 use Rattle.cert_pieces.specs.declared.due.Due.{Due}
 use Rattle.cert_pieces.specs.declared.due.Due.TheVariants.{Version, Limits, Den, Title, Entries, Without, Payments, Rows, Members, Multipliers}
 use Rattle.cert_pieces.specs.declared.due.Table.{Table}
@@ -111,11 +112,6 @@ number_at : (ns : List ℕ) (i : ℕ) → get_or (as_numbers ns) i (pos 0) ≡ p
 number_at [] i = refl
 number_at (n ∷ ns) zero = refl
 number_at (n ∷ ns) (suc i) = number_at ns i
-
--- as many as the choice has
-long_numbers : (ns : List ℕ) → length (as_numbers ns) ≡ length ns
-long_numbers [] = refl
-long_numbers (n ∷ ns) = ap suc (long_numbers ns)
 
 -- the lines of either version
 version_left : (first : Bool) → version_of first ≡ line (codes "cert") (pos (version_number first) ∷ []) ∷ limits_lines first

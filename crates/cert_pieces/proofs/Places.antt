@@ -3,6 +3,8 @@ use Rattle.std.proofs.Common.{◌≡◌, ◌≢◌, ℕ, suc, zero, ◌+◌, ◌
 use Rattle.std.proofs.lemmas.Bool.{cases_eq}
 use Rattle.std.proofs.lemmas.List.{append-nil}
 use Rattle.line_text.specs.LineText.{IsLine, text_of, IsTextOf, FaultAt}
+use Rattle.line_text.proofs.Lines.{line_push}
+use Rattle.text_lines.proofs.Words.{word_front}
 use Rattle.text_lines.specs.Numeral.{numbers_text}
 use Rattle.cert_form.specs.Lines.{Line, Kind, Numbers, kind, Fits, after, spell, over, IsCertText, lines}
 use Rattle.cert_form.specs.Reading.{Reached}
@@ -17,12 +19,7 @@ drop_more zero xs ys le = refl
 drop_more (suc n) [] ys le = absurd (omega (arith, le))
 drop_more (suc n) (x ∷ xs) ys le = drop_more n xs ys (omega (arith, le))
 
--- the first list of two
-take_whole : (xs ys : List ℕ) → take (length xs) (xs ++ ys) ≡ xs
-take_whole [] ys = refl
-take_whole (x ∷ xs) ys = ap (λ (l : List ℕ). x ∷ l) (take_whole xs ys)
-
--- and the second
+-- the second list of two
 drop_whole : (xs ys : List ℕ) → drop (length xs) (xs ++ ys) ≡ ys
 drop_whole [] ys = refl
 drop_whole (x ∷ xs) ys = drop_whole xs ys
@@ -68,11 +65,6 @@ longer_line [] more r m is feed = (take m more, refl)
 longer_line (x ∷ front) more r zero is feed = absurd (is.0 cc)
 longer_line (x ∷ front) more r (suc m) is feed = let rest = longer_line front more r m is.1 feed in (rest.0, ap (λ (l : List ℕ). x ∷ l) rest.1)
 
--- one more byte of a line
-pub line_push : (xs : List ℕ) (c : ℕ) → IsLine xs → c ≢ 10 → IsLine (xs ++ c ∷ [])
-line_push [] c is other = (other, tt)
-line_push (x ∷ xs) c is other = (is.0, line_push xs c is.1 other)
-
 module _ (b s : ℕ) (text : List ℕ) (place : ℕ) where
   -- the place is within the text
   pub reached_within : (plan : List Kind) (items : List Line) → Reached b s text place plan items → place ≤ length text
@@ -114,7 +106,7 @@ module _ (b s : ℕ) (text : List ℕ) (place : ℕ) where
 
     -- the line is whole
     line_is : (more : List ℕ) → take (length this) (drop place ((text ++ 10 ∷ []) ++ more)) ≡ this
-    line_is more = ap (λ (l : List ℕ). take (length this) l) (tail_is more) ∙ take_whole this (10 ∷ more)
+    line_is more = ap (λ (l : List ℕ). take (length this) l) (tail_is more) ∙ word_front this (10 ∷ more)
 
     -- and the line feed follows it
     ends_line : (more : List ℕ) → drop (length this) (drop place ((text ++ 10 ∷ []) ++ more)) ≡ 10 ∷ drop (length this + 1) (drop place ((text ++ 10 ∷ []) ++ more))

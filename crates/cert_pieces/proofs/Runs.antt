@@ -4,6 +4,7 @@ use Rattle.std.proofs.Math.Seq.{take-add}
 use Rattle.std.proofs.lemmas.List.{append-nil, take_more, get_or-drop}
 use Rattle.std.specs.Prelude.{ℤ, pos, negsuc, unsigned_abs}
 use Rattle.line_text.specs.LineText.{IsLine}
+use Rattle.line_text.proofs.Lines.{line_append}
 use Rattle.text_lines.specs.Numeral.{numeral, signed_numeral, numbers_text}
 use Rattle.wide_num.proofs.Decimal.{AreDigits, read_on, read_on-ge}
 use Rattle.cert_pieces.specs.declared.line.tally.Tally.{Tally}
@@ -67,11 +68,6 @@ between_join at mid end piece from to =
     ∙ sym (take-add (mid - at) (end - mid) (drop at piece))
     ∙ ap (λ (n : ℕ). take n (drop at piece)) (omega (arith, from, to))
 
--- two pieces of a line
-pub lines_join : (xs ys : List ℕ) → IsLine xs → IsLine ys → IsLine (xs ++ ys)
-lines_join [] ys a b = b
-lines_join (x ∷ xs) ys a b = (a.0, lines_join xs ys a.1 b)
-
 module _ (word : List ℕ) (form : Form) where
   -- two pieces, one behind the other
   pub part_join : (part : LinePart) (out : List ℤ) (bytes piece : List ℕ) (at mid end : ℕ) → at ≤ mid → mid ≤ end → IsPart word form part out ((bytes ++ between at mid piece) ++ between mid end piece) → IsPart word form part out (bytes ++ between at end piece)
@@ -85,7 +81,7 @@ module _ (word : List ℕ) (form : Form) where
 
   -- and it is no line feed
   pub line_next : (piece : List ℕ) (at end : ℕ) → at ≤ end → end < length piece → get_or piece end 0 ≢ 10 → IsLine (between at end piece) → IsLine (between at (end + 1) piece)
-  line_next piece at end from lt other is = subst IsLine (sym (between_more at end piece from lt)) (lines_join (between at end piece) (get_or piece end 0 ∷ []) is (other, tt))
+  line_next piece at end from lt other is = subst IsLine (sym (between_more at end piece from lt)) (line_append (between at end piece) (get_or piece end 0 ∷ []) is (other, tt))
 
   -- a byte that ends a line or makes it wrong
   pub reads_stop : (part : LinePart) (out : List ℤ) (bytes piece : List ℕ) (at end : ℕ) (outcome : Outcome) → (outcome ≡ Open → ⊥) → end < length piece → Becomes word form part out (bytes ++ between at end piece) (get_or piece end 0) outcome → ReadsOn word form part out bytes piece at end outcome

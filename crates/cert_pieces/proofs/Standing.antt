@@ -20,7 +20,7 @@ use Rattle.cert_pieces.specs.Dues.{word_of, numbers_due, behind, plan_due, versi
 use Rattle.cert_pieces.specs.Rooms.{form_due, start_due, segment}
 use Rattle.cert_pieces.specs.Stops.{SaysStop, StopsFor}
 use Rattle.cert_pieces.specs.Standing.{AllIn, Lead, IsReading, IsEnding, ReadsBehind, StandsBehind}
-use Rattle.cert_pieces.proofs.Runs.{lines_join}
+use Rattle.line_text.proofs.Lines.{line_append}
 use Rattle.cert_pieces.proofs.Places.{reached_more, reached_within, drop_more, line_unfit, line_done, line_out, line_unfinished, behind_last, all_there}
 
 -- one more line in range
@@ -119,7 +119,7 @@ module _ (b s : ℕ) (due : Due) (part : LinePart) (place read : ℕ) (room : Li
 
     -- the line has no line feed
     longer : IsLine (drop place (text ++ more))
-    longer = subst IsLine (sym there) (lines_join (drop place text) more is.line line)
+    longer = subst IsLine (sym there) (line_append (drop place text) more is.line line)
 
     -- the line that is due is the next of the plan
     planned : Reached b s (text ++ more) place (kind (word_of due) (numbers_due b s due) ∷ behind b s (take b room) due) items

@@ -2,7 +2,8 @@ use Rattle.std.proofs.Common.{◌≡◌, ℕ, ◌+◌, ◌≤◌, List, ◌++◌
 use Rattle.cert_pieces.specs.declared.line.Outcome.TheVariants.{Open}
 use Rattle.cert_pieces.specs.Pieces.{between}
 use Rattle.cert_pieces.specs.LineParts.{IsPart, Becomes}
-use Rattle.cert_pieces.proofs.Runs.{between_join, lines_join, part_join, part_next, line_next, reads_stop}
+use Rattle.line_text.proofs.Lines.{line_append}
+use Rattle.cert_pieces.proofs.Runs.{between_join, part_join, part_next, line_next, reads_stop}
 use Rattle.line_text.specs.LineText.{IsLine}
 use Rattle.cert_pieces.proofs.line.read_line.Goals as goal
 
@@ -15,14 +16,14 @@ pub loop-end-preserved : goal.loop-end-preserved
 loop-end-preserved c = record {
   part = λ bytes is. part_join c.args.word.now c.args.form c.take_digits-end.new.self c.loop-end.out bytes c.args.piece.now c.args.at c.loop-end.end c.take_digits-end.result c.loop-end.invariant.from c.take_digits-end.ensures.from
       (c.take_digits-end.ensures.part c.args.word.now c.args.form c.loop-end.out (bytes ++ between c.args.at c.loop-end.end c.args.piece.now) (c.loop-end.invariant.part bytes is));
-  line = subst IsLine (between_join c.args.at c.loop-end.end c.take_digits-end.result c.args.piece.now c.loop-end.invariant.from c.take_digits-end.ensures.from) (lines_join (between c.args.at c.loop-end.end c.args.piece.now) (between c.loop-end.end c.take_digits-end.result c.args.piece.now) c.loop-end.invariant.line c.take_digits-end.ensures.digits);
+  line = subst IsLine (between_join c.args.at c.loop-end.end c.take_digits-end.result c.args.piece.now c.loop-end.invariant.from c.take_digits-end.ensures.from) (line_append (between c.args.at c.loop-end.end c.args.piece.now) (between c.loop-end.end c.take_digits-end.result c.args.piece.now) c.loop-end.invariant.line c.take_digits-end.ensures.digits);
   from = omega (arith, c.loop-end.invariant.from, c.take_digits-end.ensures.from);
   within = c.take_digits-end.ensures.to;
   room = c.loop-end.invariant.room;
 }
 
 pub returns-then-ne-clause-line : goal.returns-then-ne-clause-line
-returns-then-ne-clause-line c = subst IsLine (between_join c.args.at c.loop-end.end c.take_digits-end.result c.args.piece.now c.loop-end.invariant.from c.take_digits-end.ensures.from) (lines_join (between c.args.at c.loop-end.end c.args.piece.now) (between c.loop-end.end c.take_digits-end.result c.args.piece.now) c.loop-end.invariant.line c.take_digits-end.ensures.digits)
+returns-then-ne-clause-line c = subst IsLine (between_join c.args.at c.loop-end.end c.take_digits-end.result c.args.piece.now c.loop-end.invariant.from c.take_digits-end.ensures.from) (line_append (between c.args.at c.loop-end.end c.args.piece.now) (between c.loop-end.end c.take_digits-end.result c.args.piece.now) c.loop-end.invariant.line c.take_digits-end.ensures.digits)
 
 pub returns-then-ne-clause-reads : goal.returns-then-ne-clause-reads
 returns-then-ne-clause-reads c = λ bytes is.
@@ -45,7 +46,7 @@ loop-end-preserved-then-end-piece c =
     record {
       part = λ bytes is. part_next c.args.word.now c.args.form c.take-outcome.new.self c.take-outcome.new.out bytes c.args.piece.now c.args.at c.take_digits-end.result from (omega (arith, lt)) (becomes bytes is).1;
       line = line_next c.args.word.now c.args.form c.args.piece.now c.args.at c.take_digits-end.result from (omega (arith, lt)) (becomes c.requires.part.0 c.requires.part.1).0
-          (subst IsLine (between_join c.args.at c.loop-end.end c.take_digits-end.result c.args.piece.now c.loop-end.invariant.from c.take_digits-end.ensures.from) (lines_join (between c.args.at c.loop-end.end c.args.piece.now) (between c.loop-end.end c.take_digits-end.result c.args.piece.now) c.loop-end.invariant.line c.take_digits-end.ensures.digits));
+          (subst IsLine (between_join c.args.at c.loop-end.end c.take_digits-end.result c.args.piece.now c.loop-end.invariant.from c.take_digits-end.ensures.from) (line_append (between c.args.at c.loop-end.end c.args.piece.now) (between c.loop-end.end c.take_digits-end.result c.args.piece.now) c.loop-end.invariant.line c.take_digits-end.ensures.digits));
       from = omega (arith, from);
       within = lt;
       room = c.take-outcome.ensures.room ∙ c.loop-end.invariant.room;
