@@ -214,7 +214,7 @@ fn fails_in_turn(rt: &impl Abort, alloc: Global, command: Command<'_>) -> Result
 }
 
 /// A file that is read.
-fn held(place: usize, kind: FileKind, bytes: &[u8]) -> Held<'_> {
+fn input(place: usize, kind: FileKind, bytes: &[u8]) -> Held<'_> {
     Held { place, kind, bytes }
 }
 
@@ -222,8 +222,8 @@ fn held(place: usize, kind: FileKind, bytes: &[u8]) -> Held<'_> {
 fn commands_on_a_book(rt: HostRuntime) -> Result<(), Fail> {
     let alloc = rt.alloc();
     let cert = joined(alloc, DAY_CRAMTON_CERT)?;
-    let book = held(1, FileKind::Book, DAY_CRAMTON.as_bytes());
-    let weights = held(2, FileKind::Weights, ALL_ALIKE.as_bytes());
+    let book = input(1, FileKind::Book, DAY_CRAMTON.as_bytes());
+    let weights = input(2, FileKind::Weights, ALL_ALIKE.as_bytes());
     let table: [Command<'_>; 5] = [
         Command {
             words: &["win", "BOOK"],
@@ -237,7 +237,7 @@ fn commands_on_a_book(rt: HostRuntime) -> Result<(), Fail> {
         },
         Command {
             words: &["check", "BOOK", "CERT"],
-            read: &[book, held(2, FileKind::Cert, &cert)],
+            read: &[book, input(2, FileKind::Cert, &cert)],
             appended: &[],
         },
         Command {
@@ -247,7 +247,7 @@ fn commands_on_a_book(rt: HostRuntime) -> Result<(), Fail> {
         },
         Command {
             words: &["weigh-check", "BOOK", "WEIGHTS", "CERT"],
-            read: &[book, weights, held(3, FileKind::Cert, &cert)],
+            read: &[book, weights, input(3, FileKind::Cert, &cert)],
             appended: &[],
         },
     ];
@@ -262,8 +262,8 @@ fn commands_on_a_log(rt: HostRuntime) -> Result<(), Fail> {
     let alloc = rt.alloc();
     let award = joined(alloc, SAMPLE)?;
     let log = joined(alloc, DROPPED)?;
-    let award = held(1, FileKind::Award, &award);
-    let log = held(2, FileKind::Log, &log);
+    let award = input(1, FileKind::Award, &award);
+    let log = input(2, FileKind::Log, &log);
     let words: &[&str] = &["award", "AWARD", "LOG", "CERT"];
     let pricing = Command {
         words,
@@ -281,7 +281,7 @@ fn commands_on_a_log(rt: HostRuntime) -> Result<(), Fail> {
         pricing,
         Command {
             words: &["audit", "AWARD", "LOG", "CERT"],
-            read: &[award, log, held(3, FileKind::Cert, cert)],
+            read: &[award, log, input(3, FileKind::Cert, cert)],
             appended: &[],
         },
     ];
