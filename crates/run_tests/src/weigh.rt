@@ -18,7 +18,7 @@ const WEIGH_CHECK: &[&str] = &["weigh-check", "BOOK", "WEIGHTS", "CERT"];
 const ONE_HEAVY: &str =
     "weights 1\nweight b1 1\nweight b2 3\nweight b3 1\nweight b4 1\nweight b5 1\nend\n";
 
-pub(crate) const ALL_ALIKE: &str =
+const ALL_ALIKE: &str =
     "weights 1\nweight b1 1\nweight b2 1\nweight b3 1\nweight b4 1\nweight b5 1\nend\n";
 
 const HEAVY_ROUNDS: &str =
