@@ -17,10 +17,11 @@ pub record IsLineUpTo (m : Menu) (counts : ℕ → ℕ → ℤ) (supply : List �
   pub places : length line ≡ states_of supply
   pub exact : (s : ℕ) → s < states_of supply → IsEntryUpTo m counts k (left_at supply s) i (get_or line s (pos 0))
 
-int_max-left : (a b : ℤ) → b ≤ℤ a → int_max a b ≡ a
+-- the greater of two numbers is the first, or the second
+pub int_max-left : (a b : ℤ) → b ≤ℤ a → int_max a b ≡ a
 int_max-left a b h = omega (arith, ints, int_max_is a b)
 
-int_max-right : (a b : ℤ) → a ≤ℤ b → int_max a b ≡ b
+pub int_max-right : (a b : ℤ) → a ≤ℤ b → int_max a b ≡ b
 int_max-right a b h = omega (arith, ints, int_max_is a b)
 
 lt-le : (a b : ℤ) → a <ℤ b → a ≤ℤ b

@@ -51,7 +51,8 @@ known-skip m j k (i ∷ c) h =
           rw (same, known-skip m j (suc k) c (omega (arith, other)), next) (swap-last (leb i (m.bids (suc k))) (is_known_after m (suc k) c) (not (not (eqb (get_or c (j - suc (suc k)) 0) 0))))
     ]
 
-move-last : (a b t : Bool) → (a && t) && b ≡ (a && b) && t
+-- the last of three conditions moves before the second
+pub move-last : (a b t : Bool) → (a && t) && b ≡ (a && b) && t
 move-last true true t = and-true t
   where
     and-true : (a : Bool) → a && true ≡ a

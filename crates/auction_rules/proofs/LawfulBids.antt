@@ -27,7 +27,7 @@ use Rattle.auction_rules.proofs.Held.{held_in-elsewhere, held_in-no_bid, held_in
 use Rattle.auction_rules.proofs.Drafts.{draft_list-other, draft_list-own}
 use Rattle.auction_rules.proofs.Standings.{after_close, own_now, standing-own, standing-other, standing-close}
 use Rattle.auction_rules.proofs.Views.{a_close, an_own, another, cases_line, with_line-ok, with_line-refused, is_close-true, is_of-parts}
-use Rattle.auction_rules.proofs.Sound.{prices_after-rises}
+use Rattle.auction_rules.proofs.Sound.{bid-ok, prices_after-rises}
 
 -- a package that may be held
 pub record IsLawfulPackage (terms : Terms) (lots : List ℕ) : Type 0 where
@@ -53,14 +53,7 @@ IsLawfulLine terms (Drop k lots) = Unit {0}
 IsLawfulLine terms (Submit k) = Unit {0}
 IsLawfulLine terms Close = Unit {0}
 
--- where the reply is Ok, no condition holds
-bid-within : (out strange : Bool) (over : Option ℕ) (rule : Option (ℕ × ℕ)) (short : Bool) (e : ℕ)
-    → is_ok_reply (first_reply (when out reply.Stage ∷ when strange reply.Unknown ∷ supply_reply over ∷ spectrum_reply rule ∷ when short (reply.Points e) ∷ [])) ≡ true → over ≡ None
-bid-within true strange over rule short e ok = cc
-bid-within false true over rule short e ok = cc
-bid-within false false (Some c) rule short e ok = cc
-bid-within false false None rule short e ok = refl
-
+-- what follows for a draft where the reply is Ok
 pub record DraftOk (over : Option ℕ) (short empty low full above : Bool) : Type 0 where
   pub none_over : over ≡ None
   pub eligible : short ≡ false
@@ -106,8 +99,8 @@ draft-parts terms j k s lots amount ok =
 
 own-lawful : (terms : Terms) (s : Standing) (e : Event) → is_ok_reply (own_reply terms (line_bidder e) s e) ≡ true → HasCategories terms e → IsLawfulLine terms e
 own-lawful terms s (Bid j lots) ok same =
-    let none : first_over 1 lots terms.supply ≡ None = bid-within (not (is_clock s.stage)) (not (nat_lt 0 j && nat_le j (length terms.bidders))) (first_over 1 lots terms.supply)
-    (broken_cap terms j lots) (nat_lt s.eligibility (cost_of terms.points lots)) s.eligibility ok in
+    let none : first_over 1 lots terms.supply ≡ None = (bid-ok (not (is_clock s.stage)) (not (nat_lt 0 j && nat_le j (length terms.bidders))) (first_over 1 lots terms.supply)
+    (broken_cap terms j lots) (nat_lt s.eligibility (cost_of terms.points lots)) s.eligibility ok).0 in
     record { categories = same; within = first_over-within 1 lots terms.supply none }
 own-lawful terms s (Draft j lots amount) ok same =
     let parts = draft-parts terms j j s lots amount ok in

@@ -92,14 +92,14 @@ pub record IsSound (terms : Terms) (s : Standing) : Type 0 where
   pub unsubmitted : is_clock s.stage ≡ true → s.submitted ≡ []
 
 -- where the reply is Ok, no condition holds
-bid-ok : (out strange : Bool) (over : Option ℕ) (rule : Option (ℕ × ℕ)) (short : Bool) (e : ℕ)
-    → is_ok_reply (first_reply (when out reply.Stage ∷ when strange reply.Unknown ∷ supply_reply over ∷ spectrum_reply rule ∷ when short (reply.Points e) ∷ [])) ≡ true → short ≡ false
+pub bid-ok : (out strange : Bool) (over : Option ℕ) (rule : Option (ℕ × ℕ)) (short : Bool) (e : ℕ)
+    → is_ok_reply (first_reply (when out reply.Stage ∷ when strange reply.Unknown ∷ supply_reply over ∷ spectrum_reply rule ∷ when short (reply.Points e) ∷ [])) ≡ true → (over ≡ None) × (short ≡ false)
 bid-ok true strange over rule short e ok = cc
 bid-ok false true over rule short e ok = cc
 bid-ok false false (Some c) rule short e ok = cc
 bid-ok false false None (Some r) short e ok = cc
 bid-ok false false None None true e ok = cc
-bid-ok false false None None false e ok = refl
+bid-ok false false None None false e ok = (refl, refl)
 
 submit-ok : (out strange : Bool) (fault : Option (ℕ × ℕ))
     → is_ok_reply (first_reply (when out reply.Stage ∷ when strange reply.Unknown ∷ cap_reply fault ∷ [])) ≡ true → (out ≡ false) × (fault ≡ None)
@@ -128,7 +128,7 @@ IsSound-own : (terms : Terms) (j : ℕ) (s : Standing) (e : Event) → is_ok_rep
 IsSound-own terms j s (Bid k lots) ok c sound =
     let within : cost_of terms.points lots ≤ s.eligibility = ltb-false s.eligibility (cost_of terms.points lots)
     (bid-ok (not (is_clock s.stage)) (not (nat_lt 0 j && nat_le j (length terms.bidders))) (first_over 1 lots terms.supply) (broken_cap terms j lots)
-    (nat_lt s.eligibility (cost_of terms.points lots)) s.eligibility ok) in
+    (nat_lt s.eligibility (cost_of terms.points lots)) s.eligibility ok).1 in
     record { eligible = sound.eligible; now = held_bid (is_clock s.stage) (k == j) lots s.held terms.points s.eligibility within sound.now; valid = sound.valid; unsubmitted = sound.unsubmitted }
 IsSound-own terms j s (Draft k lots amount) ok c sound =
     record { eligible = sound.eligible; now = rw (same_either (is_clock s.stage) s.held) sound.now; valid = sound.valid; unsubmitted = sound.unsubmitted }

@@ -23,6 +23,7 @@ not_bid name counts amount is =
     let sp = spaced counts amount in
     let e : codes "bidder " ++ name ≡ codes "bid" ++ 32 ∷ sp.rest = is ∙ ap (λ (l : List ℕ). codes "bid" ++ l) sp.is in cc
 
+-- the last line is no bidder's
 pub end_no_bidder : (l name : List ℕ) → l ≡ codes "end" → l ≡ codes "bidder " ++ name → ⊥
 end_no_bidder l name a b = omega (arith, ap (λ (x : List ℕ). get_or x 0 0) (sym a ∙ b))
 

@@ -35,15 +35,11 @@ numbers_line : (ns : List ℤ) → IsLine (numbers_text ns)
 numbers_line [] = tt
 numbers_line (n ∷ ns) = (λ e. omega (arith, e), line_append (signed_numeral n) (numbers_text ns) (signed_line n) (numbers_line ns))
 
-append-left : (xs ys zs : List ℕ) → xs ++ ys ≡ xs ++ zs → ys ≡ zs
-append-left [] ys zs e = e
-append-left (x ∷ xs) ys zs e = append-left xs ys zs cc
-
 one_line : (k : Kind) (a b : Line) → Fits k a → Fits k b → spell a ≡ spell b → a ≡ b
 one_line k a b fa fb e =
     let words : a.word ≡ b.word = fa.word ∙ sym fb.word in
     let texts : a.word ++ numbers_text a.numbers ≡ a.word ++ numbers_text b.numbers = e ∙ ap (λ (w : List ℕ). w ++ numbers_text b.numbers) (sym words) in
-    let numbers : a.numbers ≡ b.numbers = one_numbers a.numbers b.numbers (append-left a.word _ _ texts) in
+    let numbers : a.numbers ≡ b.numbers = one_numbers a.numbers b.numbers (append_cancel_left a.word _ _ texts) in
     ap (λ (w : List ℕ). record { word = w; numbers = a.numbers }) words ∙ ap (λ (n : List ℤ). record { word = b.word; numbers = n }) numbers
 
 -- kinds of which each has a line, the head's choice left out

@@ -8,6 +8,7 @@ use Rattle.cert_form.specs.Certificate.{CertValue, WithoutValue, RowValue}
 use Rattle.cert_form.specs.Plan.{Follows}
 use Rattle.cert_form.specs.Lines.{Line, Kind, Numbers, kind, these, signed, chosen, headed, counted, members, Fits, FitNumbers, AreNumbers, Rise, after, after_numbers, just_line, table_plan, parts_plan, rows_plan, version_lines, version_plan, body_plan, IsCertText}
 use Rattle.text_lines.specs.Range.{any_out, is_out, AllInRange}
+use Rattle.cert_text.proofs.PlanSteps.{all_in}
 use Rattle.cert_form.proofs.Version.{version_is}
 use Rattle.cert_form.specs.CertText.{line, as_numbers, choice_line, table_lines, part_lines, row_lines, body_lines, cert_lines, AtMost, AreTableLines, AreWithouts, AreMembers, AreRows, IsCertificate}
 
@@ -20,19 +21,6 @@ in_left (x ∷ xs) ys all = (all.0, in_left xs ys all.1)
 in_right : (xs ys : List Line) → AllIn (xs ++ ys) → AllIn ys
 in_right [] ys all = all
 in_right (x ∷ xs) ys all = in_right xs ys all.1
-
--- the test of the range
-below : (x : ℕ) → nat_le (2 ^ 120) x ≡ false → x < 2 ^ 120
-below x is = grind (arith, nat_tests, is)
-
--- numbers of which none is out of range
-all_in : (ns : List ℤ) → any_out ns ≡ false → AllInRange ns
-all_in [] e = tt
-all_in (n ∷ ns) e = first (is_out n) refl e (λ r. all_in ns r)
-  where
-    first : (b : Bool) → is_out n ≡ b → (b || any_out ns) ≡ false → (any_out ns ≡ false → AllInRange ns) → AllInRange (n ∷ ns)
-    first true is e more = cc e
-    first false is e more = (below (unsigned_abs n) is, more e)
 
 -- lines of two plans, one behind the other
 record Cut (xs ys : List Kind) (is : List Line) : Type 0 where

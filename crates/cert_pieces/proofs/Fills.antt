@@ -13,7 +13,8 @@ use Rattle.cert_pieces.specs.declared.due.Due.{Due}
 use Rattle.cert_pieces.specs.declared.due.Due.TheVariants.{Version, Limits, Den, Value, Choice, Title, Entries, Without, PartChoice, Payments, Rows, Members, Multipliers, RowChoice, End, Nothing}
 use Rattle.cert_pieces.specs.declared.due.Table.{Table}
 use Rattle.cert_pieces.specs.declared.due.Table.TheVariants.{Head, Part, Lowered}
-use Rattle.cert_pieces.specs.Dues.{closing, ending, from_part, behind_table, version_number, limits_plan, opening, plan_due, IsDue, IsTableOf}
+use Rattle.cert_text.specs.StagePlans.{closing_plan}
+use Rattle.cert_pieces.specs.Dues.{ending, from_part, behind_table, version_number, limits_plan, opening, plan_due, IsDue, IsTableOf}
 use Rattle.cert_form.proofs.PlanReads.{follows_both}
 use Rattle.cert_pieces.proofs.CertOf.{cert_of}
 use Rattle.cert_pieces.specs.Standing.{AllIn, IsReading}
@@ -165,7 +166,7 @@ module _ (b s : ℕ) where
   can_rows (suc r) some = (some (omega arith), (tt, (tt, can_rows r (λ _. some (omega arith)))))
 
   -- what stands behind the rows
-  can_closing : CanFillAll (closing b s)
+  can_closing : CanFillAll (closing_plan b s)
   can_closing = (refl, can_append (table_plan b s) (kind (codes "end") (these []) ∷ []) (can_lines s (suc b)) (refl, tt))
 
   -- what stands behind the parts
@@ -192,8 +193,8 @@ module _ (b s : ℕ) where
     can_title table is = can_append (table_plan b s) (behind_table b s choice table) (can_lines s (suc b)) (can_behind table is)
 
     -- rows, and what stands behind them
-    can_left : (r : ℕ) → 0 < b → CanFillAll (rows_plan b r ++ closing b s)
-    can_left r some = can_append (rows_plan b r) (closing b s) (can_rows r (λ _. some)) can_closing
+    can_left : (r : ℕ) → 0 < b → CanFillAll (rows_plan b r ++ closing_plan b s)
+    can_left r some = can_append (rows_plan b r) (closing_plan b s) (can_rows r (λ _. some)) can_closing
 
     -- for each line that is due, all that is to come can be found
     pub can_due : (due : Due) → IsDue b due → CanFillAll (plan_due b s choice due)

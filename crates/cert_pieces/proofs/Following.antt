@@ -7,6 +7,8 @@ use Rattle.std.proofs.lemmas.Int.{ints}
 use Rattle.std.specs.Prelude.{ℤ, pos, negsuc, ◌≤ℤ◌, ◌<ℤ◌, ◌||◌, nat_eq}
 use Rattle.cert_form.specs.Lines.{Numbers, these, signed, chosen, headed, counted, members, AreNumbers, Rise, FitNumbers}
 use Rattle.text_lines.specs.Range.{any_out, is_out}
+use Rattle.text_lines.proofs.FieldRuns.{out-push}
+use Rattle.cert_text.proofs.SmallNumbers.{numbers_push}
 use Rattle.cert_pieces.specs.declared.line.form.Form.{Form}
 use Rattle.cert_pieces.specs.declared.line.form.Form.TheVariants.{Nothing, Just, Both, Signed, Chosen, Counted, Members}
 use Rattle.cert_pieces.specs.declared.line.phase.Kept.{Kept}
@@ -16,11 +18,6 @@ use Rattle.cert_pieces.specs.Forms.{numbers_of, room_for, MayBegin, MayFollow, K
 -- how many there are with one more
 pub more_long : (ns : List ℤ) (z : ℤ) (more : List ℤ) → length (ns ++ z ∷ more) ≡ length ns + suc (length more)
 more_long ns z more = length-append ns (z ∷ more)
-
--- one more number of a choice
-small_push : (ns : List ℤ) (z : ℤ) → AreNumbers 65535 ns → pos 0 ≤ℤ z → z ≤ℤ pos 65535 → AreNumbers 65535 (ns ++ z ∷ [])
-small_push [] z all low high = (low, high, tt)
-small_push (n ∷ ns) z all low high = (all.0, all.1, small_push ns z all.2 low high)
 
 -- a number among those of a choice
 small_next : (ns : List ℤ) (z : ℤ) (more : List ℤ) → AreNumbers 65535 (ns ++ z ∷ more) → (pos 0 ≤ℤ z) × (z ≤ℤ pos 65535)
@@ -59,8 +56,8 @@ last_at before n (m ∷ ns) d = last_at n m ns d
 pub follows : (n : Numbers) (ns : List ℤ) (z : ℤ) → MayBegin n ns → MayFollow n ns z → MayBegin n (ns ++ z ∷ [])
 follows (these ms) ns z begins next = (next.0, next.1 ∙ sym (append_assoc ns (z ∷ []) next.0))
 follows (signed count) ns z begins next = omega (arith, next, more_long ns z [])
-follows (chosen bidders) ns z begins next = (omega (arith, next.0, more_long ns z []), small_push ns z begins.1 next.1 next.2)
-follows (headed bidders states) ns z begins next = (omega (arith, next.0, more_long ns z []), small_push ns z begins.1 next.1 next.2)
+follows (chosen bidders) ns z begins next = (omega (arith, next.0, more_long ns z []), numbers_push ns z begins.1 next.1 next.2)
+follows (headed bidders states) ns z begins next = (omega (arith, next.0, more_long ns z []), numbers_push ns z begins.1 next.1 next.2)
 follows (counted bidders) ns z begins next = subst (MayBegin (counted bidders)) (ap (λ (l : List ℤ). l ++ z ∷ []) (sym next.0)) (omega arith, λ some. next.1)
 follows (members bidders) ns z begins next = rise_push bidders (pos 0) ns z begins next.0 next.1
 
@@ -87,19 +84,6 @@ within_room (Signed count) ns begins = begins
 within_room (Chosen bidders) ns begins = begins.0
 within_room (Counted bidders) ns begins = begins.0
 within_room (Members bidders) ns begins = let few = rise_few bidders 0 (pos 0) ns refl begins (omega arith) in omega (arith, few)
-
--- one more number, in range or not
-out-push : (ns : List ℤ) (z : ℤ) → any_out (ns ++ z ∷ []) ≡ any_out ns || is_out z
-out-push [] z = alone (is_out z)
-  where
-    alone : (b : Bool) → b || false ≡ b
-    alone true = refl
-    alone false = refl
-out-push (n ∷ ns) z = ap (λ (b : Bool). is_out n || b) (out-push ns z) ∙ assoc (is_out n) (any_out ns) (is_out z)
-  where
-    assoc : (a b c : Bool) → a || (b || c) ≡ (a || b) || c
-    assoc true b c = refl
-    assoc false b c = refl
 
 -- one number more is kept
 pub keeps_more : (ns out : List ℤ) (count : ℕ) (beyond : Bool) (k : Kept) (z : ℤ) → Keeps ns out count beyond → IsKept k z → count < length out → Keeps (ns ++ z ∷ []) (set out count k.number) (count + 1) (beyond || k.beyond)

@@ -6,16 +6,6 @@ use Rattle.text_lines.specs.Numeral.{numeral, signed_numeral, numbers_text}
 use Rattle.wide_num.proofs.Decimal.{AreDigits, IsDigit, IsNumeral}
 use Rattle.text_lines.proofs.Numerals.{Ends, numeral_is, numeral-more, one_signed}
 
--- the text of one number more
-pub numbers-push : (ns : List ℤ) (z : ℤ) → numbers_text (ns ++ z ∷ []) ≡ numbers_text ns ++ 32 ∷ signed_numeral z
-numbers-push [] z = ap (λ (l : List ℕ). 32 ∷ l) (append-nil (signed_numeral z))
-numbers-push (n ∷ ns) z = ap (λ (l : List ℕ). 32 ∷ signed_numeral n ++ l) (numbers-push ns z) ∙ ap (λ (l : List ℕ). 32 ∷ l) (sym (append_assoc (signed_numeral n) (numbers_text ns) (32 ∷ signed_numeral z)))
-
--- behind a word stands what stands there
-pub word_off : (word x y : List ℕ) → word ++ x ≡ word ++ y → x ≡ y
-word_off [] x y e = e
-word_off (c ∷ word) x y e = word_off word x y cc
-
 -- behind whole numbers and a space stands one number more
 pub next_number : (ns ms : List ℤ) (r : List ℕ) → numbers_text ns ++ 32 ∷ r ≡ numbers_text ms → (m : ℤ) × (rest : List ℤ) × (r ≡ signed_numeral m ++ numbers_text rest) × (ms ≡ ns ++ m ∷ rest)
 next_number [] [] r e = absurd (no_more e)

@@ -4,7 +4,7 @@ use Rattle.std.proofs.lemmas.Bool.{cases_eq}
 use Rattle.std.proofs.lemmas.List.{append-nil}
 use Rattle.line_text.specs.LineText.{IsLine, text_of, IsTextOf, FaultAt}
 use Rattle.line_text.proofs.Lines.{line_push}
-use Rattle.text_lines.proofs.Words.{word_front}
+use Rattle.text_lines.proofs.Words.{word_front, word_rest}
 use Rattle.text_lines.specs.Numeral.{numbers_text}
 use Rattle.cert_form.specs.Lines.{Line, Kind, Numbers, kind, Fits, after, spell, over, IsCertText, lines}
 use Rattle.cert_form.specs.Reading.{Reached}
@@ -18,11 +18,6 @@ pub drop_more : (n : ℕ) (xs ys : List ℕ) → n ≤ length xs → drop n (xs 
 drop_more zero xs ys le = refl
 drop_more (suc n) [] ys le = absurd (omega (arith, le))
 drop_more (suc n) (x ∷ xs) ys le = drop_more n xs ys (omega (arith, le))
-
--- the second list of two
-drop_whole : (xs ys : List ℕ) → drop (length xs) (xs ++ ys) ≡ ys
-drop_whole [] ys = refl
-drop_whole (x ∷ xs) ys = drop_whole xs ys
 
 -- the second behind one byte
 drop_next : (xs ys : List ℕ) (c : ℕ) → drop (length xs + 1) (xs ++ c ∷ ys) ≡ ys
@@ -111,7 +106,7 @@ module _ (b s : ℕ) (text : List ℕ) (place : ℕ) where
     -- and the line feed follows it
     ends_line : (more : List ℕ) → drop (length this) (drop place ((text ++ 10 ∷ []) ++ more)) ≡ 10 ∷ drop (length this + 1) (drop place ((text ++ 10 ∷ []) ++ more))
     ends_line more =
-        ap (λ (l : List ℕ). drop (length this) l) (tail_is more) ∙ drop_whole this (10 ∷ more)
+        ap (λ (l : List ℕ). drop (length this) l) (tail_is more) ∙ word_rest this (10 ∷ more)
         ∙ ap (λ (l : List ℕ). 10 ∷ l) (sym (ap (λ (l : List ℕ). drop (length this + 1) l) (tail_is more) ∙ drop_next this more 10))
 
     -- it has no line feed

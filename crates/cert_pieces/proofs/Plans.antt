@@ -7,7 +7,8 @@ use Rattle.cert_pieces.specs.declared.due.Due.{Due}
 use Rattle.cert_pieces.specs.declared.due.Due.TheVariants.{Version, Limits, Den, Choice, Title, Entries, Without, Rows}
 use Rattle.cert_pieces.specs.declared.due.Table.{Table}
 use Rattle.cert_pieces.specs.declared.due.Table.TheVariants.{Head}
-use Rattle.cert_pieces.specs.Dues.{Follows, IsKnown, behind_table, closing, ending, from_part, limits_plan, numbers_due, opening, plan_due}
+use Rattle.cert_text.specs.StagePlans.{closing_plan}
+use Rattle.cert_pieces.specs.Dues.{Follows, IsKnown, behind_table, ending, from_part, limits_plan, numbers_due, opening, plan_due}
 
 module _ (b s : ℕ) (choice : List ℤ) where
   -- the bidder behind the first k has no part
@@ -73,8 +74,8 @@ module _ (b s : ℕ) (choice : List ℤ) where
       none k le = omega (arith, le)
 
   -- behind the count of rows
-  pub behind_rows : (r : ℕ) (ns : List ℤ) (next : Due) → ns ≡ pos r ∷ [] → rows_plan b r ++ closing b s ≡ plan_due b s choice next → Follows b s choice Rows ns next
-  behind_rows r ns next is e = ap (λ (l : List ℤ). rows_plan b (first_size l) ++ closing b s) is ∙ e
+  pub behind_rows : (r : ℕ) (ns : List ℤ) (next : Due) → ns ≡ pos r ∷ [] → rows_plan b r ++ closing_plan b s ≡ plan_due b s choice next → Follows b s choice Rows ns next
+  behind_rows r ns next is e = ap (λ (l : List ℤ). rows_plan b (first_size l) ++ closing_plan b s) is ∙ e
 
 -- a count of rows above 0 has a bidder
 pub rows_bidder : (b s : ℕ) (ns choice : List ℤ) (first : ℤ) (count : ℕ) → FitNumbers (numbers_due b s Rows) ns → IsKnown Rows ns choice first → ((r : ℕ) → first ≡ pos r → r ≤ 10 → count ≡ r) → 0 < count → 0 < b

@@ -6,6 +6,7 @@ use Rattle.std.specs.Prelude.{ℤ, pos, negsuc, unsigned_abs}
 use Rattle.line_text.specs.LineText.{IsLine}
 use Rattle.line_text.proofs.Lines.{line_append}
 use Rattle.text_lines.specs.Numeral.{numeral, signed_numeral, numbers_text}
+use Rattle.text_lines.proofs.Numerals.{numeral-on}
 use Rattle.wide_num.proofs.Decimal.{AreDigits, read_on, read_on-ge}
 use Rattle.cert_pieces.specs.declared.line.tally.Tally.{Tally}
 use Rattle.cert_pieces.specs.Tallies.{IsTally}
@@ -16,7 +17,8 @@ use Rattle.cert_pieces.specs.declared.line.LinePart.{LinePart}
 use Rattle.cert_pieces.specs.declared.line.Outcome.{Outcome}
 use Rattle.cert_pieces.specs.declared.line.Outcome.TheVariants.{Open, Whole, Fault}
 use Rattle.cert_pieces.specs.LineParts.{IsPart, Becomes, ReadsOn}
-use Rattle.cert_pieces.proofs.Fronts.{numbers-push, numeral_push}
+use Rattle.text_lines.proofs.FieldRuns.{numbers-push}
+use Rattle.cert_pieces.proofs.Fronts.{numeral_push}
 
 -- one byte more of a piece
 pub between_more : (at i : ℕ) (piece : List ℕ) → at ≤ i → i < length piece → between at (i + 1) piece ≡ between at i piece ++ get_or piece i 0 ∷ []
@@ -25,18 +27,9 @@ between_more at i piece le lt =
     ∙ take_more (drop at piece) (i - at) 0 (omega (arith, length-drop at piece, le, lt))
     ∙ ap (λ (x : ℕ). between at i piece ++ x ∷ []) (get_or-drop at piece (i - at) 0 ∙ ap (λ (j : ℕ). get_or piece j 0) (omega (arith, le)))
 
--- the digits that follow those of a number above 0
-numeral_on : (n : ℕ) (cs : List ℕ) → 0 < n → AreDigits cs → numeral (read_on n cs) ≡ numeral n ++ cs
-numeral_on n [] some all = sym (append-nil (numeral n))
-numeral_on n (c ∷ cs) some all =
-    numeral_on (10 * n + (c - 48)) cs (omega (arith, some)) all.1
-    ∙ ap (λ (l : List ℕ). l ++ cs) (numeral_push n (c - 48) some (omega (arith, all.0)))
-    ∙ append_assoc (numeral n) ((48 + (c - 48)) ∷ []) cs
-    ∙ ap (λ (k : ℕ). numeral n ++ k ∷ cs) (omega (arith, all.0))
-
 -- a number with more digits
 pub open_on : (negative : Bool) (t u : Tally) (z : ℤ) (ds : List ℕ) → IsOpen negative t z → (unsigned_abs z ≡ 0 → ⊥) → AreDigits ds → IsTally u (read_on (unsigned_abs z) ds) → (x : ℤ) × IsOpen negative u x × (signed_numeral x ≡ signed_numeral z ++ ds)
-open_on negative t u (pos n) ds last some all tally = (pos (read_on n ds), record { sign = last.sign; size = tally }, numeral_on n ds (positive n some) all)
+open_on negative t u (pos n) ds last some all tally = (pos (read_on n ds), record { sign = last.sign; size = tally }, numeral-on n ds (positive n some) all)
   where
     positive : (n : ℕ) → (n ≡ 0 → ⊥) → 0 < n
     positive zero some = absurd (some refl)
@@ -45,7 +38,7 @@ open_on negative t u (negsuc n) ds last some all tally =
     let back : suc (read_on (suc n) ds - 1) ≡ read_on (suc n) ds = omega (arith, read_on-ge (suc n) ds) in (
       negsuc (read_on (suc n) ds - 1),
       record { sign = last.sign; size = subst (IsTally u) (sym back) tally },
-      ap (λ (l : List ℕ). 45 ∷ l) (ap numeral back ∙ numeral_on (suc n) ds (omega arith) all),
+      ap (λ (l : List ℕ). 45 ∷ l) (ap numeral back ∙ numeral-on (suc n) ds (omega arith) all),
     )
 
 -- a line with more digits

@@ -1,6 +1,6 @@
 -- One more byte of a line.
 use Rattle.std.proofs.Common.{◌≡◌, ◌≢◌, ℕ, suc, zero, ◌+◌, ◌-◌, ◌*◌, ◌≤◌, ◌<◌, Bool, true, false, List, [], ◌∷◌, ◌++◌, length, take, refl, sym, ap, subst, ◌∙◌, arith, append_assoc}
-use Rattle.std.proofs.lemmas.List.{take_all}
+use Rattle.std.proofs.lemmas.List.{take_all, append_cancel_left}
 use Rattle.std.specs.Prelude.{ℤ, pos, negsuc, unsigned_abs}
 use Rattle.text_lines.specs.Numeral.{numeral, signed_numeral, numbers_text}
 use Rattle.wide_num.proofs.Decimal.{IsDigit, IsNumeral}
@@ -8,18 +8,19 @@ use Rattle.text_lines.proofs.Numerals.{numeral_is, numeral-one}
 use Rattle.cert_pieces.specs.declared.line.tally.Tally.{Tally}
 use Rattle.cert_pieces.specs.Tallies.{IsTally}
 use Rattle.cert_pieces.specs.Partway.{IsBelow, IsOpen, IsRefused}
-use Rattle.cert_pieces.proofs.Fronts.{numbers-push, word_off, next_number, first_byte, minus_byte, other_byte, zero_byte, some_byte, numeral_push}
+use Rattle.text_lines.proofs.FieldRuns.{numbers-push}
+use Rattle.cert_pieces.proofs.Fronts.{next_number, first_byte, minus_byte, other_byte, zero_byte, some_byte, numeral_push}
 
 module _ (word : List ℕ) (ns : List ℤ) (tail bytes : List ℕ) (is : bytes ≡ word ++ (numbers_text ns ++ tail)) where
   -- what stands behind the numbers of a line that begins so
   pub behind : (x : List ℕ) (ms : List ℤ) → bytes ++ x ≡ word ++ numbers_text ms → numbers_text ns ++ (tail ++ x) ≡ numbers_text ms
   behind x ms e =
       sym (append_assoc (numbers_text ns) tail x)
-      ∙ word_off word ((numbers_text ns ++ tail) ++ x) (numbers_text ms) (sym (append_assoc word (numbers_text ns ++ tail) x) ∙ ap (λ (l : List ℕ). l ++ x) (sym is) ∙ e)
+      ∙ append_cancel_left word ((numbers_text ns ++ tail) ++ x) (numbers_text ms) (sym (append_assoc word (numbers_text ns ++ tail) x) ∙ ap (λ (l : List ℕ). l ++ x) (sym is) ∙ e)
 
   -- and where nothing follows
   pub behind_last : (ms : List ℤ) → bytes ≡ word ++ numbers_text ms → numbers_text ns ++ tail ≡ numbers_text ms
-  behind_last ms e = word_off word (numbers_text ns ++ tail) (numbers_text ms) (sym is ∙ e)
+  behind_last ms e = append_cancel_left word (numbers_text ns ++ tail) (numbers_text ms) (sym is ∙ e)
 
   -- more bytes behind the numbers
   pub longer : (x : List ℕ) → bytes ++ x ≡ word ++ (numbers_text ns ++ (tail ++ x))
@@ -52,7 +53,7 @@ module _ (word : List ℕ) (ns : List ℤ) (bytes : List ℕ) (c : ℕ) where
   pub word_refused : (count : ℕ) → length word ≤ count → bytes ≡ take count word → c ≢ 32 → c ≢ 10 → IsRefused word bytes c
   word_refused count le is space feed = record {
     ended = λ e. absurd (feed e);
-    inside = λ e ms rest text. first ms rest (word_off word (c ∷ rest) (numbers_text ms) (ap (λ (l : List ℕ). l ++ c ∷ rest) (sym (is ∙ take_all count word le)) ∙ text));
+    inside = λ e ms rest text. first ms rest (append_cancel_left word (c ∷ rest) (numbers_text ms) (ap (λ (l : List ℕ). l ++ c ∷ rest) (sym (is ∙ take_all count word le)) ∙ text));
   }
     where
       first : (ms : List ℤ) (rest : List ℕ) → c ∷ rest ≡ numbers_text ms → ⊥

@@ -3,6 +3,7 @@ use Rattle.std.specs.Prelude.{◌≡◌, ℕ, suc, ◌-◌, ◌<◌, ◌≤◌, 
 use Rattle.limits.specs.declared.TheConstants.{MOST_BIDDERS, MOST_STATES}
 use Rattle.cert_form.specs.CertText.{line}
 use Rattle.cert_form.specs.Lines.{Line, Kind, Numbers, kind, these, signed, chosen, headed, counted, members, table_plan, parts_plan, rows_plan, after_numbers, is_first_version}
+use Rattle.cert_text.specs.StagePlans.{closing_plan}
 use Rattle.cert_pieces.specs.declared.due.Due.{Due}
 use Rattle.cert_pieces.specs.declared.due.Due.TheVariants.{Version, Limits, Den, Value, Choice, Title, Entries, Without, PartChoice, Payments, Rows, Members, Multipliers, RowChoice, End, Nothing}
 use Rattle.cert_pieces.specs.declared.due.Table.{Table}
@@ -65,13 +66,9 @@ kind_due bidders states due = kind (word_of due) (numbers_due bidders states due
 abbrev pub line_with : Due → List ℤ → Line
 line_with due numbers = line (word_of due) numbers
 
--- what comes behind the rows
-abbrev pub closing : ℕ → ℕ → List Kind
-closing bidders states = kind (codes "lowered") (these []) ∷ (table_plan bidders states ++ kind (codes "end") (these []) ∷ [])
-
 -- what comes behind the parts
 abbrev pub ending : ℕ → ℕ → List Kind
-ending bidders states = kind (codes "pay") (signed bidders) ∷ kind (codes "rows") (counted bidders) ∷ closing bidders states
+ending bidders states = kind (codes "pay") (signed bidders) ∷ kind (codes "rows") (counted bidders) ∷ closing_plan bidders states
 
 -- the parts of the bidders behind the first j, and what comes behind them
 abbrev pub from_part : ℕ → ℕ → List ℤ → ℕ → List Kind
@@ -103,11 +100,11 @@ behind b s choice (Title table) = table_plan b s ++ behind_table b s choice tabl
 behind b s choice (Entries table k) = replicate (b - k) (kind (codes "t") (signed s)) ++ behind_table b s choice table
 behind b s choice (Without j) = kind (codes "choice") (chosen b) ∷ kind (codes "table") (these []) ∷ (table_plan b s ++ from_part b s choice j)
 behind b s choice (PartChoice j) = kind (codes "table") (these []) ∷ (table_plan b s ++ from_part b s choice j)
-behind b s choice Payments = kind (codes "rows") (counted b) ∷ closing b s
-behind b s choice Rows = closing b s
-behind b s choice (Members r) = kind (codes "mult") (signed 2) ∷ kind (codes "choice") (chosen b) ∷ (rows_plan b (r - 1) ++ closing b s)
-behind b s choice (Multipliers r) = kind (codes "choice") (chosen b) ∷ (rows_plan b (r - 1) ++ closing b s)
-behind b s choice (RowChoice r) = rows_plan b (r - 1) ++ closing b s
+behind b s choice Payments = kind (codes "rows") (counted b) ∷ closing_plan b s
+behind b s choice Rows = closing_plan b s
+behind b s choice (Members r) = kind (codes "mult") (signed 2) ∷ kind (codes "choice") (chosen b) ∷ (rows_plan b (r - 1) ++ closing_plan b s)
+behind b s choice (Multipliers r) = kind (codes "choice") (chosen b) ∷ (rows_plan b (r - 1) ++ closing_plan b s)
+behind b s choice (RowChoice r) = rows_plan b (r - 1) ++ closing_plan b s
 behind b s choice End = []
 behind b s choice Nothing = []
 

@@ -1,9 +1,4 @@
 // Which line of a certificate is to come.
-ghost use Rattle.std.specs.Prelude.{◌≡◌};
-ghost use Rattle.cert_form.specs.Lines.{is_first_version};
-
-use cert_text::Shape;
-use limits::{FIRST_VERSION_BIDDERS, FIRST_VERSION_STATES};
 
 /// One of the tables of a certificate.
 #[derive(Clone, Copy, Debug, PartialEq, Eq)]
@@ -51,11 +46,4 @@ pub enum Due {
     End,
     /// No line is to come.
     Nothing,
-}
-
-/// Whether the text of a certificate of this shape is of the first version.
-pub(crate) fn has_first_version(shape: Shape) -> bool
-    ensures { result ≡ is_first_version shape.bidders shape.states }
-{
-    shape.bidders as usize <= FIRST_VERSION_BIDDERS && shape.states as u64 <= FIRST_VERSION_STATES
 }

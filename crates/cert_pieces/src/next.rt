@@ -4,10 +4,11 @@ ghost use Rattle.cert_form.specs.Certificate.{CertValue};
 ghost use Rattle.cert_form.specs.CertText.{as_numbers, IsCertificate};
 ghost use Rattle.cert_form.specs.Lines.{rows_plan, FitNumbers};
 ghost use Rattle.cert_pieces.specs.LinesLeft.{lines_left, parts_left, table_left, rows_left, HasPart, HasDue, ComesNext, AreLeft, Leads};
-ghost use Rattle.cert_pieces.specs.Dues.{Follows, IsDue, IsKnown, numbers_due, plan_due, from_part, behind_table, closing, IsTableOf};
+ghost use Rattle.cert_pieces.specs.Dues.{Follows, IsDue, IsKnown, numbers_due, plan_due, from_part, behind_table, IsTableOf};
+ghost use Rattle.cert_text.specs.StagePlans.{closing_plan};
 
-use crate::due::{Due, Table, has_first_version};
-use cert_text::Shape;
+use crate::due::{Due, Table};
+use cert_text::{Shape, has_first_version};
 
 /// The line behind one of the line that was due, for the head's choice and the first of the line's numbers.
 pub(crate) fn next(due: Due, shape: Shape, choice: &[i128], first: i128) -> Due
@@ -44,7 +45,7 @@ fn next_version(shape: Shape) -> Due
     ensures due { IsDue shape.bidders result }
     ensures left { (c : CertValue) → IsCertificate shape.bidders shape.states c → ComesNext shape.bidders shape.states c Due.Version result }
 {
-    if has_first_version(shape) {
+    if has_first_version(shape.bidders as usize, shape.states as usize) {
         Due::Den
     } else {
         Due::Limits
@@ -114,7 +115,7 @@ fn behind_table_line(shape: Shape, choice: &[i128], table: Table) -> Due
 
 fn next_rows(shape: Shape, choice: &[i128], left: u16) -> Due
     requires { 0 < left → 0 < shape.bidders }
-    ensures plan { rows_plan shape.bidders left ++ closing shape.bidders shape.states ≡ plan_due shape.bidders shape.states choice.now result }
+    ensures plan { rows_plan shape.bidders left ++ closing_plan shape.bidders shape.states ≡ plan_due shape.bidders shape.states choice.now result }
     ensures due { IsDue shape.bidders result }
     ensures left { (c : CertValue) → IsCertificate shape.bidders shape.states c → left ≤ length c.rows → (rows_left c left ≡ lines_left shape.bidders shape.states c result) × HasDue shape.bidders shape.states c result }
 {

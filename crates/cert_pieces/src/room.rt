@@ -8,10 +8,10 @@ ghost use Rattle.line_text.specs.LineText.{IsLine};
 ghost use Rattle.cert_pieces.specs.Pieces.{between};
 ghost use Rattle.cert_pieces.specs.LineParts.{IsPart, ReadsOn};
 
-use crate::due::{Due, Table, has_first_version};
+use crate::due::{Due, Table};
 use crate::line::form::Form;
 use crate::line::{LinePart, LineRead, Outcome, read_line};
-use cert_text::Shape;
+use cert_text::{Shape, has_first_version};
 use limits::{MOST_BIDDERS, MOST_STATES};
 
 /// How many numbers the room of a reader has.
@@ -50,7 +50,7 @@ fn form(due: Due, shape: Shape) -> Form
 fn version_number(shape: Shape) -> u16
     ensures { result ≡ version_number (is_first_version shape.bidders shape.states) }
 {
-    if has_first_version(shape) { 1 } else { 2 }
+    if has_first_version(shape.bidders as usize, shape.states as usize) { 1 } else { 2 }
 }
 
 /// How many numbers a line has at most.

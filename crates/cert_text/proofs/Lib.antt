@@ -1,5 +1,5 @@
-mod PlanSteps
-mod SmallNumbers
+pub mod PlanSteps
+pub mod SmallNumbers
 mod JustThese
 mod TableSteps
 mod PartSteps

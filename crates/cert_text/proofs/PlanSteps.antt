@@ -16,10 +16,12 @@ use Rattle.cert_text.specs.Readers.{IsLineAt, Leads, Halts}
 use Rattle.cert_text.specs.declared.stop.CertStop.{CertStop}
 use Rattle.cert_text.specs.declared.stop.CertStop.TheVariants.{Form, Range, Memory}
 
-below : (x : ℕ) → nat_le (2 ^ 120) x ≡ false → x < 2 ^ 120
+-- the test of the range
+pub below : (x : ℕ) → nat_le (2 ^ 120) x ≡ false → x < 2 ^ 120
 below x is = grind (arith, nat_tests, is)
 
-all_in : (ns : List ℤ) → any_out ns ≡ false → AllInRange ns
+-- numbers of which none is out of range
+pub all_in : (ns : List ℤ) → any_out ns ≡ false → AllInRange ns
 all_in [] e = tt
 all_in (n ∷ ns) e = first (is_out n) refl e (λ r. all_in ns r)
   where

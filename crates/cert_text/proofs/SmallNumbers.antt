@@ -19,6 +19,7 @@ pub as_more : (ns : List ℕ) (n : ℕ) → as_numbers (ns ++ n ∷ []) ≡ as_n
 as_more [] n = refl
 as_more (m ∷ ns) n = ap (λ (l : List ℤ). pos m ∷ l) (as_more ns n)
 
+-- one more number of a choice
 pub numbers_push : (xs : List ℤ) (z : ℤ) → AreNumbers 65535 xs → pos 0 ≤ℤ z → z ≤ℤ pos 65535 → AreNumbers 65535 (xs ++ z ∷ [])
 numbers_push [] z all low high = (low, high, tt)
 numbers_push (x ∷ xs) z all low high = (all.0, all.1, numbers_push xs z all.2 low high)

@@ -18,4 +18,5 @@ pub use certificate::{CertRow, Certificate, Shape, WithoutPart};
 pub use lists::{CertRows, WithoutList};
 pub use read::read_cert;
 pub use stop::CertStop;
+pub use version::has_first_version;
 pub use write::write_cert;

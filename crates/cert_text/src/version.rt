@@ -9,7 +9,7 @@ use limits::{FIRST_VERSION_BIDDERS, FIRST_VERSION_STATES, MOST_BIDDERS, MOST_STA
 use std::alloc::Global;
 
 /// Whether the text of a certificate for so many bidders and states is of the first version.
-pub(crate) fn has_first_version(bidders: usize, states: usize) -> bool
+pub fn has_first_version(bidders: usize, states: usize) -> bool
     ensures { result ≡ is_first_version bidders states }
 {
     bidders <= FIRST_VERSION_BIDDERS && states as u64 <= FIRST_VERSION_STATES

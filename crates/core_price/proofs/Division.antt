@@ -12,9 +12,10 @@ use Rattle.wide_num.proofs.Ints.{lin, mul_assoc, mul_cancel, mul-sub, mul-zero_c
 use Rattle.wide_num.proofs.Sums.{dot-same, dot-scale, dot-scale_left, total-same}
 use Rattle.wide_num.specs.Sums.{dot, nth}
 use Rattle.core_price.specs.Answers.{IsAnswer}
-use Rattle.core_price.specs.Lowest.{AreMultiples, IsMultiple}
+use Rattle.lin_solve.specs.Elimination.{AreQuotients}
+use Rattle.core_price.specs.Lowest.{IsMultiple}
 
-not-zero : (g : ℤ) → pos 0 <ℤ g → g ≢ pos 0
+pub not-zero : (g : ℤ) → pos 0 <ℤ g → g ≢ pos 0
 not-zero g p e = absurd (omega (arith, ints))
 
 cancel_positive : (g x : ℤ) → pos 0 <ℤ g → pos 0 <ℤ (g *ℤ x) → pos 0 <ℤ x
@@ -68,21 +69,21 @@ module _ (prices : List ℤ) (weights : List ℕ) (rows : List Row) (g den : ℤ
   some = not-zero g h.positive
 
   row-times : (i : ℕ) → dot (length prices) (coefficients rows i) (nth all_at) ≡ g *ℤ dot (length prices) (coefficients rows i) (nth at)
-  row-times i = sym (dot-same (length prices) (coefficients rows i) (λ j. g *ℤ nth at j) (nth all_at) (λ j lt. h.at_is.each j (omega (arith, lt, a.long_at)))) ∙ dot-scale (length prices) g (coefficients rows i) (nth at)
+  row-times i = sym (dot-same (length prices) (coefficients rows i) (λ j. g *ℤ nth at j) (nth all_at) (λ j lt. h.at_is.is j (omega (arith, lt, a.long_at)))) ∙ dot-scale (length prices) g (coefficients rows i) (nth at)
 
   bound-times : (i : ℕ) → all_den *ℤ bounds rows i ≡ g *ℤ (den *ℤ bounds rows i)
   bound-times i = ap (λ (t : ℤ). t *ℤ bounds rows i) (sym h.den_is) ∙ mul_assoc g den (bounds rows i)
 
-  sum-times : (list all : List ℤ) → AreMultiples g list all → length all ≡ length rows → (j : ℕ) → sum_at (length rows) (coefficients rows) (nth all) j ≡ g *ℤ sum_at (length rows) (coefficients rows) (nth list) j
+  sum-times : (list all : List ℤ) → AreQuotients g all list → length all ≡ length rows → (j : ℕ) → sum_at (length rows) (coefficients rows) (nth all) j ≡ g *ℤ sum_at (length rows) (coefficients rows) (nth list) j
   sum-times list all k long j =
-      total-same (length rows) (λ i. nth all i *ℤ coefficients rows i j) (λ i. g *ℤ nth list i *ℤ coefficients rows i j) (λ i lt. ap (λ (t : ℤ). t *ℤ coefficients rows i j) (sym (k.each i (omega (arith, lt, long)))))
+      total-same (length rows) (λ i. nth all i *ℤ coefficients rows i j) (λ i. g *ℤ nth list i *ℤ coefficients rows i j) (λ i lt. ap (λ (t : ℤ). t *ℤ coefficients rows i j) (sym (k.is i (omega (arith, lt, long)))))
       ∙ dot-scale_left (length rows) g (nth list) (λ i. coefficients rows i j)
 
   first-is : (i : ℕ) → i < length rows → g *ℤ nth first i ≡ nth all_first i
-  first-is i lt = h.first_is.each i (omega (arith, lt, a.long_first))
+  first-is i lt = h.first_is.is i (omega (arith, lt, a.long_first))
 
   second-is : (i : ℕ) → i < length rows → g *ℤ nth second i ≡ nth all_second i
-  second-is i lt = h.second_is.each i (omega (arith, lt, a.long_second))
+  second-is i lt = h.second_is.is i (omega (arith, lt, a.long_second))
 
   tight-too : (i : ℕ) → dot (length prices) (coefficients rows i) (nth all_at) ≡ all_den *ℤ bounds rows i → dot (length prices) (coefficients rows i) (nth at) ≡ den *ℤ bounds rows i
   tight-too i e = mul_cancel g (dot (length prices) (coefficients rows i) (nth at)) (den *ℤ bounds rows i) some (sym (row-times i) ∙ e ∙ bound-times i)
@@ -101,7 +102,7 @@ module _ (prices : List ℤ) (weights : List ℕ) (rows : List Row) (g den : ℤ
 
   second-sum : (j : ℕ) → j < length prices → weight_at weights j *ℤ sum_at (length rows) (coefficients rows) (nth second) j ≡ nth at j -ℤ den *ℤ nth prices j
   second-sum j lt =
-      let n = h.at_is.each j (omega (arith, lt, a.long_at)) in
+      let n = h.at_is.is j (omega (arith, lt, a.long_at)) in
       mul_cancel g (weight_at weights j *ℤ sum_at (length rows) (coefficients rows) (nth second) j) (nth at j -ℤ den *ℤ nth prices j) some
       (swap_mul g (weight_at weights j) (sum_at (length rows) (coefficients rows) (nth second) j)
       ∙ ap (λ (t : ℤ). weight_at weights j *ℤ t) (sym (sum-times second all_second h.second_is a.long_second j))
@@ -135,8 +136,8 @@ module _ (prices : List ℤ) (weights : List ℕ) (rows : List Row) (g den : ℤ
     };
     small_den = (let k = den-below (320 ^ 4 + 1) (let s = a.small_den in omega (arith, ints, s)) in omega (arith, ints, k));
     den_of_ones = λ ones. den-below (2 ^ 32) (a.den_of_ones ones);
-    small_at = λ i lt. (let l : i < length all_at = omega (arith, lt, h.at_is.long) in let f = factor_size g (nth at i) h.positive in let e = ap unsigned_abs (h.at_is.each i l) in let k = a.small_at i l in omega (arith, f, e, k));
-    small_second = λ i lt. (let l : i < length all_second = omega (arith, lt, h.second_is.long) in let f = factor_size g (nth second i) h.positive in let e = ap unsigned_abs (h.second_is.each i l) in let k = a.small_second i l in omega (arith, f, e, k));
+    small_at = λ i lt. (let l : i < length all_at = omega (arith, lt, h.at_is.long) in let f = factor_size g (nth at i) h.positive in let e = ap unsigned_abs (h.at_is.is i l) in let k = a.small_at i l in omega (arith, f, e, k));
+    small_second = λ i lt. (let l : i < length all_second = omega (arith, lt, h.second_is.long) in let f = factor_size g (nth second i) h.positive in let e = ap unsigned_abs (h.second_is.is i l) in let k = a.small_second i l in omega (arith, f, e, k));
     few =
         let same = pairs_same (length rows) (nth first) (nth second) (nth all_first) (nth all_second) (λ i lt. zero_same g (nth first i) (nth all_first i) h.positive (first-is i lt)) (λ i lt. zero_same g (nth second i) (nth all_second i) h.positive (second-is i lt)) in
         omega (arith, same, a.few);

@@ -8,7 +8,8 @@ use Rattle.nearest_point.proofs.Places.{lt_or}
 use Rattle.wide_num.proofs.Ints.{lin, mul-add, mul_assoc, mul_cancel, swap_mul, *ℤ-one}
 use Rattle.wide_num.specs.Range.{Divides, InRange}
 use Rattle.wide_num.specs.Sums.{nth}
-use Rattle.core_price.specs.Lowest.{AreMultiples, DividesAll, DividesPoint, IsLowest, IsMultiple}
+use Rattle.lin_solve.specs.Elimination.{AreQuotients}
+use Rattle.core_price.specs.Lowest.{DividesAll, DividesPoint, IsLowest, IsMultiple}
 use lib.ListN.{length-append, get_or-append}
 use lib.Seq.{get_or-append_seam}
 
@@ -61,26 +62,9 @@ common-more start numbers k divisor next far lt low is range =
       greatest = λ g s all. d.2 (pos g) (far.greatest g s all) (all k lt);
     }
 
--- the quotients of the first k numbers
-pub record AreDivided (divisor : ℤ) (list numbers : List ℤ) (k : ℕ) : Type 0 where
-  pub long : length list ≡ k
-  pub each : (i : ℕ) → i < k → divisor *ℤ nth list i ≡ nth numbers i
-
-pub divided-more : (divisor : ℤ) (list numbers : List ℤ) (k : ℕ) (x : ℤ) → AreDivided divisor list numbers k → divisor *ℤ x ≡ nth numbers k → AreDivided divisor (list ++ x ∷ []) numbers (k + 1)
-divided-more divisor list numbers k x far is = record {
-  long = let l = length-append list (x ∷ []) in omega (arith, l, far.long);
-  each = λ i lt. elim (lt_or i k (omega arith)) [
-    | inl l ↦ ap (λ (t : ℤ). divisor *ℤ t) (get_or-append list (x ∷ []) (pos 0) i (omega (arith, far.long))) ∙ far.each i l
-    | inr e ↦ ap (λ j. divisor *ℤ nth (list ++ x ∷ []) j) (e ∙ sym far.long) ∙ ap (λ (t : ℤ). divisor *ℤ t) (get_or-append_seam list x [] (pos 0)) ∙ is ∙ ap (λ j. nth numbers j) (sym e)
-  ];
-}
-
-pub divided-all : (divisor : ℤ) (list numbers : List ℤ) (k : ℕ) → AreDivided divisor list numbers k → k ≡ length numbers → AreMultiples divisor list numbers
-divided-all divisor list numbers k h e = record { long = h.long ∙ e; each = λ i lt. h.each i (omega (arith, lt, e)) }
-
 -- what divides each of a list of quotients, times the divisor, divides the list
-times-all : (d : ℕ) (g : ℤ) (numbers products : List ℤ) → AreMultiples g numbers products → DividesAll (pos d) numbers → DividesAll (g *ℤ pos d) products
-times-all d g numbers products h all i lt = let q = all i (omega (arith, h.long, lt)) in (q.0, mul_assoc g (pos d) q.0 ∙ ap (λ (t : ℤ). g *ℤ t) q.1 ∙ h.each i lt)
+times-all : (d : ℕ) (g : ℤ) (numbers products : List ℤ) → AreQuotients g products numbers → DividesAll (pos d) numbers → DividesAll (g *ℤ pos d) products
+times-all d g numbers products h all i lt = let q = all i (omega (arith, h.long, lt)) in (q.0, mul_assoc g (pos d) q.0 ∙ ap (λ (t : ℤ). g *ℤ t) q.1 ∙ h.is i lt)
 
 one-left : (g : ℤ) (d : ℕ) → pos 0 <ℤ g → Divides (g *ℤ pos d) g → d ≡ 1
 one-left g d p q = by d q.0 (mul_cancel g (pos d *ℤ q.0) (pos 1) (λ e. absurd (omega (arith, ints))) (sym (mul_assoc g (pos d) q.0) ∙ q.1 ∙ sym (*ℤ-one g)))

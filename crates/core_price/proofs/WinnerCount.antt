@@ -3,21 +3,18 @@ use Rattle.std.specs.Prelude.{◌≡◌, ◌≢◌, ℕ, zero, suc, ◌+◌, ◌
 use Rattle.std.proofs.Common.{arith, add-one, drop-cons}
 use Rattle.row_laws.specs.Winners.{winners_in}
 
-here : (z : List ℕ) (k : ℕ) → k < length z → drop k z ≡ get_or z k 0 ∷ drop (k + 1) z
-here z k h = rw (add-one, drop-cons z k 0) refl
-
 one : (i : ℕ) (c : List ℕ) → i ≢ 0 → winners_in (i ∷ c) ≡ suc (winners_in c)
 one zero c some = absurd (some refl)
 one (suc i) c some = refl
 
 pub count-loser : (z : List ℕ) (k count : ℕ) → k < length z → get_or z k 0 ≡ 0 → count + winners_in (drop k z) ≡ winners_in z → count + winners_in (drop (k + 1) z) ≡ winners_in z
 count-loser z k count h none was =
-    let e : winners_in (drop k z) ≡ winners_in (drop (k + 1) z) = rw (here z k h, none) refl in
+    let e : winners_in (drop k z) ≡ winners_in (drop (k + 1) z) = rw (add-one, drop-cons z k 0, none) refl in
     omega (arith, e, was)
 
 pub count-winner : (z : List ℕ) (k count : ℕ) → k < length z → get_or z k 0 ≢ 0 → count + winners_in (drop k z) ≡ winners_in z → count + 1 + winners_in (drop (k + 1) z) ≡ winners_in z
 count-winner z k count h some was =
-    let e : winners_in (drop k z) ≡ suc (winners_in (drop (k + 1) z)) = rw (here z k h) (one (get_or z k 0) (drop (k + 1) z) some) in
+    let e : winners_in (drop k z) ≡ suc (winners_in (drop (k + 1) z)) = rw (add-one, drop-cons z k 0) (one (get_or z k 0) (drop (suc k) z) some) in
     omega (arith, e, was)
 
 pub counted-all : (z : List ℕ) (k count : ℕ) → length z ≤ k → count + winners_in (drop k z) ≡ winners_in z → count ≡ winners_in z

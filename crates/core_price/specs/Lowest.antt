@@ -2,6 +2,7 @@
 use Rattle.std.specs.Prelude.{◌≡◌, ℕ, ◌<◌, List, length, ℤ, pos, ◌*ℤ◌, ◌<ℤ◌}
 use Rattle.wide_num.specs.Range.{Divides}
 use Rattle.wide_num.specs.Sums.{nth}
+use Rattle.lin_solve.specs.Elimination.{AreQuotients}
 
 -- the number divides each of the list
 abbrev pub DividesAll : ℤ → List ℤ → Type 0
@@ -18,15 +19,10 @@ pub record DividesPoint (d den : ℤ) (at first second : List ℤ) : Type 0 wher
 abbrev pub IsLowest : ℤ → List ℤ → List ℤ → List ℤ → Type 0
 IsLowest den at first second = (g : ℕ) → DividesPoint (pos g) den at first second → g ≡ 1
 
--- each number of the second list is g times that of the first
-pub record AreMultiples (g : ℤ) (numbers products : List ℤ) : Type 0 where
-  pub long : length numbers ≡ length products
-  pub each : (i : ℕ) → i < length products → g *ℤ nth numbers i ≡ nth products i
-
 -- the second point, with its multipliers, is the first with each number times g
 pub record IsMultiple (g den : ℤ) (at first second : List ℤ) (times_den : ℤ) (times_at times_first times_second : List ℤ) : Type 0 where
   pub positive : pos 0 <ℤ g
   pub den_is : g *ℤ den ≡ times_den
-  pub at_is : AreMultiples g at times_at
-  pub first_is : AreMultiples g first times_first
-  pub second_is : AreMultiples g second times_second
+  pub at_is : AreQuotients g times_at at
+  pub first_is : AreQuotients g times_first first
+  pub second_is : AreQuotients g times_second second

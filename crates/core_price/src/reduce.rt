@@ -1,12 +1,13 @@
 // Points over their least denominator.
-ghost use Rattle.core_price.specs.Lowest.{AreMultiples, DividesAll, DividesPoint, IsLowest, IsMultiple};
+ghost use Rattle.core_price.specs.Lowest.{DividesAll, DividesPoint, IsLowest, IsMultiple};
 ghost use Rattle.nearest_point.specs.Numbers.{AreBelow};
 ghost use Rattle.std.specs.Prelude.{IfOk, length, pos, ℕ, ℤ, ◌<ℤ◌, ◌^◌, ◌≡◌};
 ghost use Rattle.wide_num.specs.Range.{Divides, InRange};
 
+use lin_solve::quotients;
 use nearest_point::Nearest;
 use std::alloc::{AllocError, Global};
-use wide_num::{NumList, div_exact, gcd};
+use wide_num::{div_exact, gcd};
 
 /// The same point and multipliers over the least denominator.
 pub(crate) fn reduced(alloc: Global, near: Nearest) -> Result<Nearest, AllocError>
@@ -18,9 +19,9 @@ pub(crate) fn reduced(alloc: Global, near: Nearest) -> Result<Nearest, AllocErro
     ensures lowest { IfOk result (λ p. IsLowest p.den p.at p.first p.second) }
 {
     let divisor = greatest_divisor(&near);
-    let at = divided(alloc, near.at.items(), divisor)?;
-    let first = divided(alloc, near.first.items(), divisor)?;
-    let second = divided(alloc, near.second.items(), divisor)?;
+    let at = quotients(alloc, divisor, near.at.items())?;
+    let first = quotients(alloc, divisor, near.first.items())?;
+    let second = quotients(alloc, divisor, near.second.items())?;
     Ok(Nearest {
         den: div_exact(near.den, divisor),
         at,
@@ -58,18 +59,4 @@ fn common_divisor(start: i128, numbers: &[i128]) -> i128
         divisor = gcd(divisor, *number);
     }
     divisor
-}
-
-// Each number divided by a divisor of all.
-fn divided(alloc: Global, numbers: &[i128], divisor: i128) -> Result<NumList, AllocError>
-    requires divisor { pos 0 <ℤ divisor }
-    requires numbers { AreBelow (2 ^ 120) numbers.now }
-    requires divides { DividesAll divisor numbers.now }
-    ensures { IfOk result (λ list. AreMultiples divisor list numbers.now) }
-{
-    let mut list = NumList::new(alloc);
-    for number in numbers {
-        list.push(div_exact(*number, divisor))?;
-    }
-    Ok(list)
 }

@@ -43,6 +43,15 @@ pub const CERT_BYTES: u64 = 67_108_864;
 /// The most bytes of a file of weights.
 pub const WEIGHTS_BYTES: u64 = 65_536;
 
+/// The most bytes of a file of slots.
+pub const SLOTS_BYTES: u64 = 65_536;
+
+/// The most bytes of a file of edits.
+pub const EDITS_BYTES: u64 = 1_048_576;
+
+/// The most edits of a file.
+pub const MOST_EDITS: u64 = 1_000;
+
 /// The most categories of a supply.
 pub const MOST_CATEGORIES: usize = 6;
 
@@ -90,6 +99,9 @@ pub const MOST_WINNERS: usize = 6;
 
 /// The most winners that are priced where their weights aren't all 1.
 pub const MOST_WEIGHTED_WINNERS: usize = 4;
+
+/// The most bidders of a band.
+pub const MOST_PLACED: usize = 6;
 
 /// The most bidders of a certificate whose text is of the first version.
 pub const FIRST_VERSION_BIDDERS: usize = 12;

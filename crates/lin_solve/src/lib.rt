@@ -20,5 +20,6 @@ mod square;
 #[cfg(test)]
 mod tests;
 
+pub use rows::quotients;
 pub use solved::{Solved, solve};
 pub use square::Square;

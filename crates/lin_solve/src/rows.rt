@@ -70,8 +70,8 @@ fn mix(alloc: Global, s: i128, v: &[i128], t: i128, w: &[i128]) -> Result<NumLis
     Ok(out)
 }
 
-/// Each number divided by `g`.
-fn quotients(alloc: Global, g: i128, v: &[i128]) -> Result<NumList, AllocError>
+/// Each number divided by `g`, a divisor of all. The only error is want of memory.
+pub fn quotients(alloc: Global, g: i128, v: &[i128]) -> Result<NumList, AllocError>
     requires apart { g ≢ pos 0 }
     requires divides { (i : ℕ) → i < length v.now → Divides g (nth v.now i) }
     requires room { (i : ℕ) → i < length v.now → unsigned_abs (nth v.now i) < 2 ^ 120 }

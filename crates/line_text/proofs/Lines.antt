@@ -1,5 +1,6 @@
 -- Lines and their text.
 use Rattle.std.proofs.Common.{inl, inr, ◌⊎◌, ⊎_elim, ◌≡◌, ◌≢◌, ℕ, Option, Some, None, List, [], ◌∷◌, ◌++◌, refl, sym, ap, ◌∙◌, append_assoc}
+use Rattle.std.specs.Prelude.{IfNone}
 use Rattle.std.specs.Option.{option_or}
 use Rattle.line_text.specs.LineText.{text_of, first_excess, IsLine}
 
@@ -15,6 +16,11 @@ pub first_excess-append : {O : Type 0} (xs ys : List (List ℕ × Option O)) →
 first_excess-append [] ys = refl
 first_excess-append ((l, None) ∷ xs) ys = first_excess-append xs ys
 first_excess-append ((l, Some o) ∷ xs) ys = refl
+
+-- what holds in any case holds where there is none
+pub none-so : {A : Type 0} (r : Option A) (P : Type 0) → P → IfNone r P
+none-so None P p = p
+none-so (Some x) P p = tt
 
 -- two parts of a line make a line
 pub line_append : (xs ys : List ℕ) → IsLine xs → IsLine ys → IsLine (xs ++ ys)

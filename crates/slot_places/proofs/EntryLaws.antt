@@ -1,6 +1,6 @@
 -- What the lines of bidders and bids say.
 use Rattle.std.proofs.Common.{inl, inr, ◌≡◌, ◌≢◌, ℕ, ◌+◌, ◌≤◌, ◌<◌, Option, Some, None, List, [], ◌∷◌, ◌++◌, length, get_or, take, refl, sym, ap, subst, ◌∙◌, arith}
-use Rattle.std.specs.Prelude.{codes, IfNone}
+use Rattle.std.specs.Prelude.{codes}
 use Rattle.std.specs.Fmt.{decimal}
 use Rattle.std.specs.List.{AllByRecursion}
 use Rattle.std.proofs.lemmas.Bool.Decides.{nat_tests}
@@ -80,10 +80,6 @@ pub no_fields : (slots : SlotList) (line fields : List ℕ) (bid : SlotBid) → 
 no_fields slots line fields bid low line_is none next =
     let within = next.valid.within in
     none (decimal bid.start) (decimal bid.amount) (number_own bid.start (omega (arith, within, low))) (append_cancel_left (codes "place ") fields (decimal bid.start ++ 32 ∷ decimal bid.amount) (sym line_is ∙ next.spelled))
-
-pub none-so : {A : Type 0} (r : Option A) (P : Type 0) → P → IfNone r P
-none-so None P p = p
-none-so (Some x) P p = tt
 
 -- the line of a bid, as what it adds
 pub adds_next : (old : SlotList) (line : List ℕ) (bid : SlotBid) → 0 < length old.bidders → IsNextPlace old line bid → AddsPlace old (with_bid old bid) line

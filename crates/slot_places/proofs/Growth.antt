@@ -3,25 +3,26 @@ use Rattle.std.proofs.Common.{⊎_elim, ◌≡◌, ℕ, suc, ◌+◌, ◌-◌, �
 use Rattle.std.specs.Prelude.{codes}
 use Rattle.std.proofs.lemmas.List.{append-nil, take_all, take_more, get_or_at, set_at}
 use Rattle.slot_places.specs.Slots.{SlotBid, SlotBidder, SlotList, no_bidder, bidder_of}
-use Rattle.slot_places.specs.SlotForm.{SlotExcess, SlotLine, IsSlotBid, AreSlotBids, IsSlotBidder, AreSlotBidders, IsSlotText, bidder_excess, bidder_line, place_line, place_lines, bidder_lines, head_lines}
+use Rattle.book_form.specs.BookLines.{Excess, Line}
+use Rattle.slot_places.specs.SlotForm.{IsSlotBid, AreSlotBids, IsSlotBidder, AreSlotBidders, IsSlotText, bidder_excess, bidder_line, place_line, place_lines, bidder_lines, head_lines}
 use Rattle.slot_places.specs.Stages.{last_start, bidder_with, with_bidders, with_bid, AddsBidder, AddsPlace, Adds, bids_excess, last_excess, excess_of}
 
 -- all lines of slots but the last
-abbrev pub listed : SlotList → List SlotLine
+abbrev pub listed : SlotList → List Line
 listed slots = head_lines slots ++ bidder_lines 0 slots.bidders
 
 -- one more at the end
 
 pub place_lines-push : (bs : List SlotBid) (b : SlotBid) → place_lines (bs ++ b ∷ []) ≡ place_lines bs ++ place_line b ∷ []
 place_lines-push [] b = refl
-place_lines-push (c ∷ bs) b = ap (λ (l : List SlotLine). place_line c ∷ l) (place_lines-push bs b)
+place_lines-push (c ∷ bs) b = ap (λ (l : List Line). place_line c ∷ l) (place_lines-push bs b)
 
 pub bidder_lines-push : (before : ℕ) (bs : List SlotBidder) (b : SlotBidder)
     → bidder_lines before (bs ++ b ∷ []) ≡ bidder_lines before bs ++ (bidder_line (before + length bs) b.name b.width ∷ place_lines b.bids)
 bidder_lines-push before [] b = append-nil (bidder_line before b.name b.width ∷ place_lines b.bids) ∙ ap (λ (k : ℕ). bidder_line k b.name b.width ∷ place_lines b.bids) (omega arith)
 bidder_lines-push before (c ∷ bs) b =
     let own = bidder_line before c.name c.width ∷ place_lines c.bids in
-    ap (λ (l : List SlotLine). own ++ l) (bidder_lines-push (before + 1) bs b ∙ ap (λ (k : ℕ). bidder_lines (before + 1) bs ++ (bidder_line k b.name b.width ∷ place_lines b.bids)) (omega arith))
+    ap (λ (l : List Line). own ++ l) (bidder_lines-push (before + 1) bs b ∙ ap (λ (k : ℕ). bidder_lines (before + 1) bs ++ (bidder_line k b.name b.width ∷ place_lines b.bids)) (omega arith))
     ∙ sym (append_assoc own (bidder_lines (before + 1) bs) (bidder_line (before + suc (length bs)) b.name b.width ∷ place_lines b.bids))
 
 pub last_excess-push : (band before : ℕ) (bs : List SlotBidder) (b : SlotBidder) → last_excess band before (bs ++ b ∷ []) ≡ bids_excess (before + length bs + 1) b.bids
@@ -64,9 +65,9 @@ adds_bidder old new line valid adds =
     let spelled : line ≡ (bidder_line 0 adds.name adds.width).0 = adds.line_is ∙ ap (λ (l : List ℕ). codes "bidder " ++ l) e.spelled in
     let here : IsSlotText slots × (listed slots ≡ listed old ++ ((bidder_line 0 adds.name adds.width).0, excess_of slots) ∷ []) = (
       record { band = valid.band; bidders = bidders_push old.band [] old.bidders bidder valid.bidders (record { name = e.valid; unused = e.unused; width = e.some; room = e.room; bids = tt }) },
-      ap (λ (l : List SlotLine). head_lines old ++ l) (bidder_lines-push 0 old.bidders bidder)
+      ap (λ (l : List Line). head_lines old ++ l) (bidder_lines-push 0 old.bidders bidder)
           ∙ sym (append_assoc (head_lines old) (bidder_lines 0 old.bidders) (bidder_line (0 + length old.bidders) adds.name adds.width ∷ []))
-          ∙ ap (λ (m : Option SlotExcess). listed old ++ ((bidder_line 0 adds.name adds.width).0, m) ∷ []) (sym (last_excess-push old.band 0 old.bidders bidder)),
+          ∙ ap (λ (m : Option Excess). listed old ++ ((bidder_line 0 adds.name adds.width).0, m) ∷ []) (sym (last_excess-push old.band 0 old.bidders bidder)),
     ) in
     subst (λ (s : SlotList). IsSlotText s × (listed s ≡ listed old ++ (line, excess_of s) ∷ [])) (sym adds.new_is)
     (subst (λ (l : List ℕ). IsSlotText slots × (listed slots ≡ listed old ++ (l, excess_of slots) ∷ [])) (sym spelled) here)
@@ -84,7 +85,7 @@ bid_added old front bidder bid last valid is =
           (record { name = own.name; unused = own.unused; width = own.width; room = own.room; bids = bids_push old.band bidder.width 0 bidder.bids bid own.bids is });
     }
 
-pub bid_behind : (band : ℕ) (head : List SlotLine) (front : List SlotBidder) (bidder : SlotBidder) (bid : SlotBid)
+pub bid_behind : (band : ℕ) (head : List Line) (front : List SlotBidder) (bidder : SlotBidder) (bid : SlotBid)
     → head ++ bidder_lines 0 (front ++ bidder_with bidder.name bidder.width (bidder.bids ++ bid ∷ []) ∷ [])
     ≡ (head ++ bidder_lines 0 (front ++ bidder ∷ [])) ++ ((place_line bid).0, last_excess band 0 (front ++ bidder_with bidder.name bidder.width (bidder.bids ++ bid ∷ []) ∷ [])) ∷ []
 bid_behind band head front bidder bid =
@@ -92,12 +93,12 @@ bid_behind band head front bidder bid =
     let own = bidder_line (0 + length front) bidder.name bidder.width ∷ place_lines bidder.bids in
     let line = place_line bid in
     let grown : bidder_line (0 + length front) bidder.name bidder.width ∷ place_lines (bidder.bids ++ bid ∷ []) ≡ own ++ line ∷ [] =
-    ap (λ (l : List SlotLine). bidder_line (0 + length front) bidder.name bidder.width ∷ l) (place_lines-push bidder.bids bid) in
+    ap (λ (l : List Line). bidder_line (0 + length front) bidder.name bidder.width ∷ l) (place_lines-push bidder.bids bid) in
     let mark : None ≡ last_excess band 0 (front ++ new ∷ []) = sym (last_excess-push band 0 front new ∙ bids_excess-push (0 + length front + 1) bidder.bids bid) in
-    ap (λ (l : List SlotLine). head ++ l) (bidder_lines-push 0 front new ∙ ap (λ (l : List SlotLine). bidder_lines 0 front ++ l) grown ∙ sym (append_assoc (bidder_lines 0 front) own (line ∷ [])))
+    ap (λ (l : List Line). head ++ l) (bidder_lines-push 0 front new ∙ ap (λ (l : List Line). bidder_lines 0 front ++ l) grown ∙ sym (append_assoc (bidder_lines 0 front) own (line ∷ [])))
     ∙ sym (append_assoc head (bidder_lines 0 front ++ own) (line ∷ []))
-    ∙ ap (λ (l : List SlotLine). (head ++ l) ++ line ∷ []) (sym (bidder_lines-push 0 front bidder))
-    ∙ ap (λ (m : Option SlotExcess). (head ++ bidder_lines 0 (front ++ bidder ∷ [])) ++ ((place_line bid).0, m) ∷ []) mark
+    ∙ ap (λ (l : List Line). (head ++ l) ++ line ∷ []) (sym (bidder_lines-push 0 front bidder))
+    ∙ ap (λ (m : Option Excess). (head ++ bidder_lines 0 (front ++ bidder ∷ [])) ++ ((place_line bid).0, m) ∷ []) mark
 
 -- the last bidder, and those before it
 pub record Parts (bidders : List SlotBidder) : Type 0 where

@@ -10,6 +10,7 @@ use Rattle.book_form.specs.BookForm.{IsName, IsNameByte}
 use Rattle.bid_book.proofs.Spelled.{number_line, name_line}
 use Rattle.line_text.proofs.Lines.{line_append}
 use Rattle.text_lines.proofs.DecimalFields.{NoSpace, one_field, number_own}
+use Rattle.bid_book.proofs.OneLine.{end_no_bidder}
 use Rattle.slot_places.specs.Slots.{SlotBid, SlotList}
 use Rattle.slot_places.specs.SlotForm.{band_line, bidder_line, place_line}
 use Rattle.slot_places.specs.Stages.{with_bid, bidder_with, with_bidders, IsEntrant, AddsBidder, AddsPlace, Adds}
@@ -84,9 +85,6 @@ place_one band a b low sa sb ta tb is =
     λ i. record { start = starts i; amount = amounts i }
 
 -- a line is of one kind
-pub end_no_bidder : (l fields : List ℕ) → l ≡ codes "end" → l ≡ codes "bidder " ++ fields → ⊥
-end_no_bidder l fields a b = omega (arith, ap (λ (x : List ℕ). get_or x 0 0) (sym a ∙ b))
-
 pub end_no_place : (l fields : List ℕ) → l ≡ codes "end" → l ≡ codes "place " ++ fields → ⊥
 end_no_place l fields a b = omega (arith, ap (λ (x : List ℕ). get_or x 0 0) (sym a ∙ b))
 

@@ -10,7 +10,7 @@ use Rattle.auction_model.specs.Menu.{packages_after, fits_after}
 use Rattle.auction_model.specs.Package.{is_within}
 use Rattle.auction_model.specs.Prices.{allowed_without}
 use Rattle.auction_model.proofs.PlainLaws.{IsFirstGreatest-same, sum-plain}
-use Rattle.auction_model.proofs.SkipLaws.{fits-skip}
+use Rattle.auction_model.proofs.SkipLaws.{fits-skip, move-last}
 use Rattle.slot_places.specs.Slots.{SlotList, bids_of, bid_of, amount_of}
 use Rattle.slot_places.specs.Kept.{AreSlots}
 use Rattle.slot_places.specs.Board.{Board, nobody, menu_of, is_known, can_place, is_placed, board_of, board_without, market_of}
@@ -117,12 +117,6 @@ fits-known b c = ap (λ p. is_known b c && is_within p []) (no-packages b 0 c) �
 known-without : (slots : SlotList) (skip : ℕ) (c : List ℕ) → 0 < skip → is_known (board_without slots skip) c ≡ is_known (board_of slots) c && not (uses c skip)
 known-without slots skip c some =
     sym (fits-known (board_without slots skip) c) ∙ (fits-skip (menu_of (board_of slots)) skip [] c some ∙ ap (λ x. x && not (uses c skip)) (fits-known (board_of slots) c))
-
-move-last : (a b t : Bool) → (a && t) && b ≡ (a && b) && t
-move-last false b t = refl
-move-last true true t = true-right t
-move-last true false true = refl
-move-last true false false = refl
 
 placed-without : (slots : SlotList) (skip : ℕ) (c : List ℕ) → 0 < skip → is_placed (board_without slots skip) c ≡ allowed_without (market_of slots) skip c
 placed-without slots skip c some =

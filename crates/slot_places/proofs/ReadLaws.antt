@@ -9,6 +9,7 @@ use Rattle.slot_places.specs.Kept.{AreSlots}
 use Rattle.slot_places.specs.declared.slots.Place.{Place}
 use Rattle.slot_places.specs.declared.slots.BandBidder.{BandBidder}
 use Rattle.slot_places.specs.declared.slots.Slots.TheInside.{Inside}
+use Rattle.slot_places.proofs.SizeLaws.{sum_to-term}
 use Rattle.slot_places.specs.Fields.{bid_value, bidder_value, slots_value}
 
 pub bidders-read : (s : Inside) (slots : SlotList) → slots_value s ≡ slots → length s.bidders.items ≡ length slots.bidders
@@ -48,14 +49,6 @@ first-most : (g : ℕ → ℕ) (n m : ℕ) → sum_to g n ≤ sum_to g (n + m)
 first-most g n zero = let e : n + 0 ≡ n = omega arith in subst (λ k. sum_to g n ≤ sum_to g k) (sym e) (omega arith)
 first-most g n (suc m) = let rest = first-most g n m in let e : n + suc m ≡ suc (n + m) = omega arith in subst (λ k. sum_to g n ≤ sum_to g k) (sym e) (omega (arith, rest))
 
-one-most : (g : ℕ → ℕ) (n j : ℕ) → 0 < j → j ≤ n → g j ≤ sum_to g n
-one-most g zero j some low = absurd (omega (arith, some, low))
-one-most g (suc n) j some low =
-    elim (cases_eq j (suc n)) [
-      | inl same ↦ rw same (omega arith)
-      | inr other ↦ let rest = one-most g n j some (omega (arith, low, other)) in omega (arith, rest)
-    ]
-
 cond-most : (x : Bool) (w : ℕ) → cond x w 0 ≤ w
 cond-most true w = omega arith
 cond-most false w = omega arith
@@ -68,4 +61,4 @@ widths-to slots kept s k low =
     omega (arith, a, b, kept.widths, kept.band.1)
 
 pub width-one : (slots : SlotList) → AreSlots slots → (j : ℕ) → 0 < j → j ≤ length slots.bidders → width_of slots j ≤ 40
-width-one slots kept j some low = let a = one-most (width_of slots) (length slots.bidders) j some low in omega (arith, a, kept.widths, kept.band.1)
+width-one slots kept j some low = let a = sum_to-term (width_of slots) (length slots.bidders) j some low in omega (arith, a, kept.widths, kept.band.1)

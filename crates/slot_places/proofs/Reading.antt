@@ -5,7 +5,8 @@ use Rattle.std.specs.Fmt.{decimal}
 use Rattle.std.proofs.lemmas.List.{append-nil, take_at, take_all}
 use Rattle.line_text.proofs.Runs.{Runs, Reads, runs_append}
 use Rattle.slot_places.specs.Slots.{SlotBid, SlotBidder, SlotList}
-use Rattle.slot_places.specs.SlotForm.{SlotLine, IsSlotBid, AreSlotBids, IsSlotBidder, AreSlotBidders, IsSlotText, bidder_excess, band_line, bidder_line, place_line, place_lines, bidder_lines, head_lines, slot_lines}
+use Rattle.book_form.specs.BookLines.{Line}
+use Rattle.slot_places.specs.SlotForm.{IsSlotBid, AreSlotBids, IsSlotBidder, AreSlotBidders, IsSlotText, bidder_excess, band_line, bidder_line, place_line, place_lines, bidder_lines, head_lines, slot_lines}
 use Rattle.slot_places.specs.declared.read.Stage.{Stage}
 use Rattle.slot_places.specs.declared.read.Stage.TheVariants.{Start, Headed, Listing, Ended}
 use Rattle.slot_places.specs.Stages.{last_start, bidder_with, with_bidders, opened, AddsPlace, Step, last_excess, excess}
@@ -19,7 +20,7 @@ abbrev pub finish : SlotList → Stage
 finish slots = Ended slots
 
 -- the lines that a stage has behind it
-abbrev pub behind : Stage → List SlotLine
+abbrev pub behind : Stage → List Line
 behind Start = []
 behind Headed = (codes "slots 1", None) ∷ []
 behind (Listing slots) = listed slots
@@ -35,10 +36,10 @@ IsSound (Ended slots) = IsSlotText slots
 step_behind : (s t : Stage) (l : List ℕ) → IsSound s → Step s l t → IsSound t × (behind t ≡ behind s ++ (l, excess t) ∷ [])
 step_behind s t l = by_stage s
   where
-    F : List SlotLine → List ℕ → Stage → Type 0
+    F : List Line → List ℕ → Stage → Type 0
     F before line u = IsSound u × (behind u ≡ before ++ (line, excess u) ∷ [])
 
-    move : (before : List SlotLine) (line : List ℕ) (u : Stage) → l ≡ line → t ≡ u → F before line u → F before l t
+    move : (before : List Line) (line : List ℕ) (u : Stage) → l ≡ line → t ≡ u → F before line u → F before l t
     move before line u line_is stage_is here = subst (λ (v : Stage). F before l v) (sym stage_is) (subst (λ (m : List ℕ). F before m u) (sym line_is) here)
 
     by_stage : (s : Stage) → IsSound s → Step s l t → F (behind s) l t
@@ -48,16 +49,16 @@ step_behind s t l = by_stage s
     by_stage (Listing slots) sound (inr step) = move (listed slots) l (Listing step.0) refl step.2 (adds_one slots step.0 l sound step.1)
     by_stage (Ended slots) sound step = absurd step
 
-runs_behind : (ms : List SlotLine) (s t : Stage) → IsSound s → Runs Step excess s ms t → IsSound t × (behind t ≡ behind s ++ ms)
+runs_behind : (ms : List Line) (s t : Stage) → IsSound s → Runs Step excess s ms t → IsSound t × (behind t ≡ behind s ++ ms)
 runs_behind [] s t sound run = (subst IsSound run sound, ap behind (sym run) ∙ sym (append-nil (behind s)))
 runs_behind (m ∷ ms) s t sound run =
     let first = step_behind s run.0 m.0 sound run.2 in
     let rest = runs_behind ms run.0 t first.0 run.4 in
     let beside : (m.0, excess run.0) ≡ m = λ i. (m.0, sym run.3 i) in
-    (rest.0, rest.1 ∙ ap (λ (r : List SlotLine). r ++ ms) (first.1 ∙ ap (λ (x : SlotLine). behind s ++ x ∷ []) beside) ∙ append_assoc (behind s) (m ∷ []) ms)
+    (rest.0, rest.1 ∙ ap (λ (r : List Line). r ++ ms) (first.1 ∙ ap (λ (x : Line). behind s ++ x ∷ []) beside) ∙ append_assoc (behind s) (m ∷ []) ms)
 
 -- each stage has the front of a text behind it: slots with as much as is read, and nothing else
-pub record FrontOf (before : List SlotLine) : Type 0 where
+pub record FrontOf (before : List Line) : Type 0 where
   pub slots : SlotList
   pub count : ℕ
   pub valid : IsSlotText slots

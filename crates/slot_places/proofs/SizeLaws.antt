@@ -1,11 +1,11 @@
 -- What fits behind a set is placed: the bidders of the set go first, each with 0.
 use Rattle.std.specs.Prelude.{◌≡◌, ◌⊎◌, ℕ, zero, suc, ◌+◌, ◌-◌, ◌*◌, ◌^◌, ◌≤◌, ◌<◌, Bool, true, false, cond, ◌&&◌, nat_le, IsTrue, List, [], ◌∷◌, length, get_or, refl, ℤ, pos, negsuc, neg_ℤ, ◌+ℤ◌, ◌-ℤ◌, ◌*ℤ◌, ◌≤ℤ◌, unsigned_abs}
-use Rattle.std.specs.Int.{int_max}
 use Rattle.std.proofs.Common.{inl, inr, sym, ◌∙◌, ap, arith, subst}
 use Rattle.std.proofs.lemmas.Bool.{and_from, and_right, le-leb, lt-leb, cases_Bool, cases_eq, cases_lt}
-use Rattle.std.proofs.lemmas.Int.{ints, clamps, unsigned_abs-mul}
+use Rattle.std.proofs.lemmas.Int.{ints, unsigned_abs-mul}
 use Rattle.auction_model.specs.Lowered.{lowered, of_bidder, sum_to}
 use Rattle.auction_model.specs.Market.{number_of, sum_after}
+use Rattle.auction_model.proofs.BoundLaws.{abs-from, abs-idle, abs-self}
 use Rattle.slot_places.specs.Board.{Board, nobody, joined, outside, is_known, can_place, is_placed}
 use Rattle.slot_places.specs.SetTable.{fits_behind, counts_outside, sum_outside, StaysInRange}
 use Rattle.slot_places.proofs.SetLaws.{joined-self, joined-other, outside-joined, outside-nobody}
@@ -104,7 +104,7 @@ fits-placed b asks idle s c within t =
         idle-at s 0 c (j - 1) f.idle (omega (arith, count, some, low)) (subst (λ h. s h ≡ true) at t)
 
 -- what one bidder and all together can count
-sum_to-term : (f : ℕ → ℕ) (n j : ℕ) → 0 < j → j ≤ n → f j ≤ sum_to f n
+pub sum_to-term : (f : ℕ → ℕ) (n j : ℕ) → 0 < j → j ≤ n → f j ≤ sum_to f n
 sum_to-term f zero j some low = absurd (omega (arith, some, low))
 sum_to-term f (suc n) j some low =
     elim (cases_eq j (suc n)) [
@@ -112,26 +112,11 @@ sum_to-term f (suc n) j some low =
       | inr other ↦ let rest = sum_to-term f n j some (omega (arith, low, other)) in omega (arith, rest)
     ]
 
-abs-of : (z : ℤ) (n : ℕ) → z ≤ℤ pos n → neg_ℤ (pos n) ≤ℤ z → unsigned_abs z ≤ n
-abs-of (pos a) n h k = omega (arith, ints)
-abs-of (negsuc a) n h k = omega (arith, ints)
-
-abs-high : (z : ℤ) → z ≤ℤ pos (unsigned_abs z)
-abs-high (pos a) = omega (arith, ints)
-abs-high (negsuc a) = omega (arith, ints)
-
-abs-low : (z : ℤ) → neg_ℤ (pos (unsigned_abs z)) ≤ℤ z
-abs-low (pos a) = omega (arith, ints)
-abs-low (negsuc a) = omega (arith, ints)
-
-abs-idle : (s : ℤ) → unsigned_abs (int_max (pos 0) (neg_ℤ s)) ≤ unsigned_abs s
-abs-idle s = let h = abs-high s in let l = abs-low s in abs-of (int_max (pos 0) (neg_ℤ s)) (unsigned_abs s) (omega (arith, ints, clamps, h, l)) (omega (arith, ints, clamps, h, l))
-
 abs-less : (a b : ℤ) → unsigned_abs (a -ℤ b) ≤ unsigned_abs a + unsigned_abs b
-abs-less a b = let h = abs-high a in let l = abs-low a in let i = abs-high b in let m = abs-low b in abs-of (a -ℤ b) (unsigned_abs a + unsigned_abs b) (omega (arith, ints, h, l, i, m)) (omega (arith, ints, h, l, i, m))
+abs-less a b = let h = abs-self a in let i = abs-self b in abs-from (a -ℤ b) (unsigned_abs a + unsigned_abs b) (omega (arith, ints, h.0, h.1, i.0, i.1)) (omega (arith, ints, h.0, h.1, i.0, i.1))
 
 abs-add : (a b : ℤ) → unsigned_abs (a +ℤ b) ≤ unsigned_abs a + unsigned_abs b
-abs-add a b = let h = abs-high a in let l = abs-low a in let i = abs-high b in let m = abs-low b in abs-of (a +ℤ b) (unsigned_abs a + unsigned_abs b) (omega (arith, ints, h, l, i, m)) (omega (arith, ints, h, l, i, m))
+abs-add a b = let h = abs-self a in let i = abs-self b in abs-from (a +ℤ b) (unsigned_abs a + unsigned_abs b) (omega (arith, ints, h.0, h.1, i.0, i.1)) (omega (arith, ints, h.0, h.1, i.0, i.1))
 
 pub sum-size : (f : ℕ → ℕ → ℤ) (caps : ℕ → ℕ) (k : ℕ) (c : List ℕ) → ((i : ℕ) → i < length c → unsigned_abs (f (suc (k + i)) (get_or c i 0)) ≤ caps (suc (k + i))) → sum_to caps k + unsigned_abs (sum_after f k c) ≤ sum_to caps (k + length c)
 sum-size f caps k [] all = let e : k + 0 ≡ k = omega arith in rw e (omega arith)

@@ -11,21 +11,20 @@ use Rattle.auction_model.specs.Lowered.{sum_to}
 use Rattle.bid_book.proofs.SupplyLaws.{none_first, none_second}
 use Rattle.bid_book.proofs.Within.{each_at}
 use Rattle.slot_places.specs.Slots.{SlotBid, SlotBidder, SlotList, no_bid, no_bidder, bids_of, bid_of, width_of}
-use Rattle.slot_places.specs.SlotForm.{SlotExcess, SlotLine, IsSlotBid, AreSlotBids, IsSlotBidder, AreSlotBidders, width_together, band_excess, bidder_excess, bidder_line, place_lines, bidder_lines, head_lines, AreSlotsWithinLimits}
+use Rattle.book_form.specs.BookLines.{Excess, Line}
+use Rattle.slot_places.specs.SlotForm.{IsSlotBid, AreSlotBids, IsSlotBidder, AreSlotBidders, width_together, band_excess, bidder_excess, bidder_line, place_lines, bidder_lines, head_lines, AreSlotsWithinLimits}
 use Rattle.slot_places.specs.Kept.{IsInBand, AreSlots}
 use Rattle.slot_places.specs.Stages.{Adds, excess_of, last_start, opened}
 use Rattle.slot_places.proofs.Growth.{listed, adds_one}
+use Rattle.slot_places.proofs.EntryLaws.{few_lots}
 
-parts_none : (xs ys : List SlotLine) → first_excess (xs ++ ys) ≡ None → (first_excess xs ≡ None) × (first_excess ys ≡ None)
+parts_none : (xs ys : List Line) → first_excess (xs ++ ys) ≡ None → (first_excess xs ≡ None) × (first_excess ys ≡ None)
 parts_none xs ys none =
     let both : option_or (first_excess xs) (first_excess ys) ≡ None = sym (first_excess-append xs ys) ∙ none in
     (none_first (first_excess xs) (first_excess ys) both, none_second (first_excess xs) (first_excess ys) both)
 
 band_few : (n : ℕ) → band_excess n ≡ None → n ≤ 40
 band_few n none = grind (arith, nat_tests)
-
-few_band : (n : ℕ) → n ≤ 40 → band_excess n ≡ None
-few_band n few = grind (arith, nat_tests)
 
 bidder_few : (n : ℕ) → bidder_excess n ≡ None → n ≤ 6
 bidder_few n none = grind (arith, nat_tests)
@@ -158,9 +157,9 @@ grown old new line is adds none =
     let both = adds_one old new line is.form adds in
     let before = (parts_none (listed old) ((codes "end", None) ∷ []) is.limits).0 in
     let here : first_excess (listed new) ≡ None =
-    ap first_excess both.1 ∙ first_excess-append (listed old) ((line, excess_of new) ∷ []) ∙ ap (λ (o : Option SlotExcess). option_or o (option_or (excess_of new) None)) before ∙ ap (λ (o : Option SlotExcess). option_or o None) none in
-    record { form = both.0; limits = first_excess-append (listed new) ((codes "end", None) ∷ []) ∙ ap (λ (o : Option SlotExcess). option_or o None) here }
+    ap first_excess both.1 ∙ first_excess-append (listed old) ((line, excess_of new) ∷ []) ∙ ap (λ (o : Option Excess). option_or o (option_or (excess_of new) None)) before ∙ ap (λ (o : Option Excess). option_or o None) none in
+    record { form = both.0; limits = first_excess-append (listed new) ((codes "end", None) ∷ []) ∙ ap (λ (o : Option Excess). option_or o None) here }
 
 -- the band before its first bidder
 pub opened_within : (band : ℕ) → 1 ≤ band → band ≤ 40 → AreSlotsWithinLimits (opened band)
-opened_within band some low = record { form = record { band = (some, omega (arith, low)); bidders = tt }; limits = ap (λ (o : Option SlotExcess). option_or o None) (few_band band low) }
+opened_within band some low = record { form = record { band = (some, omega (arith, low)); bidders = tt }; limits = ap (λ (o : Option Excess). option_or o None) (few_lots band low) }

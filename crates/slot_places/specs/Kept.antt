@@ -1,10 +1,9 @@
 -- What slots keep.
 use Rattle.std.specs.Prelude.{◌≢◌, ℕ, ◌+◌, ◌<◌, ◌≤◌, length, slice_index_or}
 use Rattle.auction_model.specs.Lowered.{sum_to}
-use Rattle.limits.specs.declared.TheConstants.{MOST_AMOUNT, MOST_LOTS}
+use Rattle.limits.specs.declared.TheConstants.{MOST_AMOUNT, MOST_LOTS, MOST_PLACED}
 use Rattle.slot_places.specs.Slots.{SlotBidder, SlotList, no_bid, bidder_of, width_of}
 use Rattle.slot_places.specs.SlotForm.{AreSlotsWithinLimits}
-use Rattle.slot_places.specs.declared.TheConstants.{MOST_PLACED}
 
 -- a bidder in a band: its starts rise within the band, so it has no more bids than there are slots
 pub record IsInBand (band : ℕ) (b : SlotBidder) : Type 0 where

@@ -6,9 +6,9 @@ use Rattle.line_text.specs.LineText.{first_excess}
 use Rattle.book_form.specs.BookForm.{IsName}
 use Rattle.limits.specs.declared.LimitKind.{LimitKind}
 use Rattle.limits.specs.declared.LimitKind.TheVariants.{Lots, Bidders}
-use Rattle.limits.specs.declared.TheConstants.{MOST_AMOUNT, MOST_COUNT, MOST_LOTS}
+use Rattle.book_form.specs.BookLines.{Excess, Line}
+use Rattle.limits.specs.declared.TheConstants.{MOST_AMOUNT, MOST_COUNT, MOST_LOTS, MOST_PLACED}
 use Rattle.slot_places.specs.Slots.{SlotBid, SlotBidder, SlotList}
-use Rattle.slot_places.specs.declared.TheConstants.{MOST_PLACED}
 
 -- the width of these bidders side by side
 abbrev pub width_together : List SlotBidder → ℕ
@@ -41,41 +41,34 @@ pub record IsSlotText (slots : SlotList) : Type 0 where
   pub band : (1 ≤ slots.band) × (slots.band ≤ MOST_COUNT)
   pub bidders : AreSlotBidders slots.band [] slots.bidders
 
--- a quantity above its limit, with its count
-abbrev pub SlotExcess : Type 0
-SlotExcess = LimitKind × ℕ
-
-abbrev pub SlotLine : Type 0
-SlotLine = List ℕ × Option SlotExcess
-
-abbrev pub band_excess : ℕ → Option SlotExcess
+abbrev pub band_excess : ℕ → Option Excess
 band_excess band = if nat_le band MOST_LOTS then None else Some (Lots, band)
 
-abbrev pub bidder_excess : ℕ → Option SlotExcess
+abbrev pub bidder_excess : ℕ → Option Excess
 bidder_excess count = if nat_le count MOST_PLACED then None else Some (Bidders, MOST_PLACED + 1)
 
-abbrev pub band_line : ℕ → SlotLine
+abbrev pub band_line : ℕ → Line
 band_line band = (codes "band " ++ decimal band, band_excess band)
 
 -- the bidder behind so many others
-abbrev pub bidder_line : ℕ → List ℕ → ℕ → SlotLine
+abbrev pub bidder_line : ℕ → List ℕ → ℕ → Line
 bidder_line before name width = (codes "bidder " ++ (name ++ 32 ∷ decimal width), bidder_excess (before + 1))
 
-abbrev pub place_line : SlotBid → SlotLine
+abbrev pub place_line : SlotBid → Line
 place_line b = (codes "place " ++ (decimal b.start ++ 32 ∷ decimal b.amount), None)
 
-abbrev pub place_lines : List SlotBid → List SlotLine
+abbrev pub place_lines : List SlotBid → List Line
 place_lines [] = []
 place_lines (b ∷ bs) = place_line b ∷ place_lines bs
 
-abbrev pub bidder_lines : ℕ → List SlotBidder → List SlotLine
+abbrev pub bidder_lines : ℕ → List SlotBidder → List Line
 bidder_lines before [] = []
 bidder_lines before (b ∷ bs) = (bidder_line before b.name b.width ∷ place_lines b.bids) ++ bidder_lines (before + 1) bs
 
-abbrev pub head_lines : SlotList → List SlotLine
+abbrev pub head_lines : SlotList → List Line
 head_lines slots = (codes "slots 1", None) ∷ band_line slots.band ∷ []
 
-abbrev pub slot_lines : SlotList → List SlotLine
+abbrev pub slot_lines : SlotList → List Line
 slot_lines slots = head_lines slots ++ bidder_lines 0 slots.bidders ++ (codes "end", None) ∷ []
 
 -- slots that have a text, in which nothing exceeds a limit

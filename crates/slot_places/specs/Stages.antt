@@ -6,7 +6,8 @@ use Rattle.std.specs.List.{AllByRecursion}
 use Rattle.book_form.specs.BookForm.{IsName}
 use Rattle.limits.specs.declared.TheConstants.{MOST_COUNT}
 use Rattle.slot_places.specs.Slots.{SlotBid, SlotBidder, SlotList, bidder_of, bids_of, width_of}
-use Rattle.slot_places.specs.SlotForm.{SlotExcess, IsSlotBid, width_together, band_excess, bidder_excess, band_line, place_line}
+use Rattle.book_form.specs.BookLines.{Excess}
+use Rattle.slot_places.specs.SlotForm.{IsSlotBid, width_together, band_excess, bidder_excess, band_line, place_line}
 use Rattle.slot_places.specs.declared.SlotStop.{SlotStop}
 use Rattle.slot_places.specs.declared.SlotStop.TheVariants as slots
 use Rattle.slot_places.specs.declared.stop.LineStop.{LineStop}
@@ -83,21 +84,21 @@ Step Headed line next = (band : ℕ) × (line ≡ (band_line band).0) × ((1 ≤
 Step (Listing slots) line next = ((line ≡ codes "end") × (next ≡ Ended slots)) ⊎ ((new : SlotList) × Adds slots new line × (next ≡ Listing new))
 Step (Ended slots) line next = ⊥
 
-abbrev pub bids_excess : ℕ → List SlotBid → Option SlotExcess
+abbrev pub bids_excess : ℕ → List SlotBid → Option Excess
 bids_excess bidders [] = bidder_excess bidders
 bids_excess bidders (b ∷ bs) = None
 
 -- what the last line exceeds, by the last bidder, or by the band where there is none
-abbrev pub last_excess : ℕ → ℕ → List SlotBidder → Option SlotExcess
+abbrev pub last_excess : ℕ → ℕ → List SlotBidder → Option Excess
 last_excess band before [] = band_excess band
 last_excess band before (b ∷ []) = bids_excess (before + 1) b.bids
 last_excess band before (b ∷ c ∷ bs) = last_excess band (before + 1) (c ∷ bs)
 
-abbrev pub excess_of : SlotList → Option SlotExcess
+abbrev pub excess_of : SlotList → Option Excess
 excess_of slots = last_excess slots.band 0 slots.bidders
 
 -- what the line that led to the stage exceeds
-abbrev pub excess : Stage → Option SlotExcess
+abbrev pub excess : Stage → Option Excess
 excess Start = None
 excess Headed = None
 excess (Listing slots) = excess_of slots

@@ -5,7 +5,8 @@ ghost use Rattle.slot_places.specs.Slots.{SlotList};
 ghost use Rattle.slot_places.specs.Board.{market_of};
 ghost use Rattle.slot_places.specs.Orders.{allows};
 ghost use Rattle.line_text.specs.LineText.{Said, Says, stated};
-ghost use Rattle.slot_places.specs.SlotForm.{IsSlotText, SlotExcess, slot_lines};
+ghost use Rattle.book_form.specs.BookLines.{Excess};
+ghost use Rattle.slot_places.specs.SlotForm.{IsSlotText, slot_lines};
 
 /// Slots are a market: it is allowed that nobody wins, and an allowed choice stays allowed when a bidder leaves it, which is then
 /// placed without a bid.
@@ -22,6 +23,6 @@ pub fn slot_orders()
 /// Bytes say one thing of slots: slots, where the first faulty line begins, or what exceeds its limit first. So each answer of
 /// `read_slots` comes exactly where the bytes say so. And slots within the limits have one text.
 pub fn one_slots()
-    ensures one { (bytes : List ℕ) (x y : Said SlotList SlotExcess) → Says IsSlotText slot_lines bytes x → Says IsSlotText slot_lines bytes y → x ≡ y }
+    ensures one { (bytes : List ℕ) (x y : Said SlotList Excess) → Says IsSlotText slot_lines bytes x → Says IsSlotText slot_lines bytes y → x ≡ y }
     ensures text { (bytes other : List ℕ) (slots : SlotList) → Says IsSlotText slot_lines bytes (stated slots) → Says IsSlotText slot_lines other (stated slots) → bytes ≡ other }
 {}

@@ -15,13 +15,10 @@ mod stop;
 mod tests;
 
 pub use laws::{one_slots, slot_market, slot_orders};
-pub use limits::LimitKind;
+pub use limits::{LimitKind, MOST_PLACED};
 pub use read::read_slots;
 pub use slot_chooser::{SlotChooser, place_win};
 pub use slots::{Place, Slots};
-
-/// The most bidders of a band.
-pub const MOST_PLACED: usize = 6;
 
 /// Why bytes are no slots.
 #[derive(Clone, Copy, Debug, PartialEq, Eq)]

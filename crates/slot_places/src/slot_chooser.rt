@@ -7,7 +7,7 @@ ghost use Rattle.auction_model.specs.Prices.{allowed_without};
 ghost use Rattle.slot_places.specs.Slots.{amount_of};
 ghost use Rattle.slot_places.specs.Board.{market_of, board_without, is_placed};
 ghost use Rattle.slot_places.specs.SetTable.{IsSetTable};
-ghost use Rattle.slot_places.specs.declared.TheConstants.{MOST_PLACED};
+ghost use Rattle.limits.specs.declared.TheConstants.{MOST_PLACED};
 
 use crate::search::Search;
 use crate::searching::greatest;

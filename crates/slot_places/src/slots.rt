@@ -1,7 +1,6 @@
 // Slots, and the calls that read them.
 ghost use Rattle.std.specs.Prelude.{◌≡◌, ◌≤◌, ◌<◌, ◌+◌, ◌++◌, ◌∷◌, [], OnOk, length};
-ghost use Rattle.limits.specs.declared.TheConstants.{MOST_LOTS};
-ghost use Rattle.slot_places.specs.declared.TheConstants.{MOST_PLACED};
+ghost use Rattle.limits.specs.declared.TheConstants.{MOST_LOTS, MOST_PLACED};
 ghost use Rattle.slot_places.specs.Kept.{AreSlots};
 ghost use Rattle.slot_places.specs.Slots.{bidder_of, width_of, bids_of, bid_of};
 

@@ -8,11 +8,13 @@ use Rattle.text_lines.proofs.Numerals.{Ends, one_signed}
 use Rattle.text_lines.specs.declared.numbers.Kept.{Kept}
 use Rattle.text_lines.specs.Fields.{FieldEnds, IsNoField, KeepsNumber, KeepsNumbers, HasNumbers}
 
-numbers-push : (ns : List ℤ) (z : ℤ) → numbers_text (ns ++ z ∷ []) ≡ numbers_text ns ++ 32 ∷ signed_numeral z
+-- the text of one number more
+pub numbers-push : (ns : List ℤ) (z : ℤ) → numbers_text (ns ++ z ∷ []) ≡ numbers_text ns ++ 32 ∷ signed_numeral z
 numbers-push [] z = ap (λ (l : List ℕ). 32 ∷ l) (append-nil (signed_numeral z))
 numbers-push (n ∷ ns) z = ap (λ (l : List ℕ). 32 ∷ signed_numeral n ++ l) (numbers-push ns z) ∙ ap (λ (l : List ℕ). 32 ∷ l) (sym (append_assoc (signed_numeral n) (numbers_text ns) (32 ∷ signed_numeral z)))
 
-out-push : (ns : List ℤ) (z : ℤ) → any_out (ns ++ z ∷ []) ≡ any_out ns || is_out z
+-- one more number, in range or not
+pub out-push : (ns : List ℤ) (z : ℤ) → any_out (ns ++ z ∷ []) ≡ any_out ns || is_out z
 out-push [] z = alone (is_out z)
   where
     alone : (b : Bool) → b || false ≡ b

@@ -68,14 +68,14 @@ pub numeral_is : (n : ℕ) → IsNumeral (numeral n) n
 numeral_is n = (good (suc n) n (omega arith)).is
 
 -- the digits that follow those of a number above 0
-grow : (n : ℕ) (cs : List ℕ) → 0 < n → AreDigits cs → numeral (read_on n cs) ≡ numeral n ++ cs
-grow n [] some all = sym (append-nil (numeral n))
-grow n (c ∷ cs) some all =
+pub numeral-on : (n : ℕ) (cs : List ℕ) → 0 < n → AreDigits cs → numeral (read_on n cs) ≡ numeral n ++ cs
+numeral-on n [] some all = sym (append-nil (numeral n))
+numeral-on n (c ∷ cs) some all =
     let m = 10 * n + (c - 48) in
     let front : m / 10 ≡ n = omega (arith, all.0) in
     let last : 48 + m % 10 ≡ c = omega (arith, all.0) in
     let step : numeral m ≡ numeral n ++ c ∷ [] = numeral-more m (omega arith) ∙ ap (λ (k : ℕ). numeral k ++ (48 + m % 10) ∷ []) front ∙ ap (λ (k : ℕ). numeral n ++ k ∷ []) last in
-    grow m cs (omega arith) all.1 ∙ ap (λ (l : List ℕ). l ++ cs) step ∙ append_assoc (numeral n) (c ∷ []) cs
+    numeral-on m cs (omega arith) all.1 ∙ ap (λ (l : List ℕ). l ++ cs) step ∙ append_assoc (numeral n) (c ∷ []) cs
 
 -- a number has one numeral
 pub one_numeral : (ds : List ℕ) (n : ℕ) → IsNumeral ds n → ds ≡ numeral n
@@ -87,7 +87,7 @@ one_numeral (c ∷ d ∷ ds) n is =
     let first : 48 < c = is.leading (omega arith) in
     let one : numeral (c - 48) ≡ c ∷ [] = numeral-one (c - 48) (omega (arith, is.digits.0)) ∙ ap (λ (k : ℕ). k ∷ []) (omega (arith, is.digits.0)) in
     let value : read_on (c - 48) (d ∷ ds) ≡ n = ap (λ (k : ℕ). read_on k (d ∷ ds)) (omega arith) ∙ is.value in
-    sym (ap numeral (sym value) ∙ grow (c - 48) (d ∷ ds) (omega arith) is.digits.1 ∙ ap (λ (l : List ℕ). l ++ d ∷ ds) one)
+    sym (ap numeral (sym value) ∙ numeral-on (c - 48) (d ∷ ds) (omega arith) is.digits.1 ∙ ap (λ (l : List ℕ). l ++ d ∷ ds) one)
 
 pub numeral_one : (m n : ℕ) → numeral m ≡ numeral n → m ≡ n
 numeral_one m n e = sym (numeral_is m).value ∙ ap (read_on 0) e ∙ (numeral_is n).value

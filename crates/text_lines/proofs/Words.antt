@@ -8,7 +8,8 @@ pub word_front : (word rest : List ℕ) → take (length word) (word ++ rest) �
 word_front [] rest = refl
 word_front (c ∷ word) rest = ap (λ (l : List ℕ). c ∷ l) (word_front word rest)
 
-word_rest : (word rest : List ℕ) → drop (length word) (word ++ rest) ≡ rest
+-- what stands behind a word
+pub word_rest : (word rest : List ℕ) → drop (length word) (word ++ rest) ≡ rest
 word_rest [] rest = refl
 word_rest (c ∷ word) rest = word_rest word rest
 

@@ -3,6 +3,7 @@ use Rattle.std.specs.Prelude.{◌≡◌, ℕ, ◌+◌, ◌-◌, ◌^◌, ◌≤�
 use Rattle.std.specs.Int.{int_max}
 use Rattle.std.proofs.Common.{arith, below_more, ap}
 use Rattle.std.proofs.lemmas.Int.{ints, by_lt_z, int_max_is}
+use Rattle.auction_model.proofs.LineLaws.{int_max-left}
 
 -- the sum at a place
 abbrev pub pair_at : ℕ → List ℤ → List ℤ → ℕ → ℤ
@@ -13,11 +14,7 @@ pub record IsPairSoFar (states : ℕ) (before after : List ℤ) (k : ℕ) (most 
   pub reached : (s : ℕ) × (s < states) × (most ≡ pair_at states before after s)
   pub bound : (s : ℕ) → s < k → pair_at states before after s ≤ℤ most
 
--- the greater of two numbers is the first
-max-left : (a b : ℤ) → b ≤ℤ a → int_max a b ≡ a
-max-left a b h = omega (arith, ints, int_max_is a b)
-
--- or the second
+-- the greater of two numbers is the second
 max-right : (a b : ℤ) → a <ℤ b → int_max a b ≡ b
 max-right a b h = omega (arith, ints, int_max_is a b)
 
@@ -45,7 +42,7 @@ module _ (states : ℕ) (before after : List ℤ) where
         reached = (k, inside, refl);
         bound = below_more (λ s. pair_at states before after s ≤ℤ sum) k (λ s h. omega (arith, ints, was.bound s h, lt)) (omega (arith, ints));
       }))
-      (λ ge. rw (max-left most sum ge) (record {
+      (λ ge. rw (int_max-left most sum ge) (record {
         reached = was.reached;
         bound = below_more (λ s. pair_at states before after s ≤ℤ most) k was.bound (omega (arith, ints, ge));
       }))

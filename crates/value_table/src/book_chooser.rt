@@ -29,7 +29,7 @@ impl<'a> BookChooser<'a> {
         ensures winners { result.winners ≡ winners }
     {
         book_market();
-        let _bidders = book.bidders();
+        book.kept();
         BookChooser { book, winners }
     }
 }
@@ -70,7 +70,7 @@ impl<'a> Chooser for BookChooser<'a> {
         den: i128,
         surplus: &[i128],
     ) -> Result<Found<ValueTable>, AllocError> {
-        let _bidders = self.book.bidders();
+        self.book.kept();
         let table = ValueTable::build(alloc, self.book, 0, den, surplus)?;
         let choice = table.trace(alloc, self.book)?;
         let sum = table.most(self.book);

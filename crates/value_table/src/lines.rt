@@ -92,7 +92,7 @@ fn lines_down(
     requires first { IsCountedLine lowering.now top first.items }
     ensures { IfOk result (λ v. AreCountedLines lowering.now (suc top) 0 (map (λ l. l.items) v.items)) }
 {
-    let _bidders = lowering.book.bidders();
+    lowering.book.kept();
     let mut lines = Vec::new(alloc);
     lines.push(first)?;
     for k in (0..top).rev() {
@@ -138,7 +138,7 @@ pub fn lines_without(alloc: Global, lowering: &Lowering, whole: &Grid) -> Result
     requires whole { IsWholeTable lowering.now whole.now }
     ensures { IfOk result (λ g. IsCountedTable lowering.now g) }
 {
-    let _bidders = lowering.book.bidders();
+    lowering.book.kept();
     let skip = lowering.skip as usize;
     let first = Vec::from_slice(alloc, whole.line(skip))?;
     let lines = lines_down(alloc, lowering, skip - 1, first)?;

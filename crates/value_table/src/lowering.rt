@@ -94,7 +94,7 @@ impl<'a> Lowering<'a> {
         requires bid { (0 < i) × (i ≤ (counted_bids self.now).bids j) }
         ensures { IsTrue result → IsNeedless self.now j i }
     {
-        let _bidders = self.book.bidders();
+        self.book.kept();
         let _bids = self.bids(j);
         if self.den >= 0 && self.book.better(self.bidder(j), i) != 0 {
             return true;
@@ -106,7 +106,7 @@ impl<'a> Lowering<'a> {
     pub fn is_narrow(&self) -> bool
         ensures { IsTrue result → IsNarrow self.now }
     {
-        let _bidders = self.book.bidders();
+        self.book.kept();
         self.den.unsigned_abs() <= NARROW_DEN && are_narrow(self.surplus)
     }
 }

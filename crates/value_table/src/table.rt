@@ -78,7 +78,7 @@ impl ValueTable {
         ensures plain { IfOk result (λ t. IsPlainWithout j t) }
         ensures exact { IfOk result (λ t. IsTableOf book.now t) }
     {
-        let _bidders = book.bidders();
+        book.kept();
         let surplus = Vec::from_slice(alloc, &self.surplus)?;
         let lowering = Lowering {
             book,

@@ -38,7 +38,7 @@ fn without_winner(
     ensures single { IfOk result (λ a. IsSingle (market_of book.now) winners.now a.single) }
     ensures table { IfOk result (λ a. IsTableWithout book.now j a.table.lines) }
 {
-    let _bidders = book.bidders();
+    book.kept();
     let whole = source.whole();
     let table = whole.without(alloc, book, j)?;
     let choice = table.trace(alloc, book)?;

@@ -1,6 +1,6 @@
 -- The lines of weights: they have no line feed, and each says one weight.
 use Rattle.std.proofs.Common.{inl, inr, ◌≡◌, ◌≢◌, ℕ, zero, suc, ◌+◌, ◌-◌, ◌≤◌, ◌<◌, ◌^◌, None, List, [], ◌∷◌, ◌++◌, length, get_or, refl, sym, ap, ◌∙◌, arith}
-use Rattle.std.specs.Prelude.{codes, IfNone, Option, Some}
+use Rattle.std.specs.Prelude.{codes}
 use Rattle.std.specs.List.{AllByRecursion}
 use Rattle.std.specs.Fmt.{decimal}
 use Rattle.std.proofs.lemmas.List.{append_cancel_left}
@@ -46,7 +46,3 @@ next_is book given = let e : length given + 1 - 1 ≡ length given = omega arith
 pub names : (supply reserves : List ℕ) (front bs : List Bidder) → AreBidders supply reserves front bs → AllByRecursion (λ b. IsName b.name) bs
 names supply reserves front [] all = tt
 names supply reserves front (b ∷ bs) all = (all.0.name, names supply reserves (front ++ b ∷ []) bs all.1)
-
-pub none-so : {A : Type 0} (r : Option A) (P : Type 0) → P → IfNone r P
-none-so None P p = p
-none-so (Some x) P p = tt

@@ -4,20 +4,26 @@ use Rattle.std.proofs.lemmas.Int.{to_z-of_z}
 use Rattle.std.specs.Int.{w128}
 use Rattle.core_price.specs.Lowest.{IsMultiple}
 use Rattle.core_price.proofs.Divisors.{lowest-of}
+use Rattle.core_price.proofs.Division.{not-zero}
 use Rattle.core_price.proofs.reduce.reduced.Goals as goal
 
-pub divided-requires-clause-divides : goal.divided-requires-clause-divides
-divided-requires-clause-divides c =
+pub quotients-requires-clause-apart : goal.quotients-requires-clause-apart
+quotients-requires-clause-apart c =
+    let d : to_z w128 (of_z w128 c.greatest_divisor-divisor.result) ≡ c.greatest_divisor-divisor.result = to_z-of_z w128 c.greatest_divisor-divisor.result (search rules) in
+    rw d (not-zero c.greatest_divisor-divisor.result c.greatest_divisor-divisor.ensures.positive)
+
+pub quotients-requires-clause-divides : goal.quotients-requires-clause-divides
+quotients-requires-clause-divides c =
     let d : to_z w128 (of_z w128 c.greatest_divisor-divisor.result) ≡ c.greatest_divisor-divisor.result = to_z-of_z w128 c.greatest_divisor-divisor.result (search rules) in
     rw (d, c.items.ensures) c.greatest_divisor-divisor.ensures.divides.at_is
 
-pub divided-requires-2-clause-divides : goal.divided-requires-2-clause-divides
-divided-requires-2-clause-divides c =
+pub quotients-requires-2-clause-divides : goal.quotients-requires-2-clause-divides
+quotients-requires-2-clause-divides c =
     let d : to_z w128 (of_z w128 c.greatest_divisor-divisor.result) ≡ c.greatest_divisor-divisor.result = to_z-of_z w128 c.greatest_divisor-divisor.result (search rules) in
     rw (d, c.items-2.ensures) c.greatest_divisor-divisor.ensures.divides.first_is
 
-pub divided-requires-3-clause-divides : goal.divided-requires-3-clause-divides
-divided-requires-3-clause-divides c =
+pub quotients-requires-3-clause-divides : goal.quotients-requires-3-clause-divides
+quotients-requires-3-clause-divides c =
     let d : to_z w128 (of_z w128 c.greatest_divisor-divisor.result) ≡ c.greatest_divisor-divisor.result = to_z-of_z w128 c.greatest_divisor-divisor.result (search rules) in
     rw (d, c.items-3.ensures) c.greatest_divisor-divisor.ensures.divides.second_is
 

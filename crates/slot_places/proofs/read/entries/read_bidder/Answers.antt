@@ -3,7 +3,8 @@ use Rattle.std.specs.List.{AllByRecursion}
 use Rattle.std.proofs.lemmas.Bool.{false≢true}
 use Rattle.book_form.specs.BookForm.{IsName}
 use Rattle.slot_places.specs.Slots.{SlotBidder}
-use Rattle.slot_places.proofs.EntryLaws.{none-so, entrant_fields, made_entrant}
+use Rattle.line_text.proofs.Lines.{none-so}
+use Rattle.slot_places.proofs.EntryLaws.{entrant_fields, made_entrant}
 use Rattle.slot_places.proofs.read.entries.read_bidder.Goals as goal
 
 pub returns-in_err-text-clause-none : goal.returns-in_err-text-clause-none

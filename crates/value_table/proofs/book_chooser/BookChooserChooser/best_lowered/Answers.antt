@@ -17,7 +17,7 @@ pub build-requires-clause-range : goal.build-requires-clause-range
 build-requires-clause-range c =
     let s = c.args.self.now in
     let den_fits : SFits w128 c.args.den = search rules in
-    rw (to_z-of_z w128 c.args.den den_fits) (range-of s.book.now s.winners c.args.den c.args.surplus.now c.bidders-bidders.ensures.kept s.winning c.requires)
+    rw (to_z-of_z w128 c.args.den den_fits) (range-of s.book.now s.winners c.args.den c.args.surplus.now c.kept.ensures s.winning c.requires)
 
 pub returns-clause-choice : goal.returns-clause-choice
 returns-clause-choice c =

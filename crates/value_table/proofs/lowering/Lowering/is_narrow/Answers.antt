@@ -11,4 +11,4 @@ returns-then-unsigned_abs-le-NARROW_DEN c = λ test.
     let den_fits : SFits w128 l.den = search rules in
     let value = simp to_z-of_z at c.unsigned_abs.ensures.value in
     let den : unsigned_abs l.den ≤ 2 ^ 13 = omega (arith, value, c.if-unsigned_abs-le-NARROW_DEN.true) in
-    narrow-spread l c.bidders-bidders.ensures.kept den (c.are_narrow.ensures test)
+    narrow-spread l c.kept.ensures den (c.are_narrow.ensures test)
