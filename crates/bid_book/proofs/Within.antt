@@ -18,7 +18,8 @@ use Rattle.bid_book.specs.Stages.{Adds, last_excess, opened}
 use Rattle.bid_book.proofs.Growth.{listed, adds_one}
 use Rattle.bid_book.proofs.SupplyLaws.{none_first, none_second, offer_of, supply_within, supply_kept}
 
-parts_none : (xs ys : List Line) → first_excess (xs ++ ys) ≡ None → (first_excess xs ≡ None) × (first_excess ys ≡ None)
+-- of lines without an excess neither part has one
+pub parts_none : (xs ys : List Line) → first_excess (xs ++ ys) ≡ None → (first_excess xs ≡ None) × (first_excess ys ≡ None)
 parts_none xs ys none =
     let both : option_or (first_excess xs) (first_excess ys) ≡ None = sym (first_excess-append xs ys) ∙ none in
     (none_first (first_excess xs) (first_excess ys) both, none_second (first_excess xs) (first_excess ys) both)

@@ -9,7 +9,7 @@ use Rattle.line_text.specs.LineText.{first_excess}
 use Rattle.line_text.proofs.Lines.{first_excess-append}
 use Rattle.auction_model.specs.Lowered.{sum_to}
 use Rattle.bid_book.proofs.SupplyLaws.{none_first, none_second}
-use Rattle.bid_book.proofs.Within.{each_at}
+use Rattle.bid_book.proofs.Within.{each_at, parts_none}
 use Rattle.slot_places.specs.Slots.{SlotBid, SlotBidder, SlotList, no_bid, no_bidder, bids_of, bid_of, width_of}
 use Rattle.book_form.specs.BookLines.{Excess, Line}
 use Rattle.slot_places.specs.SlotForm.{IsSlotBid, AreSlotBids, IsSlotBidder, AreSlotBidders, width_together, band_excess, bidder_excess, bidder_line, place_lines, bidder_lines, head_lines, AreSlotsWithinLimits}
@@ -17,11 +17,6 @@ use Rattle.slot_places.specs.Kept.{IsInBand, AreSlots}
 use Rattle.slot_places.specs.Stages.{Adds, excess_of, last_start, opened}
 use Rattle.slot_places.proofs.Growth.{listed, adds_one}
 use Rattle.slot_places.proofs.EntryLaws.{few_lots}
-
-parts_none : (xs ys : List Line) → first_excess (xs ++ ys) ≡ None → (first_excess xs ≡ None) × (first_excess ys ≡ None)
-parts_none xs ys none =
-    let both : option_or (first_excess xs) (first_excess ys) ≡ None = sym (first_excess-append xs ys) ∙ none in
-    (none_first (first_excess xs) (first_excess ys) both, none_second (first_excess xs) (first_excess ys) both)
 
 band_few : (n : ℕ) → band_excess n ≡ None → n ≤ 40
 band_few n none = grind (arith, nat_tests)
