@@ -6,10 +6,10 @@ use std::alloc::{AllocError, Global};
 /// The bids of one bidder so far. They come in the order of their places.
 #[derive(Drop)]
 pub(crate) struct Rivals {
-    /// The net amounts of the bids.
-    nets: Vec<i128>,
-    /// For each place up to that of the last bid the number of the bid that is worth most of those that fit there, or 0.
-    best: Vec<u16>,
+    /// How many bids there are.
+    count: u16,
+    /// For each place up to that of the last bid the greatest offer of the bids that fit there, or 0.
+    best: Vec<u64>,
     /// The counts of the place behind these.
     next: [u16; MOST_CATEGORIES],
 }
@@ -18,7 +18,7 @@ impl Rivals {
     /// No bids. It takes no memory.
     pub(crate) fn new(alloc: Global) -> Rivals {
         Rivals {
-            nets: Vec::new(alloc),
+            count: 0,
             best: Vec::new(alloc),
             next: [0; MOST_CATEGORIES],
         }
@@ -26,7 +26,7 @@ impl Rivals {
 
     /// Forgets the bids, for the next bidder.
     pub(crate) fn clear(&mut self) {
-        self.nets.clear();
+        self.count = 0;
         self.best.clear();
         self.next = [0; MOST_CATEGORIES];
     }
@@ -40,27 +40,30 @@ impl Rivals {
     ) -> Result<u16, AllocError> {
         let place = place_among(supply.counts(), package.counts());
         for _place in self.best.len()..(MOST_STATES as usize).min(place) {
-            self.add_place(supply)?;
+            self.add_place(supply, 0)?;
         }
-        let rival = best_below(&self.nets, &self.best, &self.next, supply.widths());
-        self.nets.push(net)?;
-        let number = if net_at(&self.nets, rival) < net {
-            self.nets.len().min(MOST_STATES as usize) as u16
-        } else {
-            rival
-        };
-        self.best.push(number)?;
-        step(&mut self.next, supply.counts());
-        Ok(rival)
+        self.count = self.count.wrapping_add(1);
+        let rival = self.add_place(supply, offer(net, self.count))?;
+        Ok(number_of(rival))
     }
 
-    /// Adds a place at which no bid of its own stands.
-    fn add_place(&mut self, supply: &Supply) -> Result<(), AllocError> {
-        let best = best_below(&self.nets, &self.best, &self.next, supply.widths());
-        self.best.push(best)?;
+    /// Adds a place at which this offer stands, or none where it is 0. Gives the greatest offer of the bids that are smaller.
+    fn add_place(&mut self, supply: &Supply, own: u64) -> Result<u64, AllocError> {
+        let below = best_below(&self.best, &self.next, supply.widths());
+        self.best.push(own.max(below))?;
         step(&mut self.next, supply.counts());
-        Ok(())
+        Ok(below)
     }
+}
+
+/// A net amount and the number of its bid in one number, which is greater where the amount is.
+fn offer(net: i128, number: u16) -> u64 {
+    (net as u64) << 16 | number as u64
+}
+
+/// The number of the bid of an offer, and 0 where there is none.
+fn number_of(offer: u64) -> u16 {
+    offer as u16
 }
 
 /// The place of the counts, where they fit the supply.
@@ -74,29 +77,16 @@ fn place_among(supply: &[u16], counts: &[u16]) -> usize {
     place
 }
 
-/// The best number of the places that have one lot less of one category than the next place.
-fn best_below(nets: &[i128], best: &[u16], next: &[u16; MOST_CATEGORIES], widths: &[usize]) -> u16 {
-    let mut found = 0;
+/// The greatest offer of the places that have one lot less of one category than the next place.
+fn best_below(best: &[u64], next: &[u16; MOST_CATEGORIES], widths: &[usize]) -> u64 {
+    let mut most: u64 = 0;
     for i in 0..widths.len().min(MOST_CATEGORIES) {
         let width = widths[i];
         if next[i] != 0 && 0 < width && width <= best.len() {
-            let other = best[best.len() - width];
-            if net_at(nets, other) > net_at(nets, found) {
-                found = other;
-            }
+            most = most.max(best[best.len() - width]);
         }
     }
-    found
-}
-
-/// The net amount of a number, and one below all others for 0.
-fn net_at(nets: &[i128], number: u16) -> i128 {
-    let number = number as usize;
-    if 0 < number && number <= nets.len() {
-        nets[number - 1]
-    } else {
-        -1
-    }
+    most
 }
 
 /// Goes on to the counts of the next place.
