@@ -58,12 +58,12 @@ impl Rivals {
 
 /// A net amount and the number of its bid in one number, which is greater where the amount is.
 fn offer(net: i128, number: u16) -> u64 {
-    (net as u64) << 16 | number as u64
+    u64::try_from(net).unwrap_or(0) << 16 | number as u64
 }
 
 /// The number of the bid of an offer, and 0 where there is none.
 fn number_of(offer: u64) -> u16 {
-    offer as u16
+    (offer % (1 << 16)) as u16
 }
 
 /// The place of the counts, where they fit the supply.
