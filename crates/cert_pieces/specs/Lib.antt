@@ -5,6 +5,7 @@ pub mod Forms
 pub mod LineParts
 pub mod Stops
 pub mod Dues
+pub mod Order
 pub mod Rooms
 pub mod Standing
 pub mod Advances

@@ -1,13 +1,14 @@
 // The lines of a certificate from pieces of bytes.
-ghost use Rattle.std.specs.Prelude.{◌≡◌, ◌≤◌, ◌<◌, ◌+◌, ◌^◌, ℕ, List, [], ◌∷◌, ◌++◌, length, take, drop, Option, Some, None, OnOk, IfErr, ℤ, ◌-◌, ◌≢◌, IsTrue};
+ghost use Rattle.std.specs.Prelude.{◌≡◌, ◌≤◌, ◌<◌, ◌+◌, ◌^◌, ℕ, List, [], ◌∷◌, ◌++◌, length, take, drop, Option, Some, None, OnOk, IfErr, ℤ, ◌-◌, ◌≢◌, IsTrue, false, get_or, pos};
 ghost use Rattle.line_text.specs.LineText.{stated};
 ghost use Rattle.cert_form.specs.Certificate.{CertValue};
 ghost use Rattle.cert_form.specs.Lines.{Line};
 ghost use Rattle.cert_form.specs.Says.{CertSays};
 ghost use Rattle.cert_pieces.specs.Dues.{line_with};
 ghost use Rattle.cert_pieces.specs.LinesLeft.{LeadsInRoom};
+ghost use Rattle.cert_pieces.specs.Order.{ComesBehind};
 ghost use Rattle.cert_pieces.specs.Pieces.{between};
-ghost use Rattle.cert_pieces.specs.Rooms.{room_size, KeepsOthers};
+ghost use Rattle.cert_pieces.specs.Rooms.{room_size, start_due, KeepsOthers};
 ghost use Rattle.cert_pieces.specs.Stops.{SaysStop};
 ghost use Rattle.cert_pieces.specs.Advances.{Advances, IsWithin};
 
@@ -154,6 +155,13 @@ impl Reader {
         }
     }
 
+    /// How many whole numbers of the line that is due have come.
+    pub fn count(&self) -> usize
+        ensures { result ≡ self.now.part.count }
+    {
+        self.part.count
+    }
+
     /// Goes on behind a whole line, whose line feed came.
     pub fn end_line(&mut self, room: &[i128])
         requires room { length room.now ≡ room_size self.old.shape.bidders self.old.shape.states }
@@ -161,6 +169,8 @@ impl Reader {
         requires reading { self.old.stop ≡ None }
         ensures stands { (text : List ℕ) (items : List Line) (ends : EndsBehind self.old room.now text items) → StandsBehind self.new room.now (text ++ 10 ∷ []) (items ++ line_with self.old.due ends.whole.numbers ∷ []) }
         ensures next { self.new.stop ≡ None → LeadsInRoom self.old.shape.bidders self.old.shape.states self.old.due room.now self.new.due }
+        ensures order { self.new.stop ≡ None → ComesBehind self.old.shape.bidders (take self.old.shape.bidders room.now) (get_or room.now (start_due self.old.shape.bidders self.old.shape.states self.old.due) (pos 0)) self.old.due self.new.due }
+        ensures beyond { self.new.stop ≡ None → self.old.part.beyond ≡ false }
         ensures shape { self.new.shape ≡ self.old.shape }
     {
         if self.part.beyond {

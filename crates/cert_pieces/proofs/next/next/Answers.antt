@@ -6,6 +6,7 @@ use Rattle.cert_form.specs.Lines.{FitNumbers}
 use Rattle.cert_pieces.proofs.Plans.{rows_bidder}
 use Rattle.cert_pieces.specs.declared.due.Due.{Due}
 use Rattle.cert_pieces.specs.Dues.{Follows, numbers_due, IsKnown}
+use Rattle.cert_pieces.specs.Order.{ComesBehind, IsRowNext}
 use Rattle.cert_pieces.proofs.next.next.Goals as goal
 
 pub returns-in-Entries-clause-next : goal.returns-in-Entries-clause-next
@@ -22,3 +23,13 @@ next_rows-requires c =
 
 pub returns-in-Version-clause-next : goal.returns-in-Version-clause-next
 returns-in-Version-clause-next c = λ ns fit known. subst (λ (d : Due). Follows c.args.shape.bidders c.args.shape.states c.args.choice.now d ns c.next_version.result) (sym c.in-Version.is) (c.next_version.ensures.next c.args.choice.now ns)
+
+pub returns-in-Rows-clause-order : goal.returns-in-Rows-clause-order
+returns-in-Rows-clause-order c =
+    let f : FitsSigned w128 c.args.first = search rules in
+    let count : (r : ℕ) → c.args.first ≡ pos r → r ≤ 10 → c.row_count.result ≡ r = simp to_z-of_z at c.row_count.ensures in
+    subst (λ (d : Due). ComesBehind c.args.shape.bidders c.args.choice.now c.args.first d c.next_rows.result) (sym c.in-Rows.is)
+    (λ r is few. subst (λ (n : ℕ). IsRowNext n c.next_rows.result) (count r is few) c.next_rows.ensures.order)
+
+pub returns-in-Entries-clause-order : goal.returns-in-Entries-clause-order
+returns-in-Entries-clause-order c = subst (λ (d : Due). ComesBehind c.args.shape.bidders c.args.choice.now c.args.first d c.next_entries.result) (sym c.in-Entries.is) c.next_entries.ensures.order

@@ -3,6 +3,7 @@ use Rattle.std.specs.Int.{w128}
 use Rattle.std.proofs.lemmas.Int.{to_z-of_z}
 use Rattle.cert_pieces.specs.Dues.{word_of, IsKnown, Follows}
 use Rattle.cert_pieces.specs.LinesLeft.{Tells, HasDue, ComesNext}
+use Rattle.cert_pieces.specs.Order.{ComesBehind}
 use Rattle.cert_pieces.specs.Rooms.{form_due, start_due}
 use Rattle.cert_pieces.proofs.Standing.{ends_out, ends_in, ends_known, to_due, reads_on}
 use Rattle.cert_pieces.proofs.reader.Reader.end_line.Goals as goal
@@ -50,3 +51,11 @@ returns-clause-next c = λ none cert kept tells has.
     let left : Tells cert c.args.self.now.due (take b c.args.room.now) (get_or c.args.room.now c.numbers_span-span.result.start (pos 0)) → HasDue b s cert c.args.self.now.due → ComesNext b s cert c.args.self.now.due c.next-self.result =
     simp to_z-of_z at (c.next-self.ensures.left is.some cert kept) in
     left told has
+
+pub returns-clause-order : goal.returns-clause-order
+returns-clause-order c = λ none.
+    let b = c.args.self.now.shape.bidders in
+    let s = c.args.self.now.shape.states in
+    let f : FitsSigned w128 (get_or c.args.room.now c.numbers_span-span.result.start (pos 0)) = search rules in
+    let own : ComesBehind b (take b c.args.room.now) (get_or c.args.room.now c.numbers_span-span.result.start (pos 0)) c.args.self.now.due c.next-self.result = simp to_z-of_z at c.next-self.ensures.order in
+    subst (λ (n : ℕ). ComesBehind b (take b c.args.room.now) (get_or c.args.room.now n (pos 0)) c.args.self.now.due c.next-self.result) c.numbers_span-span.ensures.start own
