@@ -1,7 +1,6 @@
 -- The bids of the first bidders of the choice, and what they leave.
-use Rattle.std.specs.Prelude.{◌≡◌, ℕ, suc, ◌+◌, ◌-◌, ◌*◌, ◌^◌, ◌<◌, ◌≤◌, ◌↔◌, Bool, IsTrue, List, [], ◌∷◌, length, drop, get_or, slice_index_or, ℤ, ◌+ℤ◌, ◌-ℤ◌, ◌<ℤ◌, unsigned_abs, refl, Some, None}
-use Rattle.std.proofs.Common.{inl, inr, sym, ◌∙◌, ap, subst, arith, drop-cons}
-use Rattle.std.proofs.lemmas.Bool.{cases_lt}
+use Rattle.std.specs.Prelude.{◌≡◌, ℕ, zero, suc, ◌+◌, ◌-◌, ◌^◌, ◌<◌, ◌≤◌, ◌↔◌, Bool, IsTrue, List, [], ◌∷◌, length, drop, get_or, slice_index_or, ℤ, ◌+ℤ◌, ◌-ℤ◌, ◌<ℤ◌, unsigned_abs, refl}
+use Rattle.std.proofs.Common.{sym, ◌∙◌, ap, subst, arith, drop-cons}
 use Rattle.std.proofs.lemmas.Int.{ints}
 use Rattle.auction_model.specs.Package.{is_within, less}
 use Rattle.auction_model.specs.Place.{place_of, left_at}
@@ -10,92 +9,88 @@ use Rattle.auction_model.specs.Menu.{fits_after}
 use Rattle.auction_model.specs.Book.{Book, bids_of, lots_of, net_of, menu_of, market_of}
 use Rattle.auction_model.proofs.PlaceLaws.{states-positive, left_at-whole, left_at-less, place-less-below}
 use Rattle.cert_form.specs.Certificate.{CertValue}
-use Rattle.cert_laws.specs.Tests.{NoEarlier, bidders_of, states, left_after, worth_before}
+use Rattle.cert_laws.specs.Tests.{NoEarlier, bidders_of, states, left_after}
 use Rattle.cert_laws.proofs.Bounds.{First, first_of_fitting}
-use Rattle.cert_check.specs.Places.{IsFirstFailing}
-use Rattle.cert_check.specs.EarlierBids.{StaysBelow, AllStayBelow, NoneEarlier}
+use Rattle.cert_check.specs.EarlierBids.{StaysBelow, AllStayBelow, NoneEarlier, IsLeft}
 use Rattle.wide_num.specs.Sums.{nth}
 
-abbrev pub IsBefore : Book → CertValue → ℕ → Type 0
-IsBefore book c k = NoEarlier (menu_of book) (net_of book) book.supply c.table c.choice c.value k
-
--- what the bids of the first k bidders leave of the supply and of the value, and that none of theirs is refused
-pub record IsSoFar (book : Book) (c : CertValue) (k rest : ℕ) (bound : ℤ) : Type 0 where
-  pub place : rest < states book
-  pub left : left_at book.supply rest ≡ left_after (menu_of book) book.supply c.choice k
-  pub fits : IsTrue (fits_after (menu_of book) k (left_at book.supply rest) (drop k c.choice))
-  pub bound_is : bound ≡ c.value -ℤ worth_before (net_of book) c.choice k
-  pub size : unsigned_abs bound ≤ 2 ^ 120 + k * 2 ^ 42
-  pub before : (q : ℕ) → q < k → IsBefore book c q
-
-module _ (book : Book) (c : CertValue) (length_is : length c.choice ≡ bidders_of book) where
-  pub so_far-start : IsTrue ((market_of book).allowed c.choice) → unsigned_abs c.value < 2 ^ 120 → IsSoFar book c 0 (states book - 1) c.value
-  so_far-start allowed small = record {
+module _ (book : Book) (choice : List ℕ) (value : ℤ) (length_is : length choice ≡ bidders_of book) where
+  pub left-start : IsTrue ((market_of book).allowed choice) → unsigned_abs value < 2 ^ 120 → IsLeft book choice value 0 (states book - 1) value
+  left-start allowed small = record {
     place = (let s = states-positive book.supply in omega arith);
     left = left_at-whole book.supply;
-    fits = subst (λ (l : List ℕ). IsTrue (fits_after (menu_of book) 0 l c.choice)) (sym (left_at-whole book.supply)) allowed;
+    fits = subst (λ (l : List ℕ). IsTrue (fits_after (menu_of book) 0 l choice)) (sym (left_at-whole book.supply)) allowed;
     bound_is = omega (arith, ints);
     size = omega (arith, small);
-    before = λ q lt. absurd (omega (arith, lt));
   }
 
-  number-at : (k : ℕ) → get_or c.choice k 0 ≡ number_of c.choice (suc k)
-  number-at k = ap (λ (x : ℕ). get_or c.choice x 0) (omega arith)
+  number-at : (k : ℕ) → get_or choice k 0 ≡ number_of choice (suc k)
+  number-at k = ap (λ (x : ℕ). get_or choice x 0) (omega arith)
 
   -- the number of the next bidder is that of a bid that fits
-  pub so_far-first : (k rest : ℕ) (bound : ℤ) → k < bidders_of book → IsSoFar book c k rest bound → First (menu_of book) k (left_at book.supply rest) (number_of c.choice (suc k)) (drop (suc k) c.choice)
-  so_far-first k rest bound inside so =
-      let split : drop k c.choice ≡ number_of c.choice (suc k) ∷ drop (suc k) c.choice = drop-cons c.choice k 0 (omega (arith, length_is, inside)) ∙ ap (λ (n : ℕ). n ∷ drop (suc k) c.choice) (number-at k) in
-      first_of_fitting (menu_of book) k (left_at book.supply rest) (number_of c.choice (suc k)) (drop (suc k) c.choice) (subst (λ (l : List ℕ). IsTrue (fits_after (menu_of book) k (left_at book.supply rest) l)) split so.fits)
+  left-first : (k rest : ℕ) (bound : ℤ) → k < bidders_of book → IsLeft book choice value k rest bound → First (menu_of book) k (left_at book.supply rest) (number_of choice (suc k)) (drop (suc k) choice)
+  left-first k rest bound inside so =
+      let split : drop k choice ≡ number_of choice (suc k) ∷ drop (suc k) choice = drop-cons choice k 0 (omega (arith, length_is, inside)) ∙ ap (λ (n : ℕ). n ∷ drop (suc k) choice) (number-at k) in
+      first_of_fitting (menu_of book) k (left_at book.supply rest) (number_of choice (suc k)) (drop (suc k) choice) (subst (λ (l : List ℕ). IsTrue (fits_after (menu_of book) k (left_at book.supply rest) l)) split so.fits)
 
-  pub so_far-known : (k rest j number : ℕ) (bound : ℤ) → k < bidders_of book → IsSoFar book c k rest bound → j ≡ suc k → number ≡ number_of c.choice j → number ≤ length (bids_of book j)
-  so_far-known k rest j number bound inside so j_is is = rw (is, j_is) (so_far-first k rest bound inside so).known
+  pub left-known : (k rest j number : ℕ) (bound : ℤ) → k < bidders_of book → IsLeft book choice value k rest bound → j ≡ suc k → number ≡ number_of choice j → number ≤ length (bids_of book j)
+  left-known k rest j number bound inside so j_is is = rw (is, j_is) (left-first k rest bound inside so).known
 
-  pub so_far-own : (k rest j number : ℕ) (bound : ℤ) → k < bidders_of book → IsSoFar book c k rest bound → j ≡ suc k → number ≡ number_of c.choice j → IsTrue (is_within (lots_of book j number) (left_at book.supply rest))
-  so_far-own k rest j number bound inside so j_is is = rw (is, j_is) (so_far-first k rest bound inside so).own
-
-  -- what is asked of its earlier bids, by what is left
-  pub so_far-asks : (k rest j : ℕ) (bound : ℤ) (line : List ℤ) → IsSoFar book c k rest bound → j ≡ suc k → line ≡ slice_index_or c.table j [] → AllStayBelow book c.choice j line rest bound → IsBefore book c k
-  so_far-asks k rest j bound line so j_is line_is all i before known fits =
-      let own = rw (line_is, j_is) at all in
-      rw (so.left, so.bound_is) at (own i before known (subst (λ (l : List ℕ). IsTrue (is_within (lots_of book (suc k) i) l)) (sym so.left) fits))
-
-  pub so_far-asked : (k rest j : ℕ) (bound : ℤ) (line : List ℤ) → IsSoFar book c k rest bound → j ≡ suc k → line ≡ slice_index_or c.table j [] → IsBefore book c k → AllStayBelow book c.choice j line rest bound
-  so_far-asked k rest j bound line so j_is line_is is =
-      rw (line_is, j_is)
-      (λ i before known fits. rw (so.left, so.bound_is) (is i before known (subst (λ (l : List ℕ). IsTrue (is_within (lots_of book (suc k) i) l)) so.left fits)))
+  pub left-own : (k rest j number : ℕ) (bound : ℤ) → k < bidders_of book → IsLeft book choice value k rest bound → j ≡ suc k → number ≡ number_of choice j → IsTrue (is_within (lots_of book j number) (left_at book.supply rest))
+  left-own k rest j number bound inside so j_is is = rw (is, j_is) (left-first k rest bound inside so).own
 
   -- one bidder more
-  pub so_far-next : (k rest j number next : ℕ) (bound net : ℤ) → k < bidders_of book → IsSoFar book c k rest bound → IsBefore book c k → j ≡ suc k → number ≡ number_of c.choice j
-      → next ≡ place_of book.supply (less (left_at book.supply rest) (lots_of book j number)) → net ≡ net_of book j number → unsigned_abs net ≤ 2 ^ 42 → IsSoFar book c (k + 1) next (bound -ℤ net)
-  so_far-next k rest j number next bound net inside so is j_is number_is next_is net_is small =
+  pub left-next : (k rest j number next : ℕ) (bound net : ℤ) → k < bidders_of book → IsLeft book choice value k rest bound → j ≡ suc k → number ≡ number_of choice j
+      → next ≡ place_of book.supply (less (left_at book.supply rest) (lots_of book j number)) → net ≡ net_of book j number → unsigned_abs net ≤ 2 ^ 42 → IsLeft book choice value (k + 1) next (bound -ℤ net)
+  left-next k rest j number next bound net inside so j_is number_is next_is net_is small =
       let up : suc k ≡ k + 1 = omega arith in
-      let own = lots_of book (suc k) (number_of c.choice (suc k)) in
-      let next_at : next ≡ place_of book.supply (less (left_at book.supply rest) (lots_of book (suc k) (number_of c.choice (suc k)))) = next_is ∙ rw (number_is, j_is) refl in
-      let net_at : net ≡ net_of book (suc k) (number_of c.choice (suc k)) = net_is ∙ rw (number_is, j_is) refl in
-      let there : left_at book.supply next ≡ less (left_at book.supply rest) (lots_of book (suc k) (number_of c.choice (suc k))) = ap (left_at book.supply) next_at ∙ left_at-less book.supply own rest so.place in
-      let first = so_far-first k rest bound inside so in
-      subst (λ (n : ℕ). IsSoFar book c n next (bound -ℤ net)) up
+      let own = lots_of book (suc k) (number_of choice (suc k)) in
+      let next_at : next ≡ place_of book.supply (less (left_at book.supply rest) (lots_of book (suc k) (number_of choice (suc k)))) = next_is ∙ rw (number_is, j_is) refl in
+      let net_at : net ≡ net_of book (suc k) (number_of choice (suc k)) = net_is ∙ rw (number_is, j_is) refl in
+      let there : left_at book.supply next ≡ less (left_at book.supply rest) (lots_of book (suc k) (number_of choice (suc k))) = ap (left_at book.supply) next_at ∙ left_at-less book.supply own rest so.place in
+      let first = left-first k rest bound inside so in
+      subst (λ (n : ℕ). IsLeft book choice value n next (bound -ℤ net)) up
       (record {
         place = subst (λ (n : ℕ). n < states book) (sym next_at) (place-less-below book.supply own rest so.place);
         left = there ∙ ap (λ (l : List ℕ). less l own) so.left;
-        fits = subst (λ (l : List ℕ). IsTrue (fits_after (menu_of book) (suc k) l (drop (suc k) c.choice))) (sym there) first.rest;
+        fits = subst (λ (l : List ℕ). IsTrue (fits_after (menu_of book) (suc k) l (drop (suc k) choice))) (sym there) first.rest;
         bound_is = (let a = so.bound_is in omega (arith, ints, a, net_at));
         size = (let a = so.size in omega (arith, ints, a, small));
-        before = λ q few. elim (cases_lt q k) [
-          | inl earlier ↦ so.before q earlier
-          | inr here ↦ (let same : k ≡ q = omega (arith, few, here) in subst (IsBefore book c) same is)
-        ];
       })
 
-  pub earlier-fails : (k rest : ℕ) (bound : ℤ) → k < bidders_of book → IsSoFar book c k rest bound → (IsBefore book c k → ⊥) → IsFirstFailing (NoneEarlier book c) (Some (k + 1))
-  earlier-fails k rest bound inside so fails = (
-    λ all. fails (all k inside (omega arith)),
-    λ p low q lt e. so.before q (omega (arith, low, e)),
+  -- what is asked of the earlier bids of the next bidder, by what is left
+  pub left-asks : (k rest : ℕ) (bound : ℤ) (c : CertValue) (line : List ℤ) → IsLeft book choice value k rest bound → k < bidders_of book → c.choice ≡ choice → c.value ≡ value → slice_index_or c.table (suc k) [] ≡ line
+      → AllStayBelow book choice (suc k) line rest bound ↔ NoneEarlier book c (suc k)
+  left-asks k rest bound c line so inside choice_is value_is line_is = (
+    λ all l lt e. let same : k ≡ l = omega (arith, e) in
+        subst (λ (n : ℕ). NoEarlier (menu_of book) (net_of book) book.supply c.table c.choice c.value n) same
+        (λ i before known fits.
+        let b : IsTrue (is_number_before i (number_of choice (suc k))) = subst (λ (z : List ℕ). IsTrue (is_number_before i (number_of z (suc k)))) choice_is before in
+        let f : IsTrue (is_within (lots_of book (suc k) i) (left_at book.supply rest)) =
+        subst (λ (l : List ℕ). IsTrue (is_within (lots_of book (suc k) i) l)) (sym so.left) (subst (λ (z : List ℕ). IsTrue (is_within (lots_of book (suc k) i) (left_after (menu_of book) book.supply z k))) choice_is fits) in
+        let own = all i b known f in
+        rw (choice_is, value_is, line_is) (rw (so.left, so.bound_is) at own)),
+    λ none i before known fits.
+        let b : IsTrue (is_number_before i (number_of c.choice (suc k))) = subst (λ (z : List ℕ). IsTrue (is_number_before i (number_of z (suc k)))) (sym choice_is) before in
+        let f : IsTrue (is_within (lots_of book (suc k) i) (left_after (menu_of book) book.supply c.choice k)) =
+        subst (λ (z : List ℕ). IsTrue (is_within (lots_of book (suc k) i) (left_after (menu_of book) book.supply z k))) (sym choice_is) (subst (λ (l : List ℕ). IsTrue (is_within (lots_of book (suc k) i) l)) so.left fits) in
+        let own = none k inside refl i b known f in
+        rw (so.left, so.bound_is) (rw (choice_is, value_is, line_is) at own),
   )
 
-  pub earlier-keeps : (k rest : ℕ) (bound : ℤ) → bidders_of book ≤ k → IsSoFar book c k rest bound → IsFirstFailing (NoneEarlier book c) None
-  earlier-keeps k rest bound past so p q lt e = so.before q (omega (arith, lt, past))
+-- by its number
+pub left-test : (book : Book) (choice : List ℕ) (value : ℤ) (j rest : ℕ) (bound : ℤ) (c : CertValue) (line : List ℤ) (b : Bool) → length choice ≡ bidders_of book → 0 < j → j ≤ bidders_of book → IsLeft book choice value (j - 1) rest bound
+    → c.choice ≡ choice → c.value ≡ value → slice_index_or c.table j [] ≡ line → (IsTrue b ↔ AllStayBelow book choice j line rest bound) → IsTrue b ↔ NoneEarlier book c j
+left-test book choice value zero rest bound c line b length_is some inside so choice_is value_is line_is test = absurd (omega (arith, some))
+left-test book choice value (suc k) rest bound c line b length_is some inside so choice_is value_is line_is test =
+    let back : suc k - 1 ≡ k = omega arith in
+    let own : IsLeft book choice value k rest bound = subst (λ (n : ℕ). IsLeft book choice value n rest bound) back so in
+    let asks = left-asks book choice value length_is k rest bound c line own (omega (arith, inside)) choice_is value_is line_is in
+    (λ t. asks.0 (test.0 t), λ n. test.1 (asks.1 n))
+
+-- nothing is asked of bidder 0, nor of one behind the last
+pub none-outside : (book : Book) (c : CertValue) (j : ℕ) → (0 < j → j ≤ bidders_of book → ⊥) → NoneEarlier book c j
+none-outside book c j out k lt e = absurd (out (omega (arith, e)) (omega (arith, e, lt)))
 
 -- a bid that fits
 pub stays-some : (book : Book) (j : ℕ) (line : List ℤ) (rest : ℕ) (bound : ℤ) (i place : ℕ) (net : ℤ) (b : Bool) → IsTrue (is_within (lots_of book j i) (left_at book.supply rest))

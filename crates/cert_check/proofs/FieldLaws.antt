@@ -3,11 +3,11 @@ use Rattle.std.specs.Prelude.{◌≡◌, ℕ, ◌+◌, ◌-◌, ◌<◌, ◌↔�
 use Rattle.std.proofs.Common.{sym, subst, arith}
 use Rattle.std.proofs.lemmas.List.{length-map}
 use Rattle.auction_model.specs.Book.{Book}
-use Rattle.cert_form.specs.Certificate.{CertValue, RowValue}
-use Rattle.cert_laws.specs.Tests.{C1, C2, C5, C6, C7, C8, IsTightRow}
+use Rattle.cert_form.specs.Certificate.{CertValue, WithoutValue, RowValue}
+use Rattle.cert_laws.specs.Tests.{C1, C2, C3, C4, C5, C6, C7, C8, IsTightRow}
 use Rattle.cert_text.specs.Parts.{row_value}
 use Rattle.cert_text.specs.declared.certificate.CertRow.{CertRow}
-use Rattle.cert_check.specs.Fields.{cert_of, cert_with, row_with, IsOf}
+use Rattle.cert_check.specs.Fields.{cert_of, cert_headed, cert_with, row_with, IsOf}
 use Rattle.cert_check.specs.Places.{IsFirstFailing}
 use Rattle.cert_check.specs.declared.claim.Claim.{Claim}
 use Rattle.cert_check.proofs.PlaceLaws.{row-C6}
@@ -29,12 +29,28 @@ choice-of book c value choice r choice_is value_is f = failing-same (C2 book (ce
     (subst (λ (n : List ℕ). IsFirstFailing (C2 book (cert_of (pos 0) c.value n [] [] [])) r) (sym choice_is)
     (subst (λ (z : ℤ). IsFirstFailing (C2 book (cert_of (pos 0) z choice [] [] [])) r) (sym value_is) f))
 
+pub table-of : (book : Book) (c : CertValue) (value : ℤ) (choice : List ℕ) (table : List (List ℤ)) (r : Option ℕ) → c.choice ≡ choice → c.value ≡ value → c.table ≡ table
+    → IsFirstFailing (C3 book (cert_headed value choice table)) r → IsFirstFailing (C3 book c) r
+table-of book c value choice table r choice_is value_is table_is f = failing-same (C3 book (cert_headed c.value c.choice c.table)) (C3 book c)
+    (λ p t. record { rules = t.rules; top = t.top; first = t.first })
+    (λ p t. record { rules = t.rules; top = t.top; first = t.first }) r
+    (subst (λ (n : List ℕ). IsFirstFailing (C3 book (cert_headed c.value n c.table)) r) (sym choice_is)
+    (subst (λ (z : ℤ). IsFirstFailing (C3 book (cert_headed z choice c.table)) r) (sym value_is)
+    (subst (λ (t : List (List ℤ)). IsFirstFailing (C3 book (cert_headed value choice t)) r) (sym table_is) f)))
+
 module _ (a : Claim) (c : CertValue) (is : IsOf a c) (Q : ℤ → ℤ → List ℕ → Type 0) where
   -- what holds of the numbers of the claim holds of those of the certificate
   head-of : Q a.den a.value a.choice.now → Q c.den c.value c.choice
   head-of q =
       subst (λ (n : List ℕ). Q c.den c.value n) (sym is.choice_is)
       (subst (λ (z : ℤ). Q c.den z a.choice.now) (sym is.value_is) (subst (λ (z : ℤ). Q z a.value a.choice.now) (sym is.den_is) q))
+
+pub parts-of : (a : Claim) (c : CertValue) (withouts : List WithoutValue) (r : Option ℕ) → c.choice ≡ a.choice.now → c.withouts ≡ withouts → IsFirstFailing (C4 a.book.now (cert_with a withouts [] [])) r → IsFirstFailing (C4 a.book.now c) r
+parts-of a c withouts r choice_is withouts_is f = failing-same (C4 a.book.now (cert_of a.den a.value c.choice c.withouts [] [])) (C4 a.book.now c)
+    (λ p t. record { part = t.part })
+    (λ p t. record { part = t.part }) r
+    (subst (λ (n : List ℕ). IsFirstFailing (C4 a.book.now (cert_of a.den a.value n c.withouts [] [])) r) (sym choice_is)
+    (subst (λ (l : List WithoutValue). IsFirstFailing (C4 a.book.now (cert_of a.den a.value a.choice.now l [] [])) r) (sym withouts_is) f))
 
 pub pays-of : (book : Book) (a : Claim) (c : CertValue) (pay : List ℤ) (r : Option ℕ) → IsOf a c → c.pay ≡ pay → IsFirstFailing (C5 book (cert_with a [] pay [])) r → IsFirstFailing (C5 book c) r
 pays-of book a c pay r is pay_is f = failing-same (C5 book (cert_of c.den c.value c.choice [] c.pay [])) (C5 book c)

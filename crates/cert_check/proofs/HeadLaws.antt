@@ -16,6 +16,7 @@ use Rattle.row_laws.proofs.Sums.{over-is, choice-is}
 use Rattle.wide_num.specs.Sums.{total}
 use Rattle.cert_form.specs.Certificate.{CertValue, WithoutValue, part_of}
 use Rattle.cert_laws.specs.Tests.{IsPart, bidders_of}
+use Rattle.cert_laws.proofs.Sizes.{net-most}
 use Rattle.cert_laws.proofs.Winning.{allowed, value_is, most}
 use Rattle.cert_check.specs.Fields.{AreValuesWithout}
 use Rattle.cert_check.specs.Head.{HeadHolds, IsHead}
@@ -23,8 +24,18 @@ use Rattle.cert_check.specs.declared.claim.Claim.{Claim}
 use Rattle.cert_check.proofs.MemberLaws.{known-number}
 use Rattle.cert_check.proofs.Products.{product-small}
 
-pub head-shown : (book : Book) (c : CertValue) → length c.choice ≡ bidders_of book → HeadHolds book c → IsHead book c.den c.value c.choice
-head-shown book c length_is h = record {
+-- no bid is above the value
+nets-shown : (book : Book) (c : CertValue) → IsBidBook book → length c.choice ≡ bidders_of book → HeadHolds book c
+    → (j i : ℕ) → 0 < j → j ≤ bidders_of book → i ≤ length (bids_of book j) → (pos 0 ≤ℤ net_of book j i) × (net_of book j i ≤ℤ c.value)
+nets-shown book c kept length_is h zero i some inside known = absurd (omega (arith, some))
+nets-shown book c kept length_is h (suc k) zero some inside known = (omega (arith, ints), (h.sizes 2).value refl)
+nets-shown book c kept length_is h (suc k) (suc i) some inside known = (
+  kept.not_negative (suc k) (suc i) known,
+  net-most book c length_is h.choice h.table k (suc i) (omega (arith, inside)) (omega arith) known (kept.within (suc k) i (omega (arith, known))),
+)
+
+pub head-shown : (book : Book) (c : CertValue) → IsBidBook book → length c.choice ≡ bidders_of book → HeadHolds book c → IsHead book c.den c.value c.choice
+head-shown book c kept length_is h = record {
   count = length_is;
   den_least = (h.sizes 1).den refl;
   value_least = (h.sizes 2).value refl;
@@ -32,6 +43,7 @@ head-shown book c length_is h = record {
   allowed = allowed book c length_is h.choice h.table;
   reached = value_is book c length_is h.choice h.table;
   most = λ d t. (let high = most book c length_is h.choice h.table d t in let whole = value_is book c length_is h.choice h.table in omega (arith, ints, high, whole));
+  nets = nets-shown book c kept length_is h;
 }
 
 -- the sum over some bidders of numbers that aren't negative is between 0 and that over all
@@ -71,7 +83,7 @@ module _ (a : Claim) where
   times-small amount low = product-small a.den a.value amount a.shown.den_least a.shown.value_least a.shown.small low
 
 module _ (a : Claim) (kept : IsBidBook a.book.now) where
-  number-known : (j : ℕ) → 0 < j → j ≤ bidders_of a.book.now → number_of a.choice.now j ≤ length (bids_of a.book.now j)
+  pub number-known : (j : ℕ) → 0 < j → j ≤ bidders_of a.book.now → number_of a.choice.now j ≤ length (bids_of a.book.now j)
   number-known j some le = known-number (menu_of a.book.now) a.choice.now j (claim-known a) some le
 
   pub won-least : (j : ℕ) → 0 < j → j ≤ bidders_of a.book.now → pos 0 ≤ℤ worth_in (market_of a.book.now) a.choice.now j

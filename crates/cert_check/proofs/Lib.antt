@@ -8,6 +8,8 @@ pub mod PartLaws
 pub mod VerdictLaws
 pub mod PartwayLaws
 pub mod HeadLines
+pub mod PartLines
+pub mod LoweredLines
 pub mod Blocks
 pub mod Gains
 pub mod Written

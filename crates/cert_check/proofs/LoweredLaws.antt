@@ -1,37 +1,46 @@
 -- C9 from the test of the lowered table, and the size of lowered worths.
-use Rattle.std.specs.Prelude.{◌≡◌, ℕ, zero, suc, ◌+◌, ◌-◌, ◌*◌, ◌^◌, ◌<◌, ◌≤◌, List, length, get_or, Option, ℤ, pos, ◌+ℤ◌, ◌*ℤ◌, ◌≤ℤ◌, ◌<ℤ◌, unsigned_abs, refl}
-use Rattle.std.proofs.Common.{◌∙◌, ap, subst, arith}
+use Rattle.std.specs.Prelude.{◌≡◌, ℕ, suc, ◌+◌, ◌-◌, ◌*◌, ◌^◌, ◌<◌, ◌≤◌, List, length, get_or, Option, ℤ, pos, ◌+ℤ◌, ◌*ℤ◌, ◌≤ℤ◌, ◌<ℤ◌, unsigned_abs, refl}
+use Rattle.std.proofs.Common.{sym, ◌∙◌, ap, subst, arith}
 use Rattle.std.proofs.lemmas.Int.{ints, unsigned_abs-mul}
 use Rattle.std.proofs.Math.Nat.{mul-le-mul_left}
 use Rattle.auction_model.specs.Menu.{without}
-use Rattle.auction_model.specs.Book.{Book, bids_of, net_of, menu_of}
+use Rattle.auction_model.specs.Book.{net_of, menu_of}
 use Rattle.auction_model.specs.Lowered.{of_bidder}
 use Rattle.auction_model.specs.Prices.{sum_over, everyone}
 use Rattle.bid_book.specs.Kept.{IsBidBook}
 use Rattle.cert_form.specs.Certificate.{CertValue}
-use Rattle.cert_form.specs.CertText.{IsCertificate, AllInRange}
-use Rattle.cert_laws.specs.Tests.{bidders_of, states, lowered_net, C1, C2, C3, C9}
-use Rattle.cert_laws.proofs.Sizes.{net-most}
+use Rattle.cert_form.specs.CertText.{AllInRange}
+use Rattle.cert_laws.specs.Tests.{bidders_of, lowered_net, C9}
+use Rattle.cert_check.specs.Fields.{IsOf}
+use Rattle.cert_check.specs.declared.claim.Claim.{Claim}
 use Rattle.cert_check.specs.Worths.{worth_with, CanLower, gain_of}
 use Rattle.cert_check.specs.LineTests.{TableAt}
 use Rattle.cert_check.specs.Places.{IsFirstFailing}
+use Rattle.cert_check.proofs.HeadLaws.{number-known}
 use Rattle.cert_check.proofs.PlaceTests.{failing-same}
 use Rattle.cert_check.proofs.TableLaws.{in-range}
 use Rattle.cert_check.proofs.ValueLaws.{obeys-all, obeys-none_less}
 use Rattle.cert_check.proofs.Worths.{lowered-worth, table-same}
 
-pub lowered-answer : (book : Book) (c : CertValue) (gains : List ℤ) (most : ℤ) (r : Option ℕ) → ((j : ℕ) → 0 < j → j ≤ bidders_of book → of_bidder gains j ≡ gain_of book c.den c.choice c.pay j)
-    → most ≡ sum_over everyone (of_bidder c.pay) (bidders_of book) → IsFirstFailing (TableAt (without (menu_of book) 0) (worth_with book c.den gains) book.supply c.lowered most) r → IsFirstFailing (C9 book c) r
-lowered-answer book c gains most r gains_are most_is f =
+-- the test of the table with these gains is that of each certificate of the claim
+pub lowered-answer : (a : Claim) (c : CertValue) (pay gains : List ℤ) (table : List (List ℤ)) (most : ℤ) (r : Option ℕ) → IsOf a c → c.pay ≡ pay → c.lowered ≡ table
+    → ((j : ℕ) → 0 < j → j ≤ bidders_of a.book.now → of_bidder gains j ≡ gain_of a.book.now a.den a.choice.now pay j)
+    → most ≡ sum_over everyone (of_bidder pay) (bidders_of a.book.now) → IsFirstFailing (TableAt (without (menu_of a.book.now) 0) (worth_with a.book.now a.den gains) a.book.now.supply table most) r → IsFirstFailing (C9 a.book.now c) r
+lowered-answer a c pay gains table most r is pay_is table_is gains_are most_is f =
+    let book = a.book.now in
+    let own : (j : ℕ) → 0 < j → j ≤ bidders_of a.book.now → of_bidder gains j ≡ gain_of a.book.now c.den c.choice c.pay j = rw (is.den_is, is.choice_is, pay_is) gains_are in
     failing-same (TableAt (without (menu_of book) 0) (lowered_net book c) book.supply c.lowered most) (C9 book c)
     (λ n t. record {
       rules = λ k s le lt e. obeys-all (menu_of book) (lowered_net book c) book.supply c.lowered k s (t.rules k s le lt e);
-      top = λ e. rw most_is at (t.top e);
+      top = λ e. rw (most_is, sym pay_is) at (t.top e);
     })
     (λ n t. record {
       rules = λ k s le lt e. obeys-none_less (menu_of book) (lowered_net book c) book.supply c.lowered k s (t.rules k s le lt e);
-      top = λ e. rw most_is (t.top e);
-    }) r (table-same (without (menu_of book) 0) (worth_with book c.den gains) (lowered_net book c) book.supply c.lowered most r (lowered-worth book c gains gains_are) f)
+      top = λ e. rw (most_is, sym pay_is) (t.top e);
+    }) r
+    (table-same (without (menu_of book) 0) (worth_with book c.den gains) (lowered_net book c) book.supply c.lowered most r (lowered-worth book c gains own)
+    (subst (λ (z : ℤ). IsFirstFailing (TableAt (without (menu_of book) 0) (worth_with book z gains) book.supply c.lowered most) r) (sym is.den_is)
+    (subst (λ (t : List (List ℤ)). IsFirstFailing (TableAt (without (menu_of book) 0) (worth_with book a.den gains) book.supply t most) r) (sym table_is) f)))
 
 -- the product of the denominator and a net amount that isn't above the value
 pub scaled-small : (den net value : ℤ) → pos 1 ≤ℤ den → pos 0 ≤ℤ net → net ≤ℤ value → (den *ℤ (value +ℤ pos 1)) <ℤ pos (2 ^ 120) → unsigned_abs (den *ℤ net) < 2 ^ 120
@@ -48,23 +57,17 @@ scaled-small den net value some least most size =
     sized : (a b : ℤ) (m n : ℕ) → a ≡ pos m → b ≡ pos n → (a *ℤ b) <ℤ pos (2 ^ 120) → m * n < 2 ^ 120
     sized a b m n a_is b_is h = let k = rw (a_is, b_is) at h in omega (arith, ints, k)
 
-module _ (book : Book) (c : CertValue) (kept : IsBidBook book) (shape : IsCertificate (bidders_of book) (states book) c) (h1 : (place : ℕ) → C1 c place) (h2 : (place : ℕ) → C2 book c place) (h3 : (place : ℕ) → C3 book c place) where
-  net-small : (j i : ℕ) → 0 < j → j ≤ bidders_of book → i ≤ length (bids_of book j) → unsigned_abs (c.den *ℤ net_of book j i) < 2 ^ 120
-  net-small zero i some inside known = absurd (omega (arith, some))
-  net-small (suc k) zero some inside known =
-      scaled-small c.den (pos 0) c.value ((h1 1).den refl) (omega (arith, ints)) ((h1 2).value refl) ((h1 3).size refl)
-  net-small (suc k) (suc i) some inside known =
-      scaled-small c.den (net_of book (suc k) (suc i)) c.value ((h1 1).den refl) (kept.not_negative (suc k) (suc i) known)
-      (net-most book c shape.choice.0 h2 h3 k (suc i) (omega (arith, inside)) (omega arith) known (kept.within (suc k) i (omega (arith, known)))) ((h1 3).size refl)
-
-  pub can-lower : CanLower book c.den c.choice c.pay
-  can-lower = record {
-    numbers = shape.choice.0;
-    payments = shape.pay.0;
-    known = λ j some inside. (h2 j).known some inside;
-    nets = net-small;
-    paid = λ j. in-range c.pay shape.pay.1 (j - 1);
-  }
+-- no product that the lowered worths need is too large
+pub can-lower : (a : Claim) (pay : List ℤ) → IsBidBook a.book.now → length pay ≡ bidders_of a.book.now → AllInRange pay → CanLower a.book.now a.den a.choice.now pay
+can-lower a pay kept many range = record {
+  numbers = a.shown.count;
+  payments = many;
+  known = number-known a kept;
+  nets = λ j i some inside known.
+      let net = a.shown.nets j i some inside known in
+      scaled-small a.den (net_of a.book.now j i) a.value a.shown.den_least net.0 net.1 a.shown.small;
+  paid = λ j. in-range pay range (j - 1);
+}
 
 -- the payments of the first bidders
 pub record IsPaidTo (payments : List ℤ) (k : ℕ) (sum : ℤ) : Type 0 where

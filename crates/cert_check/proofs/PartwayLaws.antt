@@ -4,9 +4,9 @@ use Rattle.std.proofs.lemmas.Bool.{cases_lt}
 use Rattle.std.specs.Prelude.{Some, None}
 use Rattle.auction_model.specs.Book.{Book}
 use Rattle.cert_form.specs.Certificate.{CertValue}
-use Rattle.cert_check.specs.Faults.{FirstFault}
 use Rattle.cert_laws.specs.Tests.{Asks, FailsFirst, Holds}
 use Rattle.cert_check.specs.Partway.{HoldsTo, IsLate}
+use Rattle.cert_check.specs.Places.{IsFirstFailing}
 
 module _ (book : Book) (w : ℕ → ℕ) (c : CertValue) (test : ℕ) where
   -- places that hold behind those that hold
@@ -36,11 +36,19 @@ module _ (book : Book) (w : ℕ → ℕ) (c : CertValue) (test : ℕ) where
       ]
   holds-whole base before rest u q (inr (same, lt)) = absurd (omega (arith, lt))
 
-  pub line-holds : (base size fault : ℕ) → size ≤ fault → HoldsTo book w c test base → FirstFault (λ s. Asks book w c test (base + s)) size fault → HoldsTo book w c test (base + size)
-  line-holds base size fault past before f = holds-further base size before (λ i lt. f.before i (omega (arith, lt, past)))
+  -- a test with its first place
+  pub test-fails : (p : ℕ) → HoldsTo book w c test 0 → IsFirstFailing (Asks book w c test) (Some p) → FailsFirst book w c test p
+  test-fails p before f = record {
+    fails = f.0;
+    before = λ u q earlier. elim earlier [
+      | inl less ↦ before u q (inl less)
+      | inr same ↦ subst (λ (x : ℕ). Asks book w c x q) (sym same.0) (f.1 q same.1)
+    ];
+  }
 
-  pub line-fails : (base size fault : ℕ) → fault < size → HoldsTo book w c test base → FirstFault (λ s. Asks book w c test (base + s)) size fault → FailsFirst book w c test (base + fault)
-  line-fails base size fault low before f = fails-further base fault before f.before (f.fails low)
+  -- a test that holds
+  pub test-holds : HoldsTo book w c test 0 → IsFirstFailing (Asks book w c test) None → HoldsTo book w c (test + 1) 0
+  test-holds before f = holds-whole 0 before (λ q past. f q)
 
   pub table-fails : (base n p : ℕ) → HoldsTo book w c test base → IsLate book w c test base n (Some p) → FailsFirst book w c test (base + p)
   table-fails base n p before late = fails-further base p before late.2 late.1

@@ -4,7 +4,7 @@ use Rattle.std.proofs.Common.{inl, inr, sym, subst, arith}
 use Rattle.std.proofs.lemmas.Bool.{cases_lt}
 use Rattle.auction_model.specs.Book.{Book}
 use Rattle.cert_form.specs.Certificate.{CertValue}
-use Rattle.cert_laws.specs.Tests.{Asks, Holds, FailsFirst, C1, C2, C3, C4, C5, C6}
+use Rattle.cert_laws.specs.Tests.{Asks, Holds, FailsFirst, C1, C2, C3, C4, C5, C6, C7, C8, C9}
 use Rattle.cert_check.specs.Head.{HoldsUpTo, HeadHolds}
 use Rattle.cert_check.specs.Places.{IsFirstFailing}
 use Rattle.cert_check.proofs.PlaceTests.{failing-same}
@@ -62,8 +62,23 @@ module _ (book : Book) (w : ℕ → ℕ) (c : CertValue) (t : ℕ) (r : Option �
   pub asks-C2 : t ≡ 2 → IsFirstFailing (C2 book c) r → IsFirstFailing (Asks book w c t) r
   asks-C2 is f = failing-same (C2 book c) (Asks book w c t) (λ p q. (λ e. absurd (omega (arith, is, e)), λ _. q, λ e. absurd (omega (arith, is, e)), λ e. absurd (omega (arith, is, e)), λ e. absurd (omega (arith, is, e)), λ e. absurd (omega (arith, is, e)), λ e. absurd (omega (arith, is, e)), λ e. absurd (omega (arith, is, e)), λ e. absurd (omega (arith, is, e)))) (λ p q. q.1 is) r f
 
+  pub asks-C3 : t ≡ 3 → IsFirstFailing (C3 book c) r → IsFirstFailing (Asks book w c t) r
+  asks-C3 is f = failing-same (C3 book c) (Asks book w c t) (λ p q. (λ e. absurd (omega (arith, is, e)), λ e. absurd (omega (arith, is, e)), λ _. q, λ e. absurd (omega (arith, is, e)), λ e. absurd (omega (arith, is, e)), λ e. absurd (omega (arith, is, e)), λ e. absurd (omega (arith, is, e)), λ e. absurd (omega (arith, is, e)), λ e. absurd (omega (arith, is, e)))) (λ p q. q.2 is) r f
+
+  pub asks-C4 : t ≡ 4 → IsFirstFailing (C4 book c) r → IsFirstFailing (Asks book w c t) r
+  asks-C4 is f = failing-same (C4 book c) (Asks book w c t) (λ p q. (λ e. absurd (omega (arith, is, e)), λ e. absurd (omega (arith, is, e)), λ e. absurd (omega (arith, is, e)), λ _. q, λ e. absurd (omega (arith, is, e)), λ e. absurd (omega (arith, is, e)), λ e. absurd (omega (arith, is, e)), λ e. absurd (omega (arith, is, e)), λ e. absurd (omega (arith, is, e)))) (λ p q. q.3 is) r f
+
   pub asks-C5 : t ≡ 5 → IsFirstFailing (C5 book c) r → IsFirstFailing (Asks book w c t) r
   asks-C5 is f = failing-same (C5 book c) (Asks book w c t) (λ p q. (λ e. absurd (omega (arith, is, e)), λ e. absurd (omega (arith, is, e)), λ e. absurd (omega (arith, is, e)), λ e. absurd (omega (arith, is, e)), λ _. q, λ e. absurd (omega (arith, is, e)), λ e. absurd (omega (arith, is, e)), λ e. absurd (omega (arith, is, e)), λ e. absurd (omega (arith, is, e)))) (λ p q. q.4 is) r f
 
   pub asks-C6 : t ≡ 6 → IsFirstFailing (C6 book c) r → IsFirstFailing (Asks book w c t) r
   asks-C6 is f = failing-same (C6 book c) (Asks book w c t) (λ p q. (λ e. absurd (omega (arith, is, e)), λ e. absurd (omega (arith, is, e)), λ e. absurd (omega (arith, is, e)), λ e. absurd (omega (arith, is, e)), λ e. absurd (omega (arith, is, e)), λ _. q, λ e. absurd (omega (arith, is, e)), λ e. absurd (omega (arith, is, e)), λ e. absurd (omega (arith, is, e)))) (λ p q. q.5 is) r f
+
+  pub asks-C7 : t ≡ 7 → IsFirstFailing (C7 book c) r → IsFirstFailing (Asks book w c t) r
+  asks-C7 is f = failing-same (C7 book c) (Asks book w c t) (λ p q. (λ e. absurd (omega (arith, is, e)), λ e. absurd (omega (arith, is, e)), λ e. absurd (omega (arith, is, e)), λ e. absurd (omega (arith, is, e)), λ e. absurd (omega (arith, is, e)), λ e. absurd (omega (arith, is, e)), λ _. q, λ e. absurd (omega (arith, is, e)), λ e. absurd (omega (arith, is, e)))) (λ p q. q.6 is) r f
+
+  pub asks-C8 : t ≡ 8 → IsFirstFailing (C8 book w c) r → IsFirstFailing (Asks book w c t) r
+  asks-C8 is f = failing-same (C8 book w c) (Asks book w c t) (λ p q. (λ e. absurd (omega (arith, is, e)), λ e. absurd (omega (arith, is, e)), λ e. absurd (omega (arith, is, e)), λ e. absurd (omega (arith, is, e)), λ e. absurd (omega (arith, is, e)), λ e. absurd (omega (arith, is, e)), λ e. absurd (omega (arith, is, e)), λ _. q, λ e. absurd (omega (arith, is, e)))) (λ p q. q.7 is) r f
+
+  pub asks-C9 : t ≡ 9 → IsFirstFailing (C9 book c) r → IsFirstFailing (Asks book w c t) r
+  asks-C9 is f = failing-same (C9 book c) (Asks book w c t) (λ p q. (λ e. absurd (omega (arith, is, e)), λ e. absurd (omega (arith, is, e)), λ e. absurd (omega (arith, is, e)), λ e. absurd (omega (arith, is, e)), λ e. absurd (omega (arith, is, e)), λ e. absurd (omega (arith, is, e)), λ e. absurd (omega (arith, is, e)), λ e. absurd (omega (arith, is, e)), λ _. q)) (λ p q. q.8 is) r f

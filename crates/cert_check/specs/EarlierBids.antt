@@ -1,11 +1,12 @@
 -- The bids that come before those of the choice in the order of ties.
-use Rattle.std.specs.Prelude.{◌≡◌, ℕ, suc, ◌<◌, ◌≤◌, IsTrue, List, length, ℤ, ◌+ℤ◌, ◌<ℤ◌}
+use Rattle.std.specs.Prelude.{◌≡◌, ℕ, suc, ◌+◌, ◌*◌, ◌^◌, ◌<◌, ◌≤◌, IsTrue, List, length, drop, ℤ, ◌+ℤ◌, ◌-ℤ◌, ◌<ℤ◌, unsigned_abs}
 use Rattle.auction_model.specs.Package.{is_within, less}
 use Rattle.auction_model.specs.Place.{place_of, left_at}
 use Rattle.auction_model.specs.Market.{is_number_before, number_of}
 use Rattle.auction_model.specs.Book.{Book, bids_of, lots_of, net_of, menu_of}
 use Rattle.cert_form.specs.Certificate.{CertValue}
-use Rattle.cert_laws.specs.Tests.{NoEarlier, bidders_of}
+use Rattle.auction_model.specs.Menu.{fits_after}
+use Rattle.cert_laws.specs.Tests.{NoEarlier, bidders_of, states, left_after, worth_before}
 use Rattle.wide_num.specs.Sums.{nth}
 
 -- where bid i of bidder j fits what a place leaves, its net amount with the line's entry for the rest is below a bound
@@ -22,3 +23,11 @@ AllStayBelow book choice j line rest bound =
 -- what the last part of C3 asks of bidder j
 abbrev pub NoneEarlier : Book → CertValue → ℕ → Type 0
 NoneEarlier book c j = (k : ℕ) → k < bidders_of book → j ≡ suc k → NoEarlier (menu_of book) (net_of book) book.supply c.table c.choice c.value k
+
+-- what the bids of the first k bidders of a choice leave of the supply and of the value; the bids behind them fit it
+pub record IsLeft (book : Book) (choice : List ℕ) (value : ℤ) (k rest : ℕ) (bound : ℤ) : Type 0 where
+  pub place : rest < states book
+  pub left : left_at book.supply rest ≡ left_after (menu_of book) book.supply choice k
+  pub fits : IsTrue (fits_after (menu_of book) k (left_at book.supply rest) (drop k choice))
+  pub bound_is : bound ≡ value -ℤ worth_before (net_of book) choice k
+  pub size : unsigned_abs bound ≤ 2 ^ 120 + k * 2 ^ 42

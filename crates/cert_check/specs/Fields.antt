@@ -11,6 +11,10 @@ use Rattle.cert_check.specs.declared.claim.Claim.{Claim}
 abbrev pub cert_of : ℤ → ℤ → List ℕ → List WithoutValue → List ℤ → List RowValue → CertValue
 cert_of den value choice withouts pay rows = record { den = den; value = value; choice = choice; table = []; withouts = withouts; pay = pay; rows = rows; lowered = [] }
 
+-- one of this value, this choice and this table
+abbrev pub cert_headed : ℤ → List ℕ → List (List ℤ) → CertValue
+cert_headed value choice table = record { den = pos 0; value = value; choice = choice; table = table; withouts = []; pay = []; rows = []; lowered = [] }
+
 abbrev pub cert_with : Claim → List WithoutValue → List ℤ → List RowValue → CertValue
 cert_with a withouts pay rows = cert_of a.den a.value a.choice.now withouts pay rows
 

@@ -1,6 +1,6 @@
 -- What the tests before one give it.
-use Rattle.std.specs.Prelude.{◌≡◌, ℕ, ◌<◌, ◌^◌, IsTrue, List, length, ℤ, pos, ◌+ℤ◌, ◌*ℤ◌, ◌≤ℤ◌, ◌<ℤ◌}
-use Rattle.auction_model.specs.Book.{Book, market_of}
+use Rattle.std.specs.Prelude.{◌≡◌, ℕ, ◌<◌, ◌≤◌, ◌^◌, IsTrue, List, length, ℤ, pos, ◌+ℤ◌, ◌*ℤ◌, ◌≤ℤ◌, ◌<ℤ◌}
+use Rattle.auction_model.specs.Book.{Book, bids_of, net_of, market_of}
 use Rattle.auction_model.specs.Market.{value_of}
 use Rattle.cert_form.specs.Certificate.{CertValue}
 use Rattle.cert_laws.specs.Tests.{Asks, C1, C2, C3, bidders_of}
@@ -19,7 +19,8 @@ pub record HeadHolds (book : Book) (c : CertValue) : Type 0 where
   pub choice : (place : ℕ) → C2 book c place
   pub table : (place : ℕ) → C3 book c place
 
--- what they show: the choice is allowed and has the value, no allowed choice has a greater one, and den times the value is in the range
+-- What they show: the choice is allowed and has the value, no allowed choice has a greater one, no bid is above it, and den times the
+-- value is in the range.
 pub record IsHead (book : Book) (den value : ℤ) (choice : List ℕ) : Type 0 where
   pub count : length choice ≡ bidders_of book
   pub den_least : pos 1 ≤ℤ den
@@ -28,3 +29,4 @@ pub record IsHead (book : Book) (den value : ℤ) (choice : List ℕ) : Type 0 w
   pub allowed : IsTrue ((market_of book).allowed choice)
   pub reached : value_of (market_of book) choice ≡ value
   pub most : (d : List ℕ) → IsTrue ((market_of book).allowed d) → value_of (market_of book) d ≤ℤ value
+  pub nets : (j i : ℕ) → 0 < j → j ≤ bidders_of book → i ≤ length (bids_of book j) → (pos 0 ≤ℤ net_of book j i) × (net_of book j i ≤ℤ value)

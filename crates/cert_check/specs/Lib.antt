@@ -9,6 +9,5 @@ pub mod Faults
 pub mod Narrow
 pub mod Growth
 pub mod Worths
-pub mod Tested
 pub mod LineTests
 pub mod EarlierBids

@@ -12,7 +12,7 @@ ghost use Rattle.cert_text.specs.CertValues.{IsFor, cert_value};
 use crate::Verdict;
 use crate::choice::choice_test;
 use crate::claim::Claim;
-use crate::columns::{Column, put_multipliers, put_sums};
+use crate::columns::{Column, MOST_ROWS, put_multipliers, put_sums};
 use crate::multipliers::{first_test, second_test};
 use crate::parts::{parts_test, put_values};
 use crate::payments::payments_test;
@@ -23,9 +23,6 @@ use crate::tables::{BIDDER_ROOM, lowered_test, value_test};
 use bid_book::BidBook;
 use cert_laws::sound_yes;
 use cert_text::Certificate;
-
-/// How many rows a certificate has at most.
-const MOST_ROWS: usize = 10;
 
 /// Tests a certificate of a book.
 ///
@@ -58,21 +55,20 @@ fn first_failing(book: &BidBook, cert: &Certificate, weights: &[u32], test: u8) 
     match test {
         1 => sizes_test(cert.den, cert.value),
         2 => choice_test(book, cert.choice.numbers(), cert.value),
-        3 => value_test(book, cert),
-        4 => parts_test(book, cert),
-        9 => lowered_test(book, cert),
+        3 => value_test(book, cert.choice.numbers(), cert.value, &cert.table),
         _ => claim_failing(book, cert, weights, test),
     }
 }
 
-/// The same for a test of 5 to 8, which need no table.
+/// The same for a test behind the third.
 fn claim_failing(book: &BidBook, cert: &Certificate, weights: &[u32], test: u8) -> Option<u64>
     requires shape { IsFor (bidders_of book.now) (states book.now) cert.now }
     requires weights { AreWeights (bidders_of book.now) weights.now }
-    requires test { (5 ≤ test) × (test ≤ 8) }
+    requires test { (4 ≤ test) × (test ≤ 9) }
     requires before { HoldsUpTo book.now (weight_of weights.now) (cert_value cert.now) test }
     ensures { IsFirstFailing (Asks book.now (weight_of weights.now) (cert_value cert.now) test) result }
 {
+    let _bidders = book.bidders();
     let claim = Claim {
         book,
         den: cert.den,
@@ -87,17 +83,19 @@ fn later_failing(claim: &Claim, cert: &Certificate, weights: &[u32], test: u8) -
     requires shape { IsFor (bidders_of claim.now.book.now) (states claim.now.book.now) cert.now }
     requires claim { IsOf claim.now (cert_value cert.now) }
     requires weights { AreWeights (bidders_of claim.now.book.now) weights.now }
-    requires test { (5 ≤ test) × (test ≤ 8) }
+    requires test { (4 ≤ test) × (test ≤ 9) }
     requires before { HoldsUpTo claim.now.book.now (weight_of weights.now) (cert_value cert.now) test }
     ensures { IsFirstFailing (Asks claim.now.book.now (weight_of weights.now) (cert_value cert.now) test) result }
 {
     let pay = cert.pay.items();
     let rows = cert.rows.items();
     match test {
+        4 => parts_test(claim, cert.withouts.items(), &cert.table),
         5 => payments_test(claim, pay),
         6 => rows_test(claim, pay, rows),
         7 => least_failing(claim, cert),
-        _ => nearest_failing(claim, cert, weights),
+        8 => nearest_failing(claim, cert, weights),
+        _ => lowered_test(claim, pay, &cert.lowered),
     }
 }
 

@@ -11,7 +11,7 @@ use bid_book::BidBook;
 use choices::{are_within, value_among};
 
 /// The first place at which C2 fails of a certificate with this choice and this value.
-pub(crate) fn choice_test(book: &BidBook, choice: &[u16], claimed: i128) -> Option<u64>
+pub fn choice_test(book: &BidBook, choice: &[u16], claimed: i128) -> Option<u64>
     requires count { length choice.now ≡ bidders_of book.now }
     ensures { (c : CertValue) → c.choice ≡ choice.now → c.value ≡ claimed → IsFirstFailing (C2 book.now c) result }
 {

@@ -8,7 +8,7 @@ use bid_book::BidBook;
 
 /// The denominator, the value and the choice of a certificate of a book whose first three tests hold.
 #[derive(Drop)]
-pub(crate) struct Claim<'a> {
+pub struct Claim<'a> {
     pub book: &'a BidBook,
     pub den: i128,
     pub value: i128,

@@ -13,9 +13,12 @@ use crate::sums::members::is_among;
 use crate::sums::{Multiplier, picked, sum_of};
 use cert_text::CertRow;
 
+/// How many rows a certificate has at most.
+pub const MOST_ROWS: usize = 10;
+
 /// One of the multipliers of all rows.
 #[derive(Drop)]
-pub(crate) struct Column<'a> {
+pub struct Column<'a> {
     /// The multiplier of each row.
     pub numbers: &'a [i128],
     /// For each bidder the sum over the rows that hold it.
@@ -46,7 +49,7 @@ pub(crate) fn put_sums(rows: &[CertRow], which: Multiplier, sums: &mut [i128])
 }
 
 /// Adds a multiplier of one more row to the sums of its members. Each sum is that of fewer than 16 rows.
-pub(crate) fn add_row(sums: &mut [i128], members: &[u16], multiplier: i128)
+pub fn add_row(sums: &mut [i128], members: &[u16], multiplier: i128)
     requires room { length sums.old ≤ MOST_BIDDERS }
     requires sizes { (k : ℕ) → unsigned_abs (nth sums.old k) ≤ 15 * 2 ^ 120 }
     requires multiplier { unsigned_abs multiplier ≤ 2 ^ 120 }

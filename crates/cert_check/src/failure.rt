@@ -2,7 +2,7 @@
 ghost use Rattle.std.specs.Prelude.{◌≡◌, ◌≤◌, ◌<◌, ◌+◌, ◌^◌, ◌↔◌, ℕ, IsTrue, None};
 ghost use Rattle.auction_model.specs.Book.{Book};
 ghost use Rattle.cert_form.specs.Certificate.{CertValue};
-ghost use Rattle.cert_check.specs.Faults.{FirstFault};
+ghost use Rattle.cert_check.specs.Places.{IsFirstFailing};
 ghost use Rattle.cert_laws.specs.Tests.{Asks};
 ghost use Rattle.cert_check.specs.Partway.{HoldsTo, IsJudged, IsLate, IsSmallPlace};
 ghost use Rattle.cert_check.specs.Verdicts.{IsVerdict};
@@ -11,49 +11,26 @@ use crate::Verdict;
 
 /// The first test that fails, and the first place at which it does.
 #[derive(Clone, Copy, Debug, PartialEq, Eq)]
-pub(crate) struct Failure {
+pub struct Failure {
     /// The number of the test.
     pub test: u8,
     /// The place.
     pub place: u64,
 }
 
-/// What fails first behind one more line of a table. Its places begin at `base`, and `fault` is the first of them at which a rule is
-/// broken, or their number.
-pub(crate) fn behind_line(
-    failed: Option<Failure>,
-    test: u8,
-    base: u64,
-    fault: usize,
-    states: usize,
-) -> Option<Failure>
-    requires base { base < 2 ^ 62 }
-    requires states { states < 2 ^ 40 }
-    ensures { (book : Book) (w : ℕ → ℕ) (c : CertValue) → IsJudged book w c test base failed → FirstFault (λ s. Asks book w c test (base + s)) states fault → IsJudged book w c test (base + states) result }
+/// What fails first behind a test, of which this is the first place at which it fails.
+pub fn of_test(test: u8, found: Option<u64>) -> Option<Failure>
+    requires test { test < 10 }
+    ensures { (book : Book) (w : ℕ → ℕ) (c : CertValue) → HoldsTo book w c test 0 → IsFirstFailing (Asks book w c test) found → IsJudged book w c (test + 1) 0 result }
 {
-    match failed {
-        Some(failure) => Some(failure),
-        None => of_line(test, base, fault, states),
+    match found {
+        Some(place) => Some(Failure { test, place }),
+        None => None,
     }
-}
-
-/// The first failure within one line.
-fn of_line(test: u8, base: u64, fault: usize, states: usize) -> Option<Failure>
-    requires base { base < 2 ^ 62 }
-    requires states { states < 2 ^ 40 }
-    ensures { (book : Book) (w : ℕ → ℕ) (c : CertValue) → HoldsTo book w c test base → FirstFault (λ s. Asks book w c test (base + s)) states fault → IsJudged book w c test (base + states) result }
-{
-    if fault >= states {
-        return None;
-    }
-    Some(Failure {
-        test,
-        place: base + fault as u64,
-    })
 }
 
 /// What fails first behind a table, once all its rules were tested: what was found early comes behind the rules.
-pub(crate) fn behind_table(
+pub fn behind_table(
     failed: Option<Failure>,
     test: u8,
     base: u64,
@@ -85,7 +62,7 @@ fn of_table(test: u8, base: u64, late: Option<u64>) -> Option<Failure>
 }
 
 /// What is found early, with one more place of those behind the rules.
-pub(crate) fn with_late(late: Option<u64>, place: u64, holds: bool) -> Option<u64>
+pub fn with_late(late: Option<u64>, place: u64, holds: bool) -> Option<u64>
     ensures { (book : Book) (w : ℕ → ℕ) (c : CertValue) (test base : ℕ) → IsLate book w c test base place late → (late ≡ None → IsTrue holds ↔ Asks book w c test (base + place)) → IsLate book w c test base (place + 1) result }
 {
     match late {
@@ -102,7 +79,7 @@ fn one_late(place: u64, holds: bool) -> Option<u64>
 }
 
 /// The verdict, once all lines were read.
-pub(crate) fn verdict_of(failed: Option<Failure>) -> Verdict
+pub fn verdict_of(failed: Option<Failure>) -> Verdict
     ensures { (book : Book) (w : ℕ → ℕ) (c : CertValue) → IsJudged book w c 10 0 failed → IsVerdict book w c result }
 {
     match failed {

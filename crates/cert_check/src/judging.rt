@@ -23,7 +23,7 @@ pub(crate) fn is_allowed(book: &BidBook, choice: &[u16]) -> bool
 }
 
 /// Whether the choice is known, fits the supply and gives bidder `j` nothing.
-pub(crate) fn is_allowed_without(book: &BidBook, choice: &[u16], j: u16) -> bool
+pub fn is_allowed_without(book: &BidBook, choice: &[u16], j: u16) -> bool
     requires count { length choice.now ≡ bidders_of book.now }
     requires bidder { (0 < j) × (j ≤ bidders_of book.now) }
     ensures { IsTrue result ↔ (IsTrue ((market_of book.now).allowed choice.now) × (number_of choice.now j ≡ 0)) }

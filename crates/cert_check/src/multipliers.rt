@@ -17,7 +17,7 @@ use crate::columns::Column;
 use crate::sums::amounts::{is_equal, times, won};
 
 /// The first place at which C7 fails of a certificate with these first multipliers.
-pub(crate) fn first_test(claim: &Claim, first: &Column) -> Option<u64>
+pub fn first_test(claim: &Claim, first: &Column) -> Option<u64>
     requires few { length first.now.numbers.now ≤ 10 }
     requires sums { bidders_of claim.now.book.now ≤ length first.now.sums.now }
     ensures { (c : CertValue) → IsOf claim.now c → AreFirsts c.rows first.now.numbers.now → AreFirstSums (bidders_of claim.now.book.now) c.rows first.now.sums.now
@@ -68,7 +68,7 @@ pub(crate) fn is_least(claim: &Claim, sum: i128, j: u16) -> bool
 
 /// The first place at which C8 fails of a certificate with these payments and multipliers, where the choices without the winners
 /// have these values.
-pub(crate) fn second_test(
+pub fn second_test(
     claim: &Claim,
     pay: &[i128],
     values: &[i128],

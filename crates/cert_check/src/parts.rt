@@ -1,15 +1,13 @@
 // The parts of a certificate without a winner.
-ghost use Rattle.std.specs.Prelude.{◌≡◌, ◌↔◌, ℕ, ◌<◌, ◌≤◌, length, map, IsTrue};
-ghost use Rattle.auction_model.specs.Book.{market_of};
+ghost use Rattle.std.specs.Prelude.{◌≡◌, ◌↔◌, ℕ, List, ◌<◌, ◌≤◌, length, map, IsTrue};
+ghost use Rattle.auction_model.specs.Book.{market_of, menu_of, net_of};
 ghost use Rattle.auction_model.specs.Market.{uses, value_of};
-ghost use Rattle.cert_form.specs.Certificate.{part_of};
-ghost use Rattle.cert_form.specs.CertText.{IsTable};
-ghost use Rattle.cert_laws.specs.Tests.{bidders_of, states, IsPart, C4};
+ghost use Rattle.cert_form.specs.Certificate.{CertValue, part_of};
+ghost use Rattle.cert_form.specs.CertText.{AreWithouts, IsTable};
+ghost use Rattle.cert_laws.specs.Tests.{bidders_of, states, IsPart, Obeys, C4};
 ghost use Rattle.cert_text.specs.Parts.{without_value};
-ghost use Rattle.cert_text.specs.CertValues.{cert_value};
 ghost use Rattle.cert_check.specs.Fields.{AreValuesWithout, worth_without};
 ghost use Rattle.cert_check.specs.Places.{IsFirstFailing};
-ghost use Rattle.cert_check.specs.Tested.{IsTested};
 
 use crate::claim::Claim;
 use crate::judging::is_allowed_without;
@@ -17,15 +15,16 @@ use crate::tables::BIDDER_ROOM;
 use crate::tables::grids::table_test;
 use crate::tables::offers::Offers;
 use bid_book::BidBook;
-use cert_text::{Certificate, WithoutPart};
-use choices::value_among;
+use cert_text::WithoutPart;
+use choices::{Grid, value_among};
 
-/// Whether a part shows the best choice without bidder `j`.
-fn shows_best(book: &BidBook, cert: &Certificate, part: &WithoutPart, j: u16) -> bool
+/// Whether a part shows the best choice without bidder `j`. The lines that the table of all bids has too aren't tested again.
+fn shows_best(book: &BidBook, whole: &Grid, part: &WithoutPart, j: u16) -> bool
     requires bidder { (0 < j) × (j ≤ bidders_of book.now) }
     requires choice { length part.now.choice ≡ bidders_of book.now }
     requires table { IsTable (bidders_of book.now) (states book.now) part.now.table }
-    requires tested { IsTested book.now cert.now }
+    requires shape { IsTable (bidders_of book.now) (states book.now) whole.now }
+    requires rules { Obeys (menu_of book.now) (net_of book.now) book.now.supply whole.now }
     ensures { IsTrue result ↔ IsPart book.now j (without_value part.now) }
 {
     let _bidders = book.bidders();
@@ -41,32 +40,36 @@ fn shows_best(book: &BidBook, cert: &Certificate, part: &WithoutPart, j: u16) ->
         den: 1,
         gains: &gains,
     };
-    table_test(&offers, &cert.table, &part.table, most).is_none()
+    table_test(&offers, whole, &part.table, most).is_none()
 }
 
 /// Whether the part without bidder `j` shows the best choice without it.
-fn has_part(book: &BidBook, cert: &Certificate, j: u16) -> bool
+fn has_part(book: &BidBook, whole: &Grid, parts: &[WithoutPart], j: u16) -> bool
     requires bidder { (0 < j) × (j ≤ bidders_of book.now) }
-    requires tested { IsTested book.now cert.now }
-    ensures { IsTrue result ↔ IsPart book.now j (part_of (cert_value cert.now).withouts j) }
+    requires parts { (numbers : List ℕ) × AreWithouts (bidders_of book.now) (states book.now) 1 numbers (map without_value parts.now) }
+    requires shape { IsTable (bidders_of book.now) (states book.now) whole.now }
+    requires rules { Obeys (menu_of book.now) (net_of book.now) book.now.supply whole.now }
+    ensures { IsTrue result ↔ IsPart book.now j (part_of (map without_value parts.now) j) }
 {
-    for part in cert.withouts.items() {
+    for part in parts {
         if part.winner == j {
-            return shows_best(book, cert, part, j);
+            return shows_best(book, whole, part, j);
         }
     }
     false
 }
 
 /// The first winner whose part doesn't show the best choice without it: its choice isn't known, uses the winner or doesn't fit,
-/// or its table breaks a rule or has more for the whole supply.
-pub(crate) fn parts_test(book: &BidBook, cert: &Certificate) -> Option<u64>
-    requires tested { IsTested book.now cert.now }
-    ensures { IsFirstFailing (C4 book.now (cert_value cert.now)) result }
+/// or its table breaks a rule or has more for the whole supply. `whole` is the table of all bids.
+pub(crate) fn parts_test(claim: &Claim, parts: &[WithoutPart], whole: &Grid) -> Option<u64>
+    requires parts { (numbers : List ℕ) × AreWithouts (bidders_of claim.now.book.now) (states claim.now.book.now) 1 numbers (map without_value parts.now) }
+    requires shape { IsTable (bidders_of claim.now.book.now) (states claim.now.book.now) whole.now }
+    requires rules { Obeys (menu_of claim.now.book.now) (net_of claim.now.book.now) claim.now.book.now.supply whole.now }
+    ensures { (c : CertValue) → c.choice ≡ claim.now.choice.now → c.withouts ≡ map without_value parts.now → IsFirstFailing (C4 claim.now.book.now c) result }
 {
-    for k in 0..book.bidders() {
+    for k in 0..claim.book.bidders() {
         let j = k as u16 + 1;
-        if cert.choice.number(j) != 0 && !has_part(book, cert, j) {
+        if claim.number(j) != 0 && !has_part(claim.book, whole, parts, j) {
             return Some(j as u64);
         }
     }

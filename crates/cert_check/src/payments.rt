@@ -9,7 +9,7 @@ use crate::claim::Claim;
 use crate::sums::amounts::{is_between, times, won};
 
 /// The first place at which C5 fails of a certificate with these payments.
-pub(crate) fn payments_test(claim: &Claim, pay: &[i128]) -> Option<u64>
+pub fn payments_test(claim: &Claim, pay: &[i128]) -> Option<u64>
     requires count { length pay.now ≡ bidders_of claim.now.book.now }
     ensures { (c : CertValue) → IsOf claim.now c → c.pay ≡ pay.now → IsFirstFailing (C5 claim.now.book.now c) result }
 {

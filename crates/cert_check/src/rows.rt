@@ -34,7 +34,7 @@ pub(crate) fn rows_test(claim: &Claim, pay: &[i128], rows: &[CertRow]) -> Option
 }
 
 /// Whether the members of a row win, its choice fits and uses none of them, and they pay just what it asks of them.
-pub(crate) fn row_holds(claim: &Claim, pay: &[i128], members: &[u16], choice: &[u16]) -> bool
+pub fn row_holds(claim: &Claim, pay: &[i128], members: &[u16], choice: &[u16]) -> bool
     requires pay { (length pay.now ≡ bidders_of claim.now.book.now) × AllInRange pay.now }
     requires members { AreMembers (bidders_of claim.now.book.now) 0 members.now }
     requires choice { length choice.now ≡ bidders_of claim.now.book.now }

@@ -6,7 +6,7 @@ ghost use Rattle.cert_laws.specs.Tests.{C1};
 ghost use Rattle.cert_check.specs.Fields.{cert_of};
 
 /// The first place at which C1 fails of a certificate with this denominator and this value.
-pub(crate) fn sizes_test(den: i128, value: i128) -> Option<u64>
+pub fn sizes_test(den: i128, value: i128) -> Option<u64>
     ensures { (c : CertValue) → c.den ≡ den → c.value ≡ value → IsFirstFailing (C1 c) result }
 {
     size_fault(den, value)

@@ -1,10 +1,12 @@
 // The tests C3 and C9: the tables of the net amounts and of the lowered ones.
-ghost use Rattle.std.specs.Prelude.{◌≡◌, ℕ, ◌≤◌, length};
+ghost use Rattle.std.specs.Prelude.{◌≡◌, ℕ, ◌^◌, ◌<◌, ◌≤◌, IsTrue, length, unsigned_abs};
+ghost use Rattle.auction_model.specs.Book.{market_of};
 ghost use Rattle.auction_model.specs.Lowered.{of_bidder};
 ghost use Rattle.auction_model.specs.Prices.{sum_over, everyone};
-ghost use Rattle.cert_form.specs.CertText.{AllInRange};
-ghost use Rattle.cert_laws.specs.Tests.{bidders_of, states, C1, C2, C3, C9};
-ghost use Rattle.cert_text.specs.CertValues.{cert_value, IsFor};
+ghost use Rattle.cert_form.specs.CertText.{AllInRange, IsTable};
+ghost use Rattle.cert_form.specs.Certificate.{CertValue};
+ghost use Rattle.cert_laws.specs.Tests.{bidders_of, states, C3, C9};
+ghost use Rattle.cert_check.specs.Fields.{IsOf, cert_headed};
 ghost use Rattle.cert_check.specs.Places.{IsFirstFailing};
 ghost use Rattle.limits.specs.declared.TheConstants.{MOST_BIDDERS};
 
@@ -17,24 +19,36 @@ pub(crate) mod offers;
 pub(crate) mod rule;
 pub(crate) mod walk;
 
+use crate::claim::Claim;
 use crate::tables::earlier::earlier_fault;
 use crate::tables::gains::put_gains;
 use crate::tables::grids::table_test;
 use crate::tables::offers::Offers;
 use bid_book::BidBook;
-use cert_text::Certificate;
+use choices::Grid;
 use limits::MOST_BIDDERS;
 
 /// Room for a number of each bidder.
-pub(crate) const BIDDER_ROOM: usize = MOST_BIDDERS as usize;
+pub const BIDDER_ROOM: usize = MOST_BIDDERS as usize;
 
 /// The first place at which the table of net amounts doesn't show the choice to be the winning one, once it is known, fits and
 /// has the value. With `S` states and `B` bidders, `k * S + s` is the place of line `k` at place `s` of the supply, `(B + 1) * S`
 /// that of the value, and `(B + 1) * S + j` that of the bids of bidder `j` which come before its number in the choice.
-pub(crate) fn value_test(book: &BidBook, cert: &Certificate) -> Option<u64>
-    requires shape { IsFor (bidders_of book.now) (states book.now) cert.now }
-    requires choice { (place : ℕ) → C2 book.now (cert_value cert.now) place }
-    ensures { IsFirstFailing (C3 book.now (cert_value cert.now)) result }
+pub(crate) fn value_test(book: &BidBook, choice: &[u16], value: i128, table: &Grid) -> Option<u64>
+    requires allowed { IsTrue ((market_of book.now).allowed choice.now) }
+    requires value { unsigned_abs value < 2 ^ 120 }
+    requires table { IsTable (bidders_of book.now) (states book.now) table.now }
+    ensures { (c : CertValue) → c.choice ≡ choice.now → c.value ≡ value → c.table ≡ table.now → IsFirstFailing (C3 book.now c) result }
+{
+    value_fault(book, choice, value, table)
+}
+
+/// The same for the certificate of these alone.
+fn value_fault(book: &BidBook, choice: &[u16], value: i128, table: &Grid) -> Option<u64>
+    requires allowed { IsTrue ((market_of book.now).allowed choice.now) }
+    requires value { unsigned_abs value < 2 ^ 120 }
+    requires table { IsTable (bidders_of book.now) (states book.now) table.now }
+    ensures { IsFirstFailing (C3 book.now (cert_headed value choice.now table.now)) result }
 {
     let bidders = book.bidders();
     let gains = [0i128; BIDDER_ROOM];
@@ -44,43 +58,36 @@ pub(crate) fn value_test(book: &BidBook, cert: &Certificate) -> Option<u64>
         den: 1,
         gains: &gains,
     };
-    if let Some(place) = table_test(&offers, &cert.table, &cert.table, cert.value) {
+    if let Some(place) = table_test(&offers, table, table, value) {
         return Some(place);
     }
     let last = (bidders + 1) * book.supply().states();
-    let bidder = earlier_fault(book, cert)?;
+    let bidder = earlier_fault(book, choice, value, table)?;
     Some(last as u64 + bidder)
 }
 
-/// The first place at which the table of lowered amounts doesn't show the payments to be in the core, once the choice is the
-/// winning one. The places are those of the table in `value_test`, and `(B + 1) * S` is that of the sum of the payments.
-pub(crate) fn lowered_test(book: &BidBook, cert: &Certificate) -> Option<u64>
-    requires shape { IsFor (bidders_of book.now) (states book.now) cert.now }
-    requires numbers { (place : ℕ) → C1 (cert_value cert.now) place }
-    requires choice { (place : ℕ) → C2 book.now (cert_value cert.now) place }
-    requires value { (place : ℕ) → C3 book.now (cert_value cert.now) place }
-    ensures { IsFirstFailing (C9 book.now (cert_value cert.now)) result }
+/// The first place at which the table of lowered amounts doesn't show the payments to be in the core. The places are those of the
+/// table in `value_test`, and `(B + 1) * S` is that of the sum of the payments.
+pub(crate) fn lowered_test(claim: &Claim, pay: &[i128], table: &Grid) -> Option<u64>
+    requires pay { (length pay.now ≡ bidders_of claim.now.book.now) × AllInRange pay.now }
+    requires table { IsTable (bidders_of claim.now.book.now) (states claim.now.book.now) table.now }
+    ensures { (c : CertValue) → IsOf claim.now c → c.pay ≡ pay.now → c.lowered ≡ table.now → IsFirstFailing (C9 claim.now.book.now c) result }
 {
-    let _bidders = book.bidders();
-    let paid = sum_paid(cert.pay.items());
+    let _bidders = claim.book.bidders();
+    let paid = sum_paid(pay);
     let mut gains = [0i128; BIDDER_ROOM];
-    put_gains(
-        book,
-        cert.den,
-        cert.choice.numbers(),
-        cert.pay.items(),
-        &mut gains,
-    );
+    put_gains(claim, pay, &mut gains);
     let offers = Offers {
-        book,
+        book: claim.book,
         skip: 0,
-        den: cert.den,
+        den: claim.den,
         gains: &gains,
     };
-    table_test(&offers, &cert.lowered, &cert.lowered, paid)
+    table_test(&offers, table, table, paid)
 }
 
-fn sum_paid(payments: &[i128]) -> i128
+/// The sum of all payments.
+pub fn sum_paid(payments: &[i128]) -> i128
     requires few { length payments.now ≤ MOST_BIDDERS }
     requires sizes { AllInRange payments.now }
     ensures { result ≡ sum_over everyone (of_bidder payments.now) (length payments.now) }

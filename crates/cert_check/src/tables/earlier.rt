@@ -1,19 +1,19 @@
 // The bids that come before those of the choice in the order of ties: none of them may reach the value.
-ghost use Rattle.std.specs.Prelude.{◌≡◌, ◌↔◌, ℕ, ◌^◌, ◌<◌, ◌≤◌, length, slice_index_or, pos, ◌+ℤ◌, ◌<ℤ◌, IsTrue, unsigned_abs};
+ghost use Rattle.std.specs.Prelude.{◌≡◌, ◌↔◌, ℕ, ◌-◌, ◌^◌, ◌<◌, ◌≤◌, [], length, slice_index_or, pos, ◌+ℤ◌, ◌<ℤ◌, IsTrue, unsigned_abs};
 ghost use Rattle.auction_model.specs.Package.{is_within, less};
 ghost use Rattle.auction_model.specs.Place.{left_at, place_of};
 ghost use Rattle.auction_model.specs.Market.{is_number_before, number_of};
 ghost use Rattle.auction_model.specs.Book.{bids_of, lots_of, net_of, market_of};
 ghost use Rattle.cert_form.specs.CertText.{IsTable};
 ghost use Rattle.cert_laws.specs.Tests.{bidders_of, states};
-ghost use Rattle.cert_text.specs.CertValues.{cert_value};
+ghost use Rattle.cert_form.specs.Certificate.{CertValue};
+ghost use Rattle.cert_check.specs.Fields.{cert_headed};
 ghost use Rattle.cert_check.specs.Places.{IsFirstFailing};
-ghost use Rattle.cert_check.specs.EarlierBids.{StaysBelow, AllStayBelow, NoneEarlier};
+ghost use Rattle.cert_check.specs.EarlierBids.{StaysBelow, AllStayBelow, NoneEarlier, IsLeft};
 
 use crate::judging::number;
 use bid_book::BidBook;
-use cert_text::Certificate;
-use choices::{place_after, worth};
+use choices::{Grid, place_after, worth};
 
 /// Whether bid `i` of bidder `j`, where it fits what the place `rest` leaves, stays below `bound` with the line's entry for what
 /// is left then.
@@ -96,25 +96,60 @@ fn rest_after(book: &BidBook, j: u16, i: u16, rest: usize) -> usize
     }
 }
 
+/// What the bids of some bidders of a choice leave.
+#[derive(Drop)]
+struct Left {
+    /// The place of the supply that is left.
+    rest: usize,
+    /// What is left of the value.
+    bound: i128,
+}
+
+/// What the bids of the bidders before `j` leave of the supply and of the value.
+fn left_before(book: &BidBook, choice: &[u16], value: i128, j: u16) -> Left
+    requires allowed { IsTrue ((market_of book.now).allowed choice.now) }
+    requires bidder { (0 < j) × (j ≤ bidders_of book.now) }
+    requires value { unsigned_abs value < 2 ^ 120 }
+    ensures { IsLeft book.now choice.now value (j - 1) result.rest result.bound }
+{
+    let mut rest = book.supply().states() - 1;
+    let mut bound = value;
+    for k in 0..j as usize - 1 {
+        let i = k as u16 + 1;
+        let own = number(choice, i);
+        rest = rest_after(book, i, own, rest);
+        bound -= worth(book, i, own);
+    }
+    Left { rest, bound }
+}
+
+/// Whether no bid of bidder `j` that comes before its number in the choice reaches the value with the bids of the choice before it
+/// and the entry of the table's line `j` for what is left then.
+pub fn none_earlier(book: &BidBook, choice: &[u16], value: i128, line: &[i128], j: u16) -> bool
+    requires allowed { IsTrue ((market_of book.now).allowed choice.now) }
+    requires value { unsigned_abs value < 2 ^ 120 }
+    requires bidder { (0 < j) × (j ≤ bidders_of book.now) }
+    requires line { length line.now ≡ states book.now }
+    requires sizes { (s : ℕ) → unsigned_abs (slice_index_or line.now s (pos 0)) < 2 ^ 120 }
+    ensures { (c : CertValue) → c.choice ≡ choice.now → c.value ≡ value → slice_index_or c.table j [] ≡ line.now → IsTrue result ↔ NoneEarlier book.now c j }
+{
+    let left = left_before(book, choice, value, j);
+    all_stay_below(book, choice, j, line, left.rest, left.bound)
+}
+
 /// The first bidder that has a bid, before its number in the choice, that reaches the value with the bids of the choice before
 /// it and the table's entry for what is left then.
-pub fn earlier_fault(book: &BidBook, cert: &Certificate) -> Option<u64>
-    requires allowed { IsTrue ((market_of book.now).allowed cert.now.choice) }
-    requires table { IsTable (bidders_of book.now) (states book.now) cert.now.table }
-    requires value { unsigned_abs cert.now.value < 2 ^ 120 }
-    ensures { IsFirstFailing (NoneEarlier book.now (cert_value cert.now)) result }
+pub fn earlier_fault(book: &BidBook, choice: &[u16], value: i128, table: &Grid) -> Option<u64>
+    requires allowed { IsTrue ((market_of book.now).allowed choice.now) }
+    requires table { IsTable (bidders_of book.now) (states book.now) table.now }
+    requires value { unsigned_abs value < 2 ^ 120 }
+    ensures { IsFirstFailing (NoneEarlier book.now (cert_headed value choice.now table.now)) result }
 {
-    let choice = cert.choice.numbers();
-    let mut rest = book.supply().states() - 1;
-    let mut bound = cert.value;
     for k in 0..book.bidders() {
         let j = k as u16 + 1;
-        if !all_stay_below(book, choice, j, cert.table.line(k + 1), rest, bound) {
+        if !none_earlier(book, choice, value, table.line(k + 1), j) {
             return Some(j as u64);
         }
-        let number = cert.choice.number(j);
-        rest = rest_after(book, j, number, rest);
-        bound -= worth(book, j, number);
     }
     None
 }

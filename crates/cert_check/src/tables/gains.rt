@@ -1,9 +1,11 @@
 // What the bidders gain at the payments.
 ghost use Rattle.std.specs.Prelude.{◌≡◌, ℕ, ◌<◌, ◌≤◌, length};
 ghost use Rattle.auction_model.specs.Lowered.{of_bidder};
+ghost use Rattle.cert_form.specs.CertText.{AllInRange};
 ghost use Rattle.cert_laws.specs.Tests.{bidders_of};
-ghost use Rattle.cert_check.specs.Worths.{CanLower, gain_of};
+ghost use Rattle.cert_check.specs.Worths.{CanLower, HasSmallWorths, gain_of};
 
+use crate::claim::Claim;
 use crate::tables::offers::scaled_less;
 use bid_book::BidBook;
 
@@ -21,8 +23,21 @@ fn gain(book: &BidBook, den: i128, choice: &[u16], pay: &[i128], j: u16) -> i128
     scaled_less(den, book.net(j, number), pay[j as usize - 1])
 }
 
-/// Writes what each bidder gains at the payments, times the denominator, bidder by bidder from the first number on.
-pub fn put_gains(book: &BidBook, den: i128, choice: &[u16], pay: &[i128], gains: &mut [i128])
+/// Writes what each bidder gains at the payments, times the denominator, bidder by bidder from the first number on. With these gains
+/// no worth of a bid is too large for `Offers`.
+pub fn put_gains(claim: &Claim, pay: &[i128], gains: &mut [i128])
+    requires pay { (length pay.now ≡ bidders_of claim.now.book.now) × AllInRange pay.now }
+    requires room { bidders_of claim.now.book.now ≤ length gains.old }
+    ensures room { length gains.new ≡ length gains.old }
+    ensures gains { (j : ℕ) → 0 < j → j ≤ bidders_of claim.now.book.now → of_bidder gains.new j ≡ gain_of claim.now.book.now claim.now.den claim.now.choice.now pay.now j }
+    ensures small { HasSmallWorths claim.now.book.now claim.now.den gains.new }
+{
+    let _bidders = claim.book.bidders();
+    put_each(claim.book, claim.den, claim.choice, pay, gains);
+}
+
+/// The same where all products are small.
+fn put_each(book: &BidBook, den: i128, choice: &[u16], pay: &[i128], gains: &mut [i128])
     requires lower { CanLower book.now den choice.now pay.now }
     requires room { bidders_of book.now ≤ length gains.old }
     ensures room { length gains.new ≡ length gains.old }

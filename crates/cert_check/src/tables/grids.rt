@@ -6,7 +6,7 @@ ghost use Rattle.cert_check.specs.Faults.{FirstFault};
 ghost use Rattle.cert_check.specs.Places.{IsFirstFailing};
 ghost use Rattle.cert_check.specs.LineTests.{IsWhole, ObeysIn, RulesAt, TestsTable};
 
-use crate::tables::lines::{last_fault, line_fault};
+use crate::tables::lines::{last_line_fault, two_lines_fault};
 use crate::tables::offers::Offers;
 use choices::Grid;
 
@@ -49,9 +49,9 @@ fn rule_fault(offers: &Offers, whole: &Grid, table: &Grid, k: usize) -> usize
         return offers.book.supply().states();
     }
     if k == offers.book.bidders() {
-        return last_fault(table.line(k));
+        return last_line_fault(offers, table.line(k));
     }
-    line_fault(offers, k as u16 + 1, table.line(k), table.line(k + 1))
+    two_lines_fault(offers, k as u16, table.line(k), table.line(k + 1))
 }
 
 /// The first number of a line and a place in it at which a table breaks a rule.

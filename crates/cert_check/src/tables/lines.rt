@@ -1,9 +1,10 @@
 // The rules of one line of a table.
-ghost use Rattle.std.specs.Prelude.{◌≡◌, ℕ, ◌^◌, ◌≤◌, ◌<◌, IsTrue, length, slice_index_or, pos, unsigned_abs};
+ghost use Rattle.std.specs.Prelude.{◌≡◌, ℕ, suc, ◌^◌, ◌≤◌, ◌<◌, IsTrue, List, [], length, slice_index_or, ℤ, pos, unsigned_abs};
 ghost use Rattle.auction_model.specs.Book.{bids_of};
+ghost use Rattle.cert_form.specs.CertText.{IsTable};
 ghost use Rattle.cert_laws.specs.Tests.{bidders_of, states};
 ghost use Rattle.cert_check.specs.Faults.{FirstFault};
-ghost use Rattle.cert_check.specs.LineTests.{offered, KeepsNone, KeepsZero, KeepsBid, KeepsSome};
+ghost use Rattle.cert_check.specs.LineTests.{offered, KeepsNone, KeepsZero, KeepsBid, KeepsSome, ObeysIn};
 ghost use Rattle.cert_check.specs.Narrow.{IsSmall};
 
 use crate::tables::growth::is_growing;
@@ -20,7 +21,7 @@ const MOST_NARROW: u128 = 1 << 61;
 const MOST_ROOM: usize = MOST_STATES as usize;
 
 /// The first place at which the last line is below 0, and its length where there is none.
-pub fn last_fault(line: &[i128]) -> usize
+fn last_fault(line: &[i128]) -> usize
     ensures { FirstFault (KeepsZero line.now) (length line.now) result }
 {
     for s in 0..line.len() {
@@ -141,7 +142,7 @@ fn roomy_fault<const N: usize>(offers: &Offers, j: u16, line: &[i128], below: &[
 
 /// The first place at which the line of bidder `j` breaks a rule, and its length where there is none. A short line gets little
 /// room, since all of it is set to 0 for each line.
-pub fn line_fault(offers: &Offers, j: u16, line: &[i128], below: &[i128]) -> usize
+fn line_fault(offers: &Offers, j: u16, line: &[i128], below: &[i128]) -> usize
     requires bidder { (0 < j) × (j ≤ bidders_of offers.now.book.now) }
     requires line { length line.now ≡ states offers.now.book.now }
     requires below { length below.now ≡ states offers.now.book.now }
@@ -156,4 +157,25 @@ pub fn line_fault(offers: &Offers, j: u16, line: &[i128], below: &[i128]) -> usi
     } else {
         roomy_fault::<MOST_ROOM>(offers, j, line, below)
     }
+}
+
+/// The first place at which line `k` of a table breaks a rule, where `below` is the next line, and its length where there is none.
+pub fn two_lines_fault(offers: &Offers, k: u16, line: &[i128], below: &[i128]) -> usize
+    requires number { k < bidders_of offers.now.book.now }
+    requires line { length line.now ≡ states offers.now.book.now }
+    requires below { length below.now ≡ states offers.now.book.now }
+    requires sizes { (s : ℕ) → unsigned_abs (slice_index_or below.now s (pos 0)) < 2 ^ 120 }
+    ensures { (table : List (List ℤ)) → IsTable (bidders_of offers.now.book.now) (states offers.now.book.now) table → slice_index_or table k [] ≡ line.now → slice_index_or table (suc k) [] ≡ below.now
+        → FirstFault (ObeysIn offers.now table k) (states offers.now.book.now) result }
+{
+    let _bidders = offers.book.bidders();
+    line_fault(offers, k + 1, line, below)
+}
+
+/// The first place at which the last line of a table breaks a rule, and its length where there is none.
+pub fn last_line_fault(offers: &Offers, line: &[i128]) -> usize
+    ensures { (table : List (List ℤ)) → IsTable (bidders_of offers.now.book.now) (states offers.now.book.now) table → slice_index_or table (bidders_of offers.now.book.now) [] ≡ line.now
+        → FirstFault (ObeysIn offers.now table (bidders_of offers.now.book.now)) (states offers.now.book.now) result }
+{
+    last_fault(line)
 }

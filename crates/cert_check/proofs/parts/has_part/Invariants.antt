@@ -2,4 +2,4 @@ use Rattle.cert_check.proofs.PartLaws.{IsFrom}
 use Rattle.cert_check.proofs.parts.has_part.Given as goal
 
 abbrev pub invariant-loop-part : goal.invariant-loop-part
-invariant-loop-part l = IsFrom l.cert.withouts l.part-index l.j
+invariant-loop-part l = IsFrom l.parts l.part-index l.j

@@ -1,15 +1,13 @@
-use Rattle.std.proofs.Common.{◌∙◌, sym, subst, ap, rules, arith, refl, replicate, pos, ◌+◌, ◌*◌, List, ℕ, IsTrue}
+use Rattle.std.proofs.Common.{◌∙◌, sym, subst, ap, rules, arith, refl, replicate, pos, List, ℕ, IsTrue}
 use Rattle.std.proofs.lemmas.Bool.{false≢true}
 use Rattle.std.proofs.lemmas.Int.{to_z-of_z}
 use Rattle.auction_model.specs.Book.{menu_of, market_of, net_of}
 use Rattle.auction_model.specs.Market.{number_of, value_of}
 use Rattle.auction_model.specs.Menu.{without}
 use Rattle.auction_model.proofs.BookMarket.{fits-known}
-use Rattle.cert_laws.specs.Tests.{bidders_of, states}
 use Rattle.cert_text.specs.Parts.{without_value}
 use Rattle.cert_check.specs.Worths.{worth_with}
 use Rattle.cert_check.proofs.PartLaws.{part-answer}
-use Rattle.cert_check.proofs.ValueLaws.{cert-kept}
 use Rattle.cert_check.proofs.Worths.{plain-worth, plain-small, table-same, all-obey}
 use mir.Val.{SFits, to_z, of_z}
 use mir.Syntax.{w128}
@@ -42,10 +40,10 @@ returns c =
     (λ j i some inside. plain-worth c.args.book.now (replicate 16 (pos 0)) 16 refl j i) c.table_test.ensures)
 
 pub table_test-requires-clause-shape : goal.table_test-requires-clause-shape
-table_test-requires-clause-shape c = (cert-kept (bidders_of c.args.book.now) (states c.args.book.now) c.args.cert.now c.requires.tested.shape).table
+table_test-requires-clause-shape c = c.requires.shape
 
 pub table_test-requires-clause-whole : goal.table_test-requires-clause-whole
 table_test-requires-clause-whole c = λ _.
-    all-obey (menu_of c.args.book.now) (net_of c.args.book.now) (worth_with c.args.book.now (pos 1) (replicate 16 (pos 0))) c.args.book.now.supply c.args.cert.now.table
+    all-obey (menu_of c.args.book.now) (net_of c.args.book.now) (worth_with c.args.book.now (pos 1) (replicate 16 (pos 0))) c.args.book.now.supply c.args.whole.now
     (λ j i some inside. sym (plain-worth c.args.book.now (replicate 16 (pos 0)) 16 refl j i))
-    (λ k s le lt. (c.requires.tested.value (k * states c.args.book.now + s)).rules k s le lt refl)
+    c.requires.rules

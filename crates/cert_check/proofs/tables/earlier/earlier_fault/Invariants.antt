@@ -1,6 +1,8 @@
-use Rattle.cert_text.specs.CertValues.{cert_value}
-use Rattle.cert_check.proofs.EarlierLaws.{IsSoFar}
+use Rattle.std.proofs.Common.{◌+◌}
+use Rattle.cert_check.specs.EarlierBids.{NoneEarlier}
+use Rattle.cert_check.specs.Fields.{cert_headed}
+use Rattle.cert_check.specs.Head.{HoldsBefore}
 use Rattle.cert_check.proofs.tables.earlier.earlier_fault.Given as goal
 
 abbrev pub invariant-loop-k : goal.invariant-loop-k
-invariant-loop-k l = IsSoFar l.book (cert_value l.cert) l.k l.rest l.bound
+invariant-loop-k l = HoldsBefore (NoneEarlier l.book (cert_headed l.value l.choice l.table)) (l.k + 1)

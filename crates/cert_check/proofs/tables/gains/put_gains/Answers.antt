@@ -1,20 +1,28 @@
-use Rattle.std.proofs.Common.{◌≡◌, ◌<◌, ◌≤◌, ◌∙◌, ℕ, ℤ, subst, to_z, of_z, arith, rules}
+use Rattle.std.proofs.Common.{◌≡◌, ◌<◌, ◌≤◌, ℕ, arith, rules}
 use Rattle.std.proofs.lemmas.Int.{to_z-of_z}
 use Rattle.auction_model.specs.Lowered.{of_bidder}
 use Rattle.cert_laws.specs.Tests.{bidders_of}
 use Rattle.cert_check.specs.Worths.{gain_of}
-use Rattle.cert_check.proofs.Written.{written-more, written-all}
+use Rattle.cert_check.proofs.LoweredLaws.{can-lower}
+use Rattle.cert_check.proofs.Worths.{lowered-small}
 use mir.Val.{SFits}
 use mir.Syntax.{w128}
 use Rattle.cert_check.proofs.tables.gains.put_gains.Goals as goal
 
-pub loop-k-preserved : goal.loop-k-preserved
-loop-k-preserved c =
-    let gain_fits : SFits w128 c.gain.result = search rules in
-    written-more (gain_of c.args.book.now (to_z w128 (of_z w128 c.args.den)) c.args.choice.now c.args.pay.now) c.loop-k.gains c.loop-k.k _ (omega arith) c.loop-k.invariant (to_z-of_z w128 c.gain.result gain_fits ∙ c.gain.ensures)
+pub put_each-requires-clause-lower : goal.put_each-requires-clause-lower
+put_each-requires-clause-lower c =
+    let den_fits : SFits w128 c.args.claim.now.den = search rules in
+    rw (to_z-of_z w128 c.args.claim.now.den den_fits) (can-lower c.args.claim.now c.args.pay.now c.bidders-bidders.ensures.kept c.requires.pay.0 c.requires.pay.1)
 
 pub returns-clause-gains : goal.returns-clause-gains
 returns-clause-gains c =
-    let den_fits : SFits w128 c.args.den = search rules in
-    subst (λ (z : ℤ). (j : ℕ) → 0 < j → j ≤ bidders_of c.args.book.now → of_bidder c.loop-k.gains j ≡ gain_of c.args.book.now z c.args.choice.now c.args.pay.now j) (to_z-of_z w128 c.args.den den_fits)
-    (written-all (gain_of c.args.book.now (to_z w128 (of_z w128 c.args.den)) c.args.choice.now c.args.pay.now) c.loop-k.gains c.loop-k.k (bidders_of c.args.book.now) (omega arith) c.loop-k.invariant)
+    let den_fits : SFits w128 c.args.claim.now.den = search rules in
+    rw (to_z-of_z w128 c.args.claim.now.den den_fits) at c.put_each.ensures.gains
+
+pub returns-clause-small : goal.returns-clause-small
+returns-clause-small c =
+    let den_fits : SFits w128 c.args.claim.now.den = search rules in
+    let gains : (j : ℕ) → 0 < j → j ≤ bidders_of c.args.claim.now.book.now → of_bidder c.put_each.new.gains j ≡ gain_of c.args.claim.now.book.now c.args.claim.now.den c.args.claim.now.choice.now c.args.pay.now j =
+    rw (to_z-of_z w128 c.args.claim.now.den den_fits) at c.put_each.ensures.gains in
+    lowered-small c.args.claim.now.book.now c.args.claim.now.den c.args.claim.now.choice.now c.args.pay.now c.put_each.new.gains
+    (can-lower c.args.claim.now c.args.pay.now c.bidders-bidders.ensures.kept c.requires.pay.0 c.requires.pay.1) (omega (arith, c.requires.room, c.put_each.ensures.room)) gains
