@@ -1,23 +1,20 @@
 -- What the fields hold after a bidder or a bid more.
-use Rattle.std.proofs.Common.{◌≡◌, ℕ, ◌-◌, ◌<◌, List, [], ◌∷◌, ◌++◌, length, get_or, set, sym, ap, subst, ◌∙◌, arith, Vec, Global}
+use Rattle.std.proofs.Common.{◌≡◌, ℕ, ◌-◌, ◌≤◌, ◌<◌, List, [], ◌∷◌, ◌++◌, length, get_or, sym, ap, subst, ◌∙◌, arith, Vec, Global}
 use Rattle.std.specs.Prelude.{map}
-use Rattle.std.specs.Vec.{with_item}
 use Rattle.std.specs.List.{All}
-use Rattle.std.proofs.lemmas.List.{map-append, map-set, get_or-map, set-get_or}
-use Rattle.std.proofs.lemmas.List.Elements.{All-nil, All-push, All-set}
-use Rattle.auction_model.specs.Book.{Book, Bidder, bidder_of}
+use Rattle.std.proofs.lemmas.List.{map-append}
+use Rattle.std.proofs.lemmas.List.Elements.{All-nil, All-push}
+use Rattle.auction_model.specs.Book.{Book, BookBid, Bidder, bids_of}
 use Rattle.bid_book.specs.declared.book.Entry.{Entry}
 use Rattle.bid_book.specs.declared.book.BookBidder.{BookBidder}
 use Rattle.bid_book.specs.declared.book.BidBook.TheInside.{Inside}
 use Rattle.bid_book.specs.Fields.{bid_value, bidder_value, book_value, HasNet, NetsAreKept}
 use Rattle.bid_book.specs.Stages.{bidder_with, with_bidders, with_bid}
 use Rattle.bid_book.specs.Better.{AreBetter, BeatsAmong, BettersAreKept}
-use Rattle.bid_book.proofs.BookReads.{bidders-read, bidder-read}
+use Rattle.bid_book.specs.Changes.{with_bids}
+use Rattle.bid_book.proofs.BookReads.{bidders-read}
+use Rattle.bid_book.proofs.Changed.{with_fields, changed, own_nets, own_betters, own_bids, bids_same, bids_are, changed_nets, same_nets, changed_betters, same_betters}
 use Rattle.bid_book.proofs.BetterLaws.{better-push}
-
--- the fields with these bidders
-abbrev pub with_fields : Inside → Vec BookBidder Global → Inside
-with_fields b bidders = record { supply = b.supply; reserves = b.reserves; bidders = bidders }
 
 pub bidder_added : (b : Inside) (book : Book) (made : BookBidder) (bidders : Vec BookBidder Global) → book_value b ≡ book → bidders.items ≡ b.bidders.items ++ made ∷ [] → made.bids.items ≡ []
     → book_value (with_fields b bidders) ≡ with_bidders book (book.bidders ++ bidder_with made.name [] ∷ [])
@@ -38,56 +35,37 @@ bidder_betters b made bidders betters pushed none =
     (All-push (λ (x : BookBidder). AreBetter x.bids.items) b.bidders.items made betters (subst AreBetter (sym none) (λ i d inside. absurd (omega (arith, inside)))))
 
 module _ (b : Inside) (last : ℕ) (last_is : last ≡ length b.bidders.items) (some : 0 < length b.bidders.items) (old : BookBidder) (read : old ≡ get_or b.bidders.items (last - 1) old) (bids : Vec Entry Global) where
-  -- the last bidder has these bids
-  abbrev pub changed : Inside
-  changed = with_fields b (with_item b.bidders (last - 1) (record { name = old.name; bids = bids }))
+  pub last_some : 0 < last
+  last_some = omega arith
 
-  value_at : get_or (map bidder_value b.bidders.items) (last - 1) (bidder_value old) ≡ bidder_value old
-  value_at = get_or-map bidder_value b.bidders.items (last - 1) old (bidder_value old) (omega arith) ∙ ap bidder_value (sym read)
-
-  changed_is : (own : Bidder) → bidder_with old.name (map bid_value bids.items) ≡ own → book_value changed ≡ with_bidders (book_value b) (set (map bidder_value b.bidders.items) (last - 1) own)
-  changed_is own is =
-      ap (with_bidders (book_value b)) (map-set bidder_value b.bidders.items (last - 1) (record { name = old.name; bids = bids }) ∙ ap (set (map bidder_value b.bidders.items) (last - 1)) is)
+  pub last_known : last ≤ length b.bidders.items
+  last_known = omega arith
 
   -- no bid came
-  pub bids_same : bids.items ≡ old.bids.items → book_value changed ≡ book_value b
-  bids_same same =
-      let own : bidder_with old.name (map bid_value bids.items) ≡ bidder_value old = ap (λ (l : List Entry). bidder_with old.name (map bid_value l)) same in
-      changed_is (bidder_value old) own ∙ ap (with_bidders (book_value b)) (ap (set (map bidder_value b.bidders.items) (last - 1)) (sym value_at) ∙ set-get_or (map bidder_value b.bidders.items) (last - 1) (bidder_value old))
+  pub none_came : bids.items ≡ old.bids.items → book_value (changed b last last_some last_known old read bids) ≡ book_value b
+  none_came same = bids_same b last last_some last_known old read bids same
 
   -- a bid came
-  pub bid_pushed : (book : Book) (entry : Entry) → book_value b ≡ book → bids.items ≡ old.bids.items ++ entry ∷ [] → book_value changed ≡ with_bid book (bid_value entry)
+  pub bid_pushed : (book : Book) (entry : Entry) → book_value b ≡ book → bids.items ≡ old.bids.items ++ entry ∷ [] → book_value (changed b last last_some last_known old read bids) ≡ with_bid book (bid_value entry)
   bid_pushed book entry is pushed =
       let count = bidders-read b book is in
-      let read_last : bidder_of book (length book.bidders) ≡ bidder_value old =
-      bidder-read b book is (length book.bidders) (omega arith) (omega arith) old (subst (λ (k : ℕ). old ≡ get_or b.bidders.items (k - 1) old) (last_is ∙ count) read) in
-      let own : bidder_with old.name (map bid_value bids.items) ≡ bidder_with old.name (map bid_value old.bids.items ++ bid_value entry ∷ []) =
-      ap (bidder_with old.name) (ap (map bid_value) pushed ∙ map-append bid_value old.bids.items (entry ∷ [])) in
-      changed_is (bidder_with old.name (map bid_value old.bids.items ++ bid_value entry ∷ [])) own
-      ∙ ap (λ (k : ℕ). with_bidders (book_value b) (set (map bidder_value b.bidders.items) (k - 1) (bidder_with old.name (map bid_value old.bids.items ++ bid_value entry ∷ [])))) (last_is ∙ count)
-      ∙ ap (λ (x : Book). with_bidders x (set x.bidders (length book.bidders - 1) (bidder_with old.name (map bid_value old.bids.items ++ bid_value entry ∷ [])))) is
-      ∙ ap (λ (x : Bidder). with_bidders book (set book.bidders (length book.bidders - 1) (bidder_with x.name (x.bids ++ bid_value entry ∷ [])))) (sym read_last)
+      let made : map bid_value bids.items ≡ bids_of book last ++ bid_value entry ∷ [] =
+      ap (map bid_value) pushed ∙ map-append bid_value old.bids.items (entry ∷ []) ∙ ap (λ (l : List BookBid). l ++ bid_value entry ∷ []) (sym (own_bids b last last_some last_known old read book is)) in
+      bids_are b last last_some last_known old read bids book (bids_of book last ++ bid_value entry ∷ []) is made
+      ∙ ap (λ (k : ℕ). with_bids book k (bids_of book k ++ bid_value entry ∷ [])) (last_is ∙ count)
 
-  own_nets : NetsAreKept b → All (HasNet b.reserves.items) old.bids.items
-  own_nets nets = subst (λ (x : BookBidder). All (HasNet b.reserves.items) x.bids.items) (sym read) (nets (last - 1) old (omega arith))
+  pub none_nets : bids.items ≡ old.bids.items → NetsAreKept b → NetsAreKept (changed b last last_some last_known old read bids)
+  none_nets = same_nets b last last_some last_known old read bids
 
-  changed_nets : NetsAreKept b → All (HasNet b.reserves.items) bids.items → NetsAreKept changed
-  changed_nets nets own = All-set (λ (x : BookBidder). All (HasNet b.reserves.items) x.bids.items) b.bidders.items (last - 1) (record { name = old.name; bids = bids }) own nets
+  pub pushed_nets : (entry : Entry) → bids.items ≡ old.bids.items ++ entry ∷ [] → NetsAreKept b → HasNet b.reserves.items entry → NetsAreKept (changed b last last_some last_known old read bids)
+  pushed_nets entry pushed nets net =
+      changed_nets b last last_some last_known old read bids nets
+      (subst (All (HasNet b.reserves.items)) (sym pushed) (All-push (HasNet b.reserves.items) old.bids.items entry (own_nets b last last_some last_known old read nets) net))
 
-  pub same_nets : bids.items ≡ old.bids.items → NetsAreKept b → NetsAreKept changed
-  same_nets same nets = changed_nets nets (subst (All (HasNet b.reserves.items)) (sym same) (own_nets nets))
+  pub none_betters : bids.items ≡ old.bids.items → BettersAreKept b → BettersAreKept (changed b last last_some last_known old read bids)
+  none_betters = same_betters b last last_some last_known old read bids
 
-  pub pushed_nets : (entry : Entry) → bids.items ≡ old.bids.items ++ entry ∷ [] → NetsAreKept b → HasNet b.reserves.items entry → NetsAreKept changed
-  pushed_nets entry pushed nets net = changed_nets nets (subst (All (HasNet b.reserves.items)) (sym pushed) (All-push (HasNet b.reserves.items) old.bids.items entry (own_nets nets) net))
-
-  own_betters : BettersAreKept b → AreBetter old.bids.items
-  own_betters betters = subst (λ (x : BookBidder). AreBetter x.bids.items) (sym read) (betters (last - 1) old (omega arith))
-
-  changed_betters : BettersAreKept b → AreBetter bids.items → BettersAreKept changed
-  changed_betters betters own = All-set (λ (x : BookBidder). AreBetter x.bids.items) b.bidders.items (last - 1) (record { name = old.name; bids = bids }) own betters
-
-  pub same_betters : bids.items ≡ old.bids.items → BettersAreKept b → BettersAreKept changed
-  same_betters same betters = changed_betters betters (subst AreBetter (sym same) (own_betters betters))
-
-  pub pushed_betters : (entry : Entry) → bids.items ≡ old.bids.items ++ entry ∷ [] → BettersAreKept b → BeatsAmong old.bids.items entry entry.better → BettersAreKept changed
-  pushed_betters entry pushed betters own = changed_betters betters (subst AreBetter (sym pushed) (better-push old.bids.items entry (own_betters betters) own))
+  pub pushed_betters : (entry : Entry) → bids.items ≡ old.bids.items ++ entry ∷ [] → BettersAreKept b → BeatsAmong old.bids.items entry entry.better → BettersAreKept (changed b last last_some last_known old read bids)
+  pushed_betters entry pushed betters own =
+      changed_betters b last last_some last_known old read bids betters
+      (subst AreBetter (sym pushed) (better-push old.bids.items entry (own_betters b last last_some last_known old read betters) own))

@@ -1,15 +1,17 @@
 // Books, and the calls that read them.
-ghost use Rattle.std.specs.Prelude.{◌≡◌, ◌≤◌, ◌<◌, [], ◌∷◌, ◌++◌, IfOk, OnOk, length};
+ghost use Rattle.std.specs.Prelude.{◌≡◌, ℕ, ◌≤◌, ◌<◌, [], ◌∷◌, ◌++◌, IfOk, IsOk, OnErr, OnOk, length};
 ghost use Rattle.auction_model.specs.Book.{bidder_of, bids_of, bid_of, lots_of, net_of};
 ghost use Rattle.bid_book.specs.Kept.{IsBidBook};
 ghost use Rattle.limits.specs.declared.TheConstants.{MOST_BIDDERS, MOST_BIDS};
 
 pub(crate) mod better;
+pub(crate) mod changes;
 pub(crate) mod gather;
 pub(crate) mod rivals;
 
 use crate::book::better::better_among;
-use crate::book::gather::book_bidders;
+use crate::book::changes::{put_entry, remove_entry};
+use crate::book::gather::{book_bidders, with_net};
 use crate::{Bidders, Name, Reserves};
 use lots::{Bid, Supply};
 use std::alloc::{AllocError, Global};
@@ -72,7 +74,8 @@ impl BidBook {
     ghost use Rattle.lots.specs.Limits.{IsSupply};
     ghost use Rattle.bid_book.specs.Stages.{bidder_with, opened, with_bid, with_bidders};
     ghost use Rattle.bid_book.specs.Better.{IsBetter};
-    ghost use Rattle.bid_book.specs.Lists.{book_of};
+    ghost use Rattle.bid_book.specs.Lists.{bid_of as put_value, book_of};
+    ghost use Rattle.bid_book.specs.Changes.{with_put, without_bid, IsBidFor};
 
     /// The book of this supply, these reserves and these bidders. The condition is that they keep the rules of a book's text and
     /// all limits: a reserve for each category, names that differ, and the bids of each bidder in the order of their packages,
@@ -130,6 +133,32 @@ impl BidBook {
         let better = better_among(&bidder.bids, &entry, rival);
         bidder.bids.push(Entry { better, ..entry })?;
         Ok(())
+    }
+
+    /// Sets the amount of bidder `j` for a package: that of its bid for the package, which keeps its number, or else that of one bid
+    /// more, which is put in the order of packages, so that the later ones move one number up. The condition is that the rules of a
+    /// book then hold. It takes memory only for one bid more, and for want of it the book stays as it is.
+    pub fn put_bid(&mut self, j: u16, bid: Bid) -> Result<(), AllocError>
+        requires bidder { (0 < j) × (j ≤ length self.old.bidders) }
+        requires kept { IsBookWithinLimits (with_put self.old j (put_value bid)) }
+        ensures put { OnOk result (self.new ≡ with_put self.old j (put_value bid)) }
+        ensures unchanged { OnErr result (self.new ≡ self.old) }
+        ensures known { (i : ℕ) → IsBidFor self.old j bid.package i → IsOk result }
+    {
+        let entry = with_net(&self.reserves, bid);
+        let bidder = &mut self.bidders[j as usize - 1];
+        put_entry(&mut bidder.bids, entry)?;
+        Ok(())
+    }
+
+    /// Takes bid `i` of bidder `j` out; the later ones move one number down. It takes no memory.
+    pub fn remove_bid(&mut self, j: u16, i: u16)
+        requires bidder { (0 < j) × (j ≤ length self.old.bidders) }
+        requires bid { (0 < i) × (i ≤ length (bids_of self.old j)) }
+        ensures { self.new ≡ without_bid self.old j i }
+    {
+        let bidder = &mut self.bidders[j as usize - 1];
+        remove_entry(&mut bidder.bids, i as usize - 1);
     }
 
     /// The rules that each book keeps. Nothing is done: proofs read the clause.

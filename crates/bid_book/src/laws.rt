@@ -1,9 +1,10 @@
 // What holds of the form of a book, whoever reads it.
 ghost use Rattle.std.specs.Prelude.{◌≡◌, ℕ, List};
 ghost use Rattle.line_text.specs.LineText.{Said, Says, stated};
-ghost use Rattle.auction_model.specs.Book.{Book};
+ghost use Rattle.auction_model.specs.Book.{Book, BookBid};
 ghost use Rattle.book_form.specs.BookForm.{IsBook};
-ghost use Rattle.book_form.specs.BookLines.{Excess, lines};
+ghost use Rattle.book_form.specs.BookLines.{Excess, IsBookWithinLimits, lines};
+ghost use Rattle.bid_book.specs.Changes.{CanPut, with_put};
 
 /// Bytes say one thing of a book: a book, where the first faulty line begins, or what exceeds its limit first. So each
 /// answer of `read_book` comes exactly where the bytes say so.
@@ -15,4 +16,9 @@ pub fn one_book()
 pub fn one_text()
     ensures text { (bytes other : List ℕ) (book : Book) → Says IsBook lines bytes (stated book) → Says IsBook lines other (stated book) → bytes ≡ other }
     ensures book { (bytes : List ℕ) (book other : Book) → Says IsBook lines bytes (stated book) → Says IsBook lines bytes (stated other) → book ≡ other }
+{}
+
+/// The rules of a book go on to hold where a bid that keeps them is put in.
+pub fn rules_with_bid()
+    ensures { (book : Book) (j : ℕ) (bid : BookBid) → IsBookWithinLimits book → CanPut book j bid → IsBookWithinLimits (with_put book j bid) }
 {}

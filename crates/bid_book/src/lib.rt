@@ -12,7 +12,7 @@ mod write;
 
 pub use bidders::{BidderBids, Bidders};
 pub use book::BidBook;
-pub use laws::{one_book, one_text};
+pub use laws::{one_book, one_text, rules_with_bid};
 pub use limits::LimitKind;
 pub use lists::{BidList, Reserves};
 pub use name::Name;

@@ -61,7 +61,7 @@ fn entries_of(
 }
 
 /// The bid with its net amount: its amount less the reserve of its package. There is no rival yet.
-fn with_net(reserves: &[u64], bid: Bid) -> Entry
+pub fn with_net(reserves: &[u64], bid: Bid) -> Entry
     requires count { length reserves.now ≡ length bid.package }
     requires most { All (λ p. p ≤ MOST_PRICE) reserves.now }
     ensures bid { bid_value result ≡ bid_of bid }

@@ -164,7 +164,7 @@ fn comes_next(book: &BidBook, package: &Package) -> bool
 }
 
 /// Whether the first counts come before the others in the order of packages.
-fn comes_before(earlier: &[u16], later: &[u16]) -> bool
+pub fn comes_before(earlier: &[u16], later: &[u16]) -> bool
     requires { length earlier.now ≡ length later.now }
     ensures { IsTrue result ↔ ComesBefore earlier.now later.now }
 {

@@ -9,7 +9,7 @@ use Rattle.bid_book.specs.Fields.{HasNet}
 use Rattle.bid_book.proofs.BookReads.{bidders-read}
 use Rattle.bid_book.proofs.Within.{kept}
 use Rattle.bid_book.proofs.BetterLaws.{beats-as}
-use Rattle.bid_book.proofs.Added.{bids_same, bid_pushed, same_nets, pushed_nets, same_betters, pushed_betters}
+use Rattle.bid_book.proofs.Added.{none_came, bid_pushed, none_nets, pushed_nets, none_betters, pushed_betters}
 use Rattle.bid_book.proofs.book.BidBook.add_bid.Goals as goal
 
 pub invariant_of-self : goal.invariant_of-self
@@ -17,9 +17,9 @@ invariant_of-self c =
     let long : c.len-last.result ≡ length c.self.inside.bidders.items = c.len-last.ensures ∙ c.self.inside.bidders.ok.0 in
     let some : 0 < length c.self.inside.bidders.items = omega (arith, bidders-read c.self.inside c.args.self.now c.self.view_is) in
     let same = c.in_err-push.ensures.items in (
-      subst IsBidBook (sym (bids_same c.self.inside c.len-last.result long some c.index_mut-bidder.result.now c.index_mut-bidder.ensures.value c.push.new.self same)) c.self.invariant.0,
-      same_nets c.self.inside c.len-last.result long some c.index_mut-bidder.result.now c.index_mut-bidder.ensures.value c.push.new.self same c.self.invariant.1,
-      same_betters c.self.inside c.len-last.result long some c.index_mut-bidder.result.now c.index_mut-bidder.ensures.value c.push.new.self same c.self.invariant.2,
+      subst IsBidBook (sym (none_came c.self.inside c.len-last.result long some c.index_mut-bidder.result.now c.index_mut-bidder.ensures.value c.push.new.self same)) c.self.invariant.0,
+      none_nets c.self.inside c.len-last.result long some c.index_mut-bidder.result.now c.index_mut-bidder.ensures.value c.push.new.self same c.self.invariant.1,
+      none_betters c.self.inside c.len-last.result long some c.index_mut-bidder.result.now c.index_mut-bidder.ensures.value c.push.new.self same c.self.invariant.2,
     )
 
 pub invariant_of-self-2 : goal.invariant_of-self-2
