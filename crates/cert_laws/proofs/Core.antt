@@ -22,18 +22,18 @@ use Rattle.cert_laws.proofs.Bounds.{counted, bounded}
 use Rattle.cert_laws.proofs.Winning.{full-below, allowed-length, lost-nothing}
 
 -- a used bidder counts its worth less its surplus, and the coalition has it
-used-most : (worth surplus lowered : ℤ) (winner member : Bool) → lowered ≡ worth -ℤ (if winner then surplus else pos 0) → (winner ≡ false → surplus ≡ pos 0) → IsTrue member
+pub used-most : (worth surplus lowered : ℤ) (winner member : Bool) → lowered ≡ worth -ℤ (if winner then surplus else pos 0) → (winner ≡ false → surplus ≡ pos 0) → IsTrue member
     → (worth -ℤ cond member surplus (pos 0)) ≤ℤ lowered
 used-most worth surplus lowered true true e z k = omega (arith, ints, e)
 used-most worth surplus lowered false true e z k = omega (arith, ints, e, z refl)
 used-most worth surplus lowered winner false e z k = absurd (false≢true k)
 
 -- one that isn't used counts 0, and the coalition may have it
-idle-most : (worth surplus : ℤ) (member : Bool) → worth ≡ pos 0 → pos 0 ≤ℤ surplus → (worth -ℤ cond member surplus (pos 0)) ≤ℤ pos 0
+pub idle-most : (worth surplus : ℤ) (member : Bool) → worth ≡ pos 0 → pos 0 ≤ℤ surplus → (worth -ℤ cond member surplus (pos 0)) ≤ℤ pos 0
 idle-most worth surplus true e h = omega (arith, ints, e, h)
 idle-most worth surplus false e h = omega (arith, ints, e)
 
-uses-some : (c : List ℕ) (j : ℕ) → 0 < number_of c j → IsTrue (uses c j)
+pub uses-some : (c : List ℕ) (j : ℕ) → 0 < number_of c j → IsTrue (uses c j)
 uses-some c j some = not_from_false (number_of c j == 0) (ne_eqb (number_of c j) 0 (λ z. omega (arith, some, z)))
 
 module _ (book : Book) (c : CertValue) where

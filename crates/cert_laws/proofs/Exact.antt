@@ -32,7 +32,7 @@ obeys-same m v w supply table same obeys k s le lt = record {
 }
 
 -- a bidder that gains something counts nothing where it isn't used
-idle-none : (surplus : List ℤ) (j : ℕ) (den : ℤ) (worth : ℕ → ℕ → ℤ) → pos 0 ≤ℤ of_bidder surplus j → lowered den worth surplus j 0 ≡ pos 0
+pub idle-none : (surplus : List ℤ) (j : ℕ) (den : ℤ) (worth : ℕ → ℕ → ℤ) → pos 0 ≤ℤ of_bidder surplus j → lowered den worth surplus j 0 ≡ pos 0
 idle-none surplus j den worth h = omega (arith, ints, clamps, h)
 
 module _ (book : Book) (c : CertValue) (pay_is : length c.pay ≡ bidders_of book) (h5 : (place : ℕ) → C5 book c place) where

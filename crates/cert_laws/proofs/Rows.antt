@@ -58,7 +58,7 @@ split s f g (suc n) =
 pub offer-outside : (m : Market) (z : List ℕ) (p : Point) (s : ℕ → Bool) (f : List ℕ) → offer m z p (λ j. not (s j)) f -ℤ paid m p ≡ excess_of m z p s f
 offer-outside m z p s f = let a = split s (λ j. p.den *ℤ worth_in m z j) (of_bidder p.at) m.bidders in omega (arith, ints, a)
 
-unused-one : (c : List ℕ) (j : ℕ) (member : Bool) → (IsTrue member → number_of c j ≡ 0) → IsTrue (uses c j) → IsTrue (not member)
+pub unused-one : (c : List ℕ) (j : ℕ) (member : Bool) → (IsTrue member → number_of c j ≡ 0) → IsTrue (uses c j) → IsTrue (not member)
 unused-one c j member unused used = not_from_false member (false_from_ne_true member (λ is. false≢true (sym (ap (λ (n : ℕ). not (n == 0)) (unused is)) ∙ used)))
 
 -- what the choice of row i + 1 asks of its members

@@ -16,7 +16,7 @@ pub mod WithoutLaws
 mod NextLaws
 mod FirstOrders
 mod OrderSteps
-mod PlainSearch
+pub mod PlainSearch
 mod Growth
 mod LineLaws
 mod Reading

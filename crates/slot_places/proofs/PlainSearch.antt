@@ -118,7 +118,7 @@ known-without : (slots : SlotList) (skip : ℕ) (c : List ℕ) → 0 < skip → 
 known-without slots skip c some =
     sym (fits-known (board_without slots skip) c) ∙ (fits-skip (menu_of (board_of slots)) skip [] c some ∙ ap (λ x. x && not (uses c skip)) (fits-known (board_of slots) c))
 
-placed-without : (slots : SlotList) (skip : ℕ) (c : List ℕ) → 0 < skip → is_placed (board_without slots skip) c ≡ allowed_without (market_of slots) skip c
+pub placed-without : (slots : SlotList) (skip : ℕ) (c : List ℕ) → 0 < skip → is_placed (board_without slots skip) c ≡ allowed_without (market_of slots) skip c
 placed-without slots skip c some =
     let n = length slots.bidders in
     ap (λ x. x && can_place (board_without slots skip) c n nobody) (known-without slots skip c some)
