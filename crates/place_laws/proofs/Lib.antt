@@ -1,0 +1,14 @@
+pub mod Nobody
+pub mod SetBounds
+pub mod SetExact
+pub mod MarketPrices
+pub mod MarketCore
+pub mod MarketRows
+pub mod MarketAims
+pub mod MarketGains
+pub mod Sound
+pub mod FirstEntry
+pub mod Exact
+pub mod Verdicts
+mod WorkedCases
+mod WorkedCert

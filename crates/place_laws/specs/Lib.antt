@@ -1,0 +1,4 @@
+pub mod PlaceCert
+pub mod PlaceTests
+pub mod PlaceSound
+pub mod PlacePriced

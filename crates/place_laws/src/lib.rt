@@ -1,0 +1,62 @@
+//! The tests of a placement certificate of slots, and why a yes is right. No code stands here.
+//!
+//! A placement certificate says which bidders are given their bids for a start in a band, in which order all bidders are laid side by
+//! side, what the winners pay, and why. It is a certificate whose tables go over sets of bidders: the entry of a set is what the
+//! bidders outside it can still come to, where those of the set are placed first (Held and Karp, A dynamic programming approach to
+//! sequencing problems, Journal of the Society for Industrial and Applied Mathematics 10, 1962). Beside each choice stands an order
+//! that allows it. So the tests P1 to P9 need no search, and they ask that the choice is one of the greatest, not the first of them.
+#![tactic(auto)]
+
+ghost use Rattle.std.specs.Prelude.{◌≡◌, ◌<◌, ℕ, List, ℤ, length};
+ghost use Rattle.auction_model.specs.Greatest.{IsGreatestValue};
+ghost use Rattle.auction_model.specs.Lowered.{lowered};
+ghost use Rattle.auction_model.specs.Market.{sum_after};
+ghost use Rattle.auction_model.specs.Prices.{allowed_without};
+ghost use Rattle.auction_model.specs.Table.{entry_at};
+ghost use Rattle.row_laws.specs.Surplus.{surpluses_of};
+ghost use Rattle.cert_form.specs.Certificate.{CertValue};
+ghost use Rattle.cert_laws.specs.MarketTests.{PaysWithinBids};
+ghost use Rattle.slot_places.specs.Board.{board_of, board_without, market_of};
+ghost use Rattle.slot_places.specs.SetTable.{IsSetTable};
+ghost use Rattle.slot_places.specs.Slots.{SlotList, amount_of};
+ghost use Rattle.place_laws.specs.PlaceCert.{PlaceCertValue};
+ghost use Rattle.place_laws.specs.PlaceSound.{IsPlaceSound};
+ghost use Rattle.place_laws.specs.PlaceTests.{ObeysSets, lowered_in, Holds, FailsFirst};
+
+/// A placement certificate that passes all tests is sound: its order places its choice, which is one of the greatest, its value is
+/// the value of that choice, its parts give the Vickrey prices, and its choice and payments are the core outcome.
+///
+/// A table over sets that obeys the rules of dynamic programming bounds each allowed choice, whatever the order that allows it
+/// (Bellman, The theory of dynamic programming, Bulletin of the American Mathematical Society 60, 1954), and multipliers show a least
+/// sum and a least square distance (Kuhn and Tucker, Nonlinear programming, 1951).
+pub fn sound_places()
+    ensures { (slots : SlotList) (p : PlaceCertValue) → length p.cert.pay ≡ length slots.bidders → Holds slots p → IsPlaceSound slots p }
+{}
+
+/// A placement certificate has at most one verdict: not both that all tests hold and that one fails first, and at most one place of
+/// one test at which it fails first.
+pub fn one_place_verdict()
+    ensures one { (slots : SlotList) (p : PlaceCertValue) (t place u q : ℕ) → FailsFirst slots p t place → FailsFirst slots p u q → (t ≡ u) × (place ≡ q) }
+    ensures not_both { (slots : SlotList) (p : PlaceCertValue) (t place : ℕ) → Holds slots p → FailsFirst slots p t place → ⊥ }
+{}
+
+/// Exact tables over sets obey the rules that the tests ask of a table: that of the amounts, that of the amounts where a bidder has no
+/// bids, and, where nobody pays more than its bid and losers pay nothing, that of the worths which are lowered by what each bidder
+/// gains.
+pub fn exact_set_tables()
+    ensures plain { (slots : SlotList) (table : List (List ℤ)) → IsSetTable (board_of slots) (amount_of slots) table → ObeysSets (board_of slots) (amount_of slots) table }
+    ensures without { (slots : SlotList) (j : ℕ) (table : List (List ℤ)) → IsSetTable (board_without slots j) (amount_of slots) table
+        → ObeysSets (board_without slots j) (amount_of slots) table }
+    ensures lowered { (slots : SlotList) (c : CertValue) (table : List (List ℤ)) → length c.pay ≡ length slots.bidders → ((place : ℕ) → PaysWithinBids (market_of slots) c place)
+        → IsSetTable (board_of slots) (lowered c.den (amount_of slots) (surpluses_of (market_of slots) c.choice c.den c.pay)) table
+        → ObeysSets (board_of slots) (lowered_in (market_of slots) c) table }
+{}
+
+/// The first entry of an exact table, that of nobody, is the greatest sum of an allowed choice, and where a bidder has no bids the
+/// greatest sum of an allowed choice that doesn't use it.
+pub fn first_entries()
+    ensures whole { (slots : SlotList) (counts : ℕ → ℕ → ℤ) (table : List (List ℤ)) → IsSetTable (board_of slots) counts table
+        → IsGreatestValue (market_of slots).allowed (sum_after counts 0) (entry_at table 0 0) }
+    ensures without { (slots : SlotList) (j : ℕ) (counts : ℕ → ℕ → ℤ) (table : List (List ℤ)) → 0 < j → IsSetTable (board_without slots j) counts table
+        → IsGreatestValue (allowed_without (market_of slots) j) (sum_after counts 0) (entry_at table 0 0) }
+{}
