@@ -10,5 +10,6 @@ pub mod Sound
 pub mod FirstEntry
 pub mod Exact
 pub mod Verdicts
+pub mod OnePricing
 mod WorkedCases
 mod WorkedCert

@@ -12,9 +12,9 @@ use Rattle.slot_places.specs.Board.{Board, board_of, board_without, market_of}
 use Rattle.slot_places.specs.Orders.{allows}
 use Rattle.slot_places.specs.SetTable.{holds}
 use Rattle.slot_places.specs.Slots.{bids_of, amount_of}
-use Rattle.place_laws.specs.PlaceCert.{PlaceCertValue, order_without, order_in_row}
+use Rattle.place_laws.specs.PlaceCert.{order_without, order_in_row}
 use Rattle.place_laws.specs.PlaceTests.{ObeysSets, IsPlacedPart, lowered_in, Holds}
-use Rattle.place_laws.proofs.WorkedCases.{band, with_pay}
+use Rattle.place_laws.proofs.WorkedCases.{band, certificate}
 
 abbrev all_of : (ℕ → Bool) → ℕ → Bool
 all_of p zero = true
@@ -83,9 +83,6 @@ one : (P : ℕ → Type 0) → P 1 → (j : ℕ) → 0 < j → j ≤ 1 → P j
 one P a zero some low = absurd (omega (arith, some))
 one P a (suc zero) some low = a
 one P a (suc (suc j)) some low = absurd (omega (arith, low))
-
-abbrev certificate : PlaceCertValue
-certificate = with_pay 7 5 (1 ∷ 3 ∷ 2 ∷ [])
 
 abbrev chosen : List ℕ
 chosen = 1 ∷ 1 ∷ 0 ∷ []

@@ -1,9 +1,9 @@
 -- What a placement certificate that pricing writes is.
-use Rattle.std.specs.Prelude.{ℕ, ◌<◌, ◌≤◌, IsTrue, List, length}
+use Rattle.std.specs.Prelude.{◌≡◌, ℕ, ◌<◌, ◌≤◌, IsTrue, List, length}
 use Rattle.auction_model.specs.Greatest.{IsFirstGreatest, IsWinning}
 use Rattle.auction_model.specs.Lowered.{lowered}
 use Rattle.auction_model.specs.Market.{value_of, uses}
-use Rattle.auction_model.specs.Prices.{IsCoreOutcome, allowed_without, alike}
+use Rattle.auction_model.specs.Prices.{IsCoreOutcome, SamePoint, allowed_without, alike}
 use Rattle.row_laws.specs.Surplus.{surpluses_of}
 use Rattle.cert_form.specs.Certificate.{WithoutValue, part_of, row_of}
 use Rattle.cert_laws.specs.Sound.{cert_point}
@@ -33,3 +33,20 @@ pub record IsPricedPlaceCert (slots : SlotList) (p : PlaceCertValue) : Type 0 wh
   pub row_placements : (r : ℕ) → 0 < r → r ≤ length p.cert.rows → IsPlacement slots (row_of p.cert.rows r).choice (order_in_row p.row_orders r)
   pub outcome : IsCoreOutcome (market_of slots) alike p.cert.choice (cert_point p.cert)
   pub table_lowered : IsSetTable (board_of slots) (lowered p.cert.den (amount_of slots) (surpluses_of (market_of slots) p.cert.choice p.cert.den p.cert.pay)) p.cert.lowered
+
+-- two parts with the orders beside them: the same choice, placement and table
+pub record IsSamePlacedPart (a b : WithoutValue) (order other : List ℕ) : Type 0 where
+  pub choice : a.choice ≡ b.choice
+  pub placement : order ≡ other
+  pub table : a.table ≡ b.table
+
+-- Two certificates with the same choice, value, placement and table of the amounts, with the same parts, and with payments that are
+-- the same fractions.
+pub record IsSamePricing (slots : SlotList) (p q : PlaceCertValue) : Type 0 where
+  pub choice : p.cert.choice ≡ q.cert.choice
+  pub value : p.cert.value ≡ q.cert.value
+  pub placement : p.order ≡ q.order
+  pub table : p.cert.table ≡ q.cert.table
+  pub parts : (j : ℕ) → 0 < j → j ≤ length slots.bidders → IsTrue (uses p.cert.choice j)
+      → IsSamePlacedPart (part_of p.cert.withouts j) (part_of q.cert.withouts j) (order_without p.cert.withouts p.part_orders j) (order_without q.cert.withouts q.part_orders j)
+  pub point : SamePoint (market_of slots) (cert_point p.cert) (cert_point q.cert)

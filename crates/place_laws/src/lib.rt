@@ -7,7 +7,7 @@
 //! that allows it. So the tests P1 to P9 need no search, and they ask that the choice is one of the greatest, not the first of them.
 #![tactic(auto)]
 
-ghost use Rattle.std.specs.Prelude.{◌≡◌, ◌<◌, ℕ, List, ℤ, length};
+ghost use Rattle.std.specs.Prelude.{◌≡◌, ◌<◌, ◌^◌, ℕ, List, ℤ, length};
 ghost use Rattle.auction_model.specs.Greatest.{IsGreatestValue};
 ghost use Rattle.auction_model.specs.Lowered.{lowered};
 ghost use Rattle.auction_model.specs.Market.{sum_after};
@@ -20,6 +20,7 @@ ghost use Rattle.slot_places.specs.Board.{board_of, board_without, market_of};
 ghost use Rattle.slot_places.specs.SetTable.{IsSetTable};
 ghost use Rattle.slot_places.specs.Slots.{SlotList, amount_of};
 ghost use Rattle.place_laws.specs.PlaceCert.{PlaceCertValue};
+ghost use Rattle.place_laws.specs.PlacePriced.{IsPricedPlaceCert, IsSamePricing};
 ghost use Rattle.place_laws.specs.PlaceSound.{IsPlaceSound};
 ghost use Rattle.place_laws.specs.PlaceTests.{ObeysSets, lowered_in, Holds, FailsFirst};
 
@@ -59,4 +60,11 @@ pub fn first_entries()
         → IsGreatestValue (market_of slots).allowed (sum_after counts 0) (entry_at table 0 0) }
     ensures without { (slots : SlotList) (j : ℕ) (counts : ℕ → ℕ → ℤ) (table : List (List ℤ)) → 0 < j → IsSetTable (board_without slots j) counts table
         → IsGreatestValue (allowed_without (market_of slots) j) (sum_after counts 0) (entry_at table 0 0) }
+{}
+
+/// Pricing writes one placement certificate of slots, as far as it isn't free: all that are exact and first agree in their choices, their
+/// placements, their value and their tables of the amounts, and their payments are the same point. The denominator, the rows, their
+/// multipliers, and with the denominator the last table, may differ.
+pub fn one_pricing()
+    ensures { (slots : SlotList) (p q : PlaceCertValue) → length slots.bidders < 2 ^ 16 → IsPricedPlaceCert slots p → IsPricedPlaceCert slots q → IsSamePricing slots p q }
 {}

@@ -14,7 +14,7 @@ pub mod ReadLaws
 pub mod TableLaws
 pub mod WithoutLaws
 mod NextLaws
-mod FirstOrders
+pub mod FirstOrders
 mod OrderSteps
 pub mod PlainSearch
 mod Growth
