@@ -1,5 +1,5 @@
--- The plan of a certificate can always be gone on with, and a line has one reading: so the reader of its lines reads just its texts.
-use Rattle.std.proofs.Common.{◌≡◌, ℕ, suc, zero, ◌<◌, Bool, true, false, List, [], ◌∷◌, ◌++◌, length, refl, sym, ap, subst, ◌∙◌, arith, IsTrue}
+-- The plan of either certificate can always be gone on with, and a line has one reading: so the reader of its lines reads just its texts.
+use Rattle.std.proofs.Common.{◌≡◌, ℕ, suc, zero, ◌^◌, ◌<◌, Bool, true, false, List, [], ◌∷◌, ◌++◌, length, refl, sym, ap, subst, ◌∙◌, arith, IsTrue}
 use Rattle.std.specs.Prelude.{ℤ, pos, negsuc, map, replicate, ◌&&◌, not, ◌==◌, codes}
 use Rattle.std.proofs.lemmas.Int.{ints}
 use Rattle.std.proofs.lemmas.Bool.{and_parts, not-true, eqb-false}
@@ -9,7 +9,8 @@ use Rattle.line_text.proofs.Runs.{Reads}
 use Rattle.line_text.proofs.OneAnswer.{one_answer}
 use Rattle.text_lines.specs.Numeral.{numeral, signed_numeral, numbers_text}
 use Rattle.cert_form.specs.Plan.{Follows, Stage, StepTo, excess, begin, finish}
-use Rattle.cert_form.specs.Lines.{Line, Kind, kind, Numbers, these, signed, chosen, headed, counted, members, FitNumbers, Fits, AreNumbers, spell, over, after, after_numbers, table_plan, part_plan, unless_zero, parts_plan, rows_plan, first_size, just_line, is_first_version, version_of, version_plan, body_plan, cert_plan, IsCertText, lines}
+use Rattle.cert_form.specs.Lines.{Line, Kind, kind, Numbers, these, signed, chosen, headed, counted, members, ordered_head, ordered_count, FitNumbers, Fits, AreNumbers, spell, over, after, after_numbers, table_plan, set_table_plan, part_plan, ordered_part_plan, unless_zero, parts_plan, ordered_parts_plan, rows_plan, ordered_rows_plan, first_size, just_line, is_first_version, version_of, version_plan, body_plan, cert_plan, places_plan, IsCertText, IsPlacesText, lines}
+use Rattle.cert_form.specs.Reading.{AreFineNumbers, Fine}
 use Rattle.cert_form.proofs.PlanReads.{follows_both, reads}
 use Rattle.wide_num.proofs.Decimal.{AreDigits}
 use Rattle.text_lines.proofs.Numerals.{numeral_is, one_numbers}
@@ -42,7 +43,7 @@ one_line k a b fa fb e =
     let numbers : a.numbers ≡ b.numbers = one_numbers a.numbers b.numbers (append_cancel_left a.word _ _ texts) in
     ap (λ (w : List ℕ). record { word = w; numbers = a.numbers }) words ∙ ap (λ (n : List ℤ). record { word = b.word; numbers = n }) numbers
 
--- kinds of which each has a line, the head's choice left out
+-- kinds of which each has a line, the choice of a head left out
 abbrev ArePlainNumbers : Numbers → Type 0
 ArePlainNumbers (these ms) = Unit {0}
 ArePlainNumbers (signed n) = Unit {0}
@@ -50,14 +51,8 @@ ArePlainNumbers (chosen n) = Unit {0}
 ArePlainNumbers (headed n s) = ⊥
 ArePlainNumbers (counted n) = Unit {0}
 ArePlainNumbers (members n) = 0 < n
-
-abbrev AreFineNumbers : Numbers → Type 0
-AreFineNumbers (these ms) = Unit {0}
-AreFineNumbers (signed n) = Unit {0}
-AreFineNumbers (chosen n) = Unit {0}
-AreFineNumbers (headed n s) = Unit {0}
-AreFineNumbers (counted n) = Unit {0}
-AreFineNumbers (members n) = 0 < n
+ArePlainNumbers (ordered_head n) = ⊥
+ArePlainNumbers (ordered_count n) = Unit {0}
 
 fine_from : (n : Numbers) → ArePlainNumbers n → AreFineNumbers n
 fine_from (these ms) p = tt
@@ -66,14 +61,12 @@ fine_from (chosen n) p = tt
 fine_from (headed n s) p = tt
 fine_from (counted n) p = tt
 fine_from (members n) p = p
+fine_from (ordered_head n) p = tt
+fine_from (ordered_count n) p = tt
 
 abbrev Plain : List Kind → Type 0
 Plain [] = Unit {0}
 Plain (k ∷ ks) = IsLine k.word × ArePlainNumbers k.numbers × Plain ks
-
-abbrev pub Fine : List Kind → Type 0
-Fine [] = Unit {0}
-Fine (k ∷ ks) = IsLine k.word × AreFineNumbers k.numbers × Fine ks
 
 plain_append : (xs ys : List Kind) → Plain xs → Plain ys → Plain (xs ++ ys)
 plain_append [] ys a b = b
@@ -87,29 +80,49 @@ plain_table : (n s : ℕ) → Plain (replicate n (kind (codes "t") (signed s)))
 plain_table zero s = tt
 plain_table (suc n) s = (no_feeds (codes "t") refl, tt, plain_table n s)
 
+plain_unless : (n : ℤ) (ks : List Kind) → Plain ks → Plain (unless_zero n ks)
+plain_unless (pos zero) ks p = tt
+plain_unless (pos (suc n)) ks p = p
+plain_unless (negsuc n) ks p = p
+
+plain_named : (n s : ℕ) → Plain (kind (codes "table") (these []) ∷ replicate n (kind (codes "t") (signed s)))
+plain_named n s = (no_feeds (codes "table") refl, tt, plain_table n s)
+
 plain_parts : (b s j : ℕ) (ns : List ℤ) → Plain (parts_plan b s j ns)
 plain_parts b s j [] = tt
-plain_parts b s j (n ∷ ns) = plain_append (unless_zero n (part_plan b s j)) (parts_plan b s (suc j) ns) (part n) (plain_parts b s (suc j) ns)
+plain_parts b s j (n ∷ ns) = plain_append (unless_zero n (part_plan b s j)) (parts_plan b s (suc j) ns) (plain_unless n (part_plan b s j) own) (plain_parts b s (suc j) ns)
   where
     own : Plain (part_plan b s j)
-    own = (no_feeds (codes "without") refl, tt, (no_feeds (codes "choice") refl, tt, (no_feeds (codes "table") refl, tt, plain_table (suc b) s)))
+    own = (no_feeds (codes "without") refl, tt, (no_feeds (codes "choice") refl, tt, plain_named (suc b) s))
 
-    part : (n : ℤ) → Plain (unless_zero n (part_plan b s j))
-    part (pos zero) = tt
-    part (pos (suc n)) = own
-    part (negsuc n) = own
+plain_ordered_parts : (b j : ℕ) (ns : List ℤ) → Plain (ordered_parts_plan b j ns)
+plain_ordered_parts b j [] = tt
+plain_ordered_parts b j (n ∷ ns) = plain_append (unless_zero n (ordered_part_plan b j)) (ordered_parts_plan b (suc j) ns) (plain_unless n (ordered_part_plan b j) own) (plain_ordered_parts b (suc j) ns)
+  where
+    own : Plain (ordered_part_plan b j)
+    own = (no_feeds (codes "without") refl, tt, (no_feeds (codes "order") refl, tt, (no_feeds (codes "choice") refl, tt, plain_named 1 (2 ^ b))))
 
 plain_rows : (b r : ℕ) → (0 < r → 0 < b) → Plain (rows_plan b r)
 plain_rows b zero h = tt
 plain_rows b (suc r) h = (no_feeds (codes "row") refl, h (omega arith), (no_feeds (codes "mult") refl, tt, (no_feeds (codes "choice") refl, tt, plain_rows b r (λ some. h (omega arith)))))
 
+plain_ordered_rows : (b r : ℕ) → (0 < r → 0 < b) → Plain (ordered_rows_plan b r)
+plain_ordered_rows b zero h = tt
+plain_ordered_rows b (suc r) h = (no_feeds (codes "row") refl, h (omega arith), (no_feeds (codes "mult") refl, tt, (no_feeds (codes "order") refl, tt, (no_feeds (codes "choice") refl, tt, plain_ordered_rows b r (λ some. h (omega arith))))))
+
+-- the count of rows that is read
+some_row : (b : ℕ) (ns : List ℤ) → FitNumbers (counted b) ns → 0 < first_size ns → 0 < b
+some_row b ns f some = f.3 (subst (λ (l : List ℤ). 0 < first_size l) f.1 some)
+
 plain_after : (n : Numbers) (ns : List ℤ) → FitNumbers n ns → Plain (after_numbers n ns)
 plain_after (these ms) ns f = tt
 plain_after (signed n) ns f = tt
 plain_after (chosen n) ns f = tt
-plain_after (headed b s) ns f = plain_append (kind (codes "table") (these []) ∷ table_plan b s) (parts_plan b s 1 ns) (no_feeds (codes "table") refl, tt, plain_table (suc b) s) (plain_parts b s 1 ns)
-plain_after (counted b) ns f = plain_rows b (first_size ns) (λ some. f.3 (subst (λ (l : List ℤ). 0 < first_size l) f.1 some))
+plain_after (headed b s) ns f = plain_append (kind (codes "table") (these []) ∷ table_plan b s) (parts_plan b s 1 ns) (plain_named (suc b) s) (plain_parts b s 1 ns)
+plain_after (counted b) ns f = plain_rows b (first_size ns) (some_row b ns f)
 plain_after (members b) ns f = tt
+plain_after (ordered_head b) ns f = plain_append (kind (codes "table") (these []) ∷ set_table_plan b) (ordered_parts_plan b 1 ns) (plain_named 1 (2 ^ b)) (plain_ordered_parts b 1 ns)
+plain_after (ordered_count b) ns f = plain_ordered_rows b (first_size ns) (some_row b ns f)
 
 fine_after : (k : Kind) (ks : List Kind) (l : Line) → Fine (k ∷ ks) → Fits k l → Fine (after k l ++ ks)
 fine_after k ks l ok fits = fine_append (after k l) ks (plain_after k.numbers l.numbers fits.numbers) ok.2
@@ -133,6 +146,8 @@ one_of k plain = own k.word k.numbers plain
     own w (headed n s) p = absurd p
     own w (counted n) p = (record { word = w; numbers = pos 0 ∷ [] } ∷ [], (record { word = refl; numbers = (0, refl, omega arith, λ some. absurd (omega (arith, some))) }, tt))
     own w (members n) p = (record { word = w; numbers = pos 1 ∷ [] } ∷ [], (record { word = refl; numbers = (omega arith, (omega (arith, ints), omega (arith, ints, p), tt)) }, tt))
+    own w (ordered_head n) p = absurd p
+    own w (ordered_count n) p = (record { word = w; numbers = pos 0 ∷ [] } ∷ [], (record { word = refl; numbers = (0, refl, omega arith, λ some. absurd (omega (arith, some))) }, tt))
 
 completes_plain : (ks : List Kind) → Plain ks → (is : List Line) × Follows Fits after ks is
 completes_plain [] p = ([], tt)
@@ -141,6 +156,12 @@ completes_plain (k ∷ ks) p =
     let rest = completes_plain ks p.2 in
     (own.0 ++ rest.0, follows_both Fits after (k ∷ []) ks own.0 rest.0 own.1 rest.1)
 
+-- a line of these numbers, and what comes behind it
+led : (w : List ℕ) (n : Numbers) (ns : List ℤ) → FitNumbers n ns → (is : List Line) × Follows Fits after (kind w n ∷ []) is
+led w n ns fit =
+    let rest = completes_plain (after_numbers n ns ++ []) (plain_append (after_numbers n ns) [] (plain_after n ns fit) tt) in
+    (record { word = w; numbers = ns } ∷ rest.0, (record { word = refl; numbers = fit }, rest.1))
+
 completes_one : (k : Kind) → AreFineNumbers k.numbers → (is : List Line) × Follows Fits after (k ∷ []) is
 completes_one k fine = own k.word k.numbers fine
   where
@@ -148,12 +169,11 @@ completes_one k fine = own k.word k.numbers fine
     own w (these ms) p = one_of (kind w (these ms)) tt
     own w (signed n) p = one_of (kind w (signed n)) tt
     own w (chosen n) p = one_of (kind w (chosen n)) tt
-    own w (headed n s) p =
-        let first : Line = record { word = w; numbers = replicate n (pos 0) } in
-        let rest = completes_plain (after (kind w (headed n s)) first ++ []) (plain_append (after (kind w (headed n s)) first) [] (plain_after (headed n s) (replicate n (pos 0)) (zeros_length n, zeros_numbers n)) tt) in
-        (first ∷ rest.0, (record { word = refl; numbers = (zeros_length n, zeros_numbers n) }, rest.1))
+    own w (headed n s) p = led w (headed n s) (replicate n (pos 0)) (zeros_length n, zeros_numbers n)
     own w (counted n) p = one_of (kind w (counted n)) tt
     own w (members n) p = one_of (kind w (members n)) p
+    own w (ordered_head n) p = led w (ordered_head n) (replicate n (pos 0)) (zeros_length n, zeros_numbers n)
+    own w (ordered_count n) p = one_of (kind w (ordered_count n)) tt
 
 completes : (ks : List Kind) → Fine ks → (is : List Line) × Follows Fits after ks is
 completes [] p = ([], tt)
@@ -180,12 +200,43 @@ fine_body b s =
     )
 
 -- the plan of a certificate can be gone on with
-fine_cert : (b s : ℕ) → Fine (cert_plan b s)
+pub fine_cert : (b s : ℕ) → Fine (cert_plan b s)
 fine_cert b s = fine_append (version_plan b s) (body_plan b s) (plain_version (is_first_version b s)) (fine_body b s)
 
-pub cert_reads : (b s : ℕ) → Reads (λ (t : Stage Kind Line). Fine t.plan) (StepTo Fits after spell over) excess (begin (cert_plan b s)) (finish spell over) (IsCertText b s) lines
-cert_reads b s = reads Fits after spell over one_line Fine (λ k ks l ok fits. subst (λ (w : List ℕ). IsLine (w ++ numbers_text l.numbers)) (sym fits.word) (line_append k.word (numbers_text l.numbers) ok.0 (numbers_line l.numbers))) fine_after completes (cert_plan b s) (fine_cert b s)
+-- so can that of a certificate of places
+pub fine_places : (b : ℕ) → Fine (places_plan b)
+fine_places b =
+    let last = fine_append (set_table_plan b) (kind (codes "end") (these []) ∷ []) (plain_table 1 (2 ^ b)) (no_feeds (codes "end") refl, tt, tt) in (
+      no_feeds (codes "pcert") refl,
+      tt,
+      (
+        no_feeds (codes "den") refl,
+        tt,
+        (
+          no_feeds (codes "value") refl,
+          tt,
+          (
+            no_feeds (codes "order") refl,
+            tt,
+            (no_feeds (codes "choice") refl, tt, (no_feeds (codes "pay") refl, tt, (no_feeds (codes "rows") refl, tt, (no_feeds (codes "lowered") refl, tt, last)))),
+          ),
+        ),
+      ),
+    )
 
--- bytes say one thing of a certificate: a certificate, the place of the first faulty line, or that of the first line that is out of range
+module _ (whole : List Kind) (fine : Fine whole) where
+  -- a reader of the lines of such a plan reads just its texts
+  pub plan_reads : Reads (λ (t : Stage Kind Line). Fine t.plan) (StepTo Fits after spell over) excess (begin whole) (finish spell over) (Follows Fits after whole) lines
+  plan_reads = reads Fits after spell over one_line Fine (λ k ks l ok fits. subst (λ (w : List ℕ). IsLine (w ++ numbers_text l.numbers)) (sym fits.word) (line_append k.word (numbers_text l.numbers) ok.0 (numbers_line l.numbers))) fine_after completes whole fine
+
+  -- bytes say one thing: lines of the plan, the place of the first faulty line, or that of the first line that is out of range
+  pub one_text : (bytes : List ℕ) (x y : Said (List Line) ℕ) → Says (Follows Fits after whole) lines bytes x → Says (Follows Fits after whole) lines bytes y → x ≡ y
+  one_text = one_answer (λ (t : Stage Kind Line). Fine t.plan) (StepTo Fits after spell over) excess (begin whole) (finish spell over) (Follows Fits after whole) lines plan_reads
+
+-- bytes say one thing of a certificate
 pub one_cert : (b s : ℕ) (bytes : List ℕ) (x y : Said (List Line) ℕ) → Says (IsCertText b s) lines bytes x → Says (IsCertText b s) lines bytes y → x ≡ y
-one_cert b s = one_answer (λ (t : Stage Kind Line). Fine t.plan) (StepTo Fits after spell over) excess (begin (cert_plan b s)) (finish spell over) (IsCertText b s) lines (cert_reads b s)
+one_cert b s = one_text (cert_plan b s) (fine_cert b s)
+
+-- and one thing of a certificate of places
+pub one_places : (b : ℕ) (bytes : List ℕ) (x y : Said (List Line) ℕ) → Says (IsPlacesText b) lines bytes x → Says (IsPlacesText b) lines bytes y → x ≡ y
+one_places b = one_text (places_plan b) (fine_places b)

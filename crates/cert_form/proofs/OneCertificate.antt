@@ -7,7 +7,7 @@ use Rattle.cert_form.specs.CertText.{line, as_numbers, choice_line, table_lines,
 use Rattle.cert_form.proofs.Version.{version_is}
 
 -- two lists cut at the same length
-cut : (xs us ys vs : List Line) → length xs ≡ length us → xs ++ ys ≡ us ++ vs → (xs ≡ us) × (ys ≡ vs)
+pub cut : (xs us ys vs : List Line) → length xs ≡ length us → xs ++ ys ≡ us ++ vs → (xs ≡ us) × (ys ≡ vs)
 cut [] [] ys vs e q = (refl, q)
 cut [] (u ∷ us) ys vs e q = absurd (omega (arith, e))
 cut (x ∷ xs) [] ys vs e q = absurd (omega (arith, e))
@@ -16,7 +16,7 @@ cut (x ∷ xs) (u ∷ us) ys vs e q =
     let tails : xs ++ ys ≡ us ++ vs = cc in
     let rest = cut xs us ys vs (omega (arith, e)) tails in (cc (heads, rest.0), rest.1)
 
-numbers_same : (a b : List ℕ) → as_numbers a ≡ as_numbers b → a ≡ b
+pub numbers_same : (a b : List ℕ) → as_numbers a ≡ as_numbers b → a ≡ b
 numbers_same [] [] e = refl
 numbers_same [] (y ∷ b) e = cc
 numbers_same (x ∷ a) [] e = cc
@@ -25,10 +25,10 @@ numbers_same (x ∷ a) (y ∷ b) e =
     let tails : as_numbers a ≡ as_numbers b = cc in
     let rest = numbers_same a b tails in cc (heads, rest)
 
-numbers_of : (l k : Line) → l ≡ k → l.numbers ≡ k.numbers
+pub numbers_of : (l k : Line) → l ≡ k → l.numbers ≡ k.numbers
 numbers_of l k e = ap (λ (x : Line). x.numbers) e
 
-table_same : (a b : List (List ℤ)) → table_lines a ≡ table_lines b → a ≡ b
+pub table_same : (a b : List (List ℤ)) → table_lines a ≡ table_lines b → a ≡ b
 table_same [] [] e = refl
 table_same [] (y ∷ b) e = cc
 table_same (x ∷ a) [] e = cc
@@ -38,7 +38,7 @@ table_same (x ∷ a) (y ∷ b) e =
     let own : x ≡ y = numbers_of (line (codes "t") x) (line (codes "t") y) heads in
     let rest = table_same a b tails in cc (own, rest)
 
-table_long : (a : List (List ℤ)) → length (table_lines a) ≡ length a
+pub table_long : (a : List (List ℤ)) → length (table_lines a) ≡ length a
 table_long [] = refl
 table_long (x ∷ a) = ap suc (table_long a)
 

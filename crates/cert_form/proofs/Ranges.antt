@@ -13,7 +13,7 @@ use Rattle.wide_num.specs.Range.{InRange}
 use Rattle.text_lines.specs.Range.{AllInRange}
 use Rattle.cert_form.proofs.Written.{written}
 
-abbrev Within : List Line → Type 0
+abbrev pub Within : List Line → Type 0
 Within [] = Unit {0}
 Within (l ∷ ls) = (over l ≡ false) × Within ls
 
@@ -22,25 +22,25 @@ version_within : (first : Bool) → Within (version_of first)
 version_within true = (refl, tt)
 version_within false = (refl, (refl, tt))
 
-within_append : (xs ys : List Line) → Within xs → Within ys → Within (xs ++ ys)
+pub within_append : (xs ys : List Line) → Within xs → Within ys → Within (xs ++ ys)
 within_append [] ys a b = b
 within_append (x ∷ xs) ys a b = (a.0, within_append xs ys a.1 b)
 
-no_excess : (p : ℕ) (ls : List Line) → Within ls → first_excess (placed spell over p ls) ≡ None
+pub no_excess : (p : ℕ) (ls : List Line) → Within ls → first_excess (placed spell over p ls) ≡ None
 no_excess p [] w = refl
 no_excess p (l ∷ ls) w = ap (λ (b : Bool). option_or (cond b (Some p) None) (first_excess (placed spell over (next_place spell over p l) ls))) w.0 ∙ no_excess (next_place spell over p l) ls w.1
 
 in_range : (z : ℤ) → InRange z → is_out z ≡ false
 in_range z h = lt-leb (2 ^ 120) (unsigned_abs z) h
 
-all_in_range : (zs : List ℤ) → AllInRange zs → any_out zs ≡ false
+pub all_in_range : (zs : List ℤ) → AllInRange zs → any_out zs ≡ false
 all_in_range [] h = refl
 all_in_range (z ∷ zs) h = or_from (is_out z) (any_out zs) (in_range z h.0) (all_in_range zs h.1)
 
-one_in_range : (z : ℤ) → InRange z → any_out (z ∷ []) ≡ false
+pub one_in_range : (z : ℤ) → InRange z → any_out (z ∷ []) ≡ false
 one_in_range z h = all_in_range (z ∷ []) (h, tt)
 
-small_numbers : (most : ℕ) (ns : List ℕ) → most < 2 ^ 120 → AtMost most ns → any_out (as_numbers ns) ≡ false
+pub small_numbers : (most : ℕ) (ns : List ℕ) → most < 2 ^ 120 → AtMost most ns → any_out (as_numbers ns) ≡ false
 small_numbers most [] lt h = refl
 small_numbers most (n ∷ ns) lt h = or_from (is_out (pos n)) (any_out (as_numbers ns)) (in_range (pos n) (omega (arith, lt, h.0))) (small_numbers most ns lt h.1)
 
@@ -52,7 +52,7 @@ module _ (b s : ℕ) (small : b < 2 ^ 100) where
   choice_within : (choice : List ℕ) → IsChoice b choice → any_out (as_numbers choice) ≡ false
   choice_within choice h = small_numbers 65535 choice (omega arith) h.1
 
-  table_within : (table : List (List ℤ)) → AreTableLines s table → Within (table_lines table)
+  pub table_within : (table : List (List ℤ)) → AreTableLines s table → Within (table_lines table)
   table_within [] h = tt
   table_within (t ∷ table) h = (all_in_range t h.1, table_within table h.2)
 

@@ -17,10 +17,10 @@ low_numbers : (most : ℕ) (ns : List ℕ) → AtMost most ns → AreNumbers mos
 low_numbers most [] h = tt
 low_numbers most (n ∷ ns) h = (omega (arith, ints), omega (arith, ints, h.0), low_numbers most ns h.1)
 
-choice_fits : (b : ℕ) (choice : List ℕ) → IsChoice b choice → (length (as_numbers choice) ≡ b) × AreNumbers 65535 (as_numbers choice)
+pub choice_fits : (b : ℕ) (choice : List ℕ) → IsChoice b choice → (length (as_numbers choice) ≡ b) × AreNumbers 65535 (as_numbers choice)
 choice_fits b choice h = (long_numbers choice ∙ h.0, low_numbers 65535 choice h.1)
 
-table_follows : (n s : ℕ) (table : List (List ℤ)) → length table ≡ n → AreTableLines s table → Follows Fits after (replicate n (kind (codes "t") (signed s))) (table_lines table)
+pub table_follows : (n s : ℕ) (table : List (List ℤ)) → length table ≡ n → AreTableLines s table → Follows Fits after (replicate n (kind (codes "t") (signed s))) (table_lines table)
 table_follows zero s [] e h = tt
 table_follows zero s (t ∷ table) e h = absurd (omega (arith, e))
 table_follows (suc n) s [] e h = absurd (omega (arith, e))
@@ -42,7 +42,7 @@ parts_follow b s j (suc n ∷ ns) (w ∷ ws) h =
     )
     (parts_follow b s (suc j) ns ws h.1)
 
-rise : (b before : ℕ) (js : List ℕ) → AreMembers b before js → Rise b (pos before) (as_numbers js)
+pub rise : (b before : ℕ) (js : List ℕ) → AreMembers b before js → Rise b (pos before) (as_numbers js)
 rise b before [] h = tt
 rise b before (j ∷ js) h = (omega (arith, ints, h.0), omega (arith, ints, h.1), rise b j js h.2)
 
@@ -53,13 +53,14 @@ rows_follow b (r ∷ rows) h = (
   (record { word = refl; numbers = refl }, (record { word = refl; numbers = choice_fits b r.choice h.0.choice }, rows_follow b rows h.1)),
 )
 
+-- where there is a member there is a bidder
+pub some_member : (b : ℕ) (js : List ℕ) → 0 < length js → AreMembers b 0 js → 0 < b
+some_member b [] some m = absurd (omega arith)
+some_member b (j ∷ js) some m = omega (arith, m.0, m.1)
+
 some_bidder : (b : ℕ) (rows : List RowValue) → AreRows b rows → 0 < length rows → 0 < b
 some_bidder b [] h some = absurd (omega arith)
-some_bidder b (r ∷ rows) h some = member r.members h.0.some h.0.members
-  where
-    member : (js : List ℕ) → 0 < length js → AreMembers b 0 js → 0 < b
-    member [] some m = absurd (omega arith)
-    member (j ∷ js) some m = omega (arith, m.0, m.1)
+some_bidder b (r ∷ rows) h some = some_member b r.members h.0.some h.0.members
 
 -- the lines behind the version are those of their plan
 body_follows : (b s : ℕ) (c : CertValue) → IsCertificate b s c → Follows Fits after (body_plan b s) (body_lines c)

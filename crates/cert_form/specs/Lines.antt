@@ -1,5 +1,5 @@
 -- The lines of a certificate: each is a word and numbers.
-use Rattle.std.specs.Prelude.{◌≡◌, ℕ, zero, suc, ◌≤◌, ◌<◌, Bool, true, false, ◌&&◌, nat_le, map, Option, List, [], ◌∷◌, ◌++◌, length, codes, replicate, ℤ, pos, negsuc, ◌≤ℤ◌, ◌<ℤ◌, unsigned_abs}
+use Rattle.std.specs.Prelude.{◌≡◌, ℕ, zero, suc, ◌^◌, ◌≤◌, ◌<◌, Bool, true, false, ◌&&◌, nat_le, map, Option, List, [], ◌∷◌, ◌++◌, length, codes, replicate, ℤ, pos, negsuc, ◌≤ℤ◌, ◌<ℤ◌, unsigned_abs}
 use Rattle.limits.specs.declared.TheConstants.{MOST_BIDDERS, MOST_STATES, FIRST_VERSION_BIDDERS, FIRST_VERSION_STATES}
 use Rattle.text_lines.specs.Numeral.{numbers_text}
 use Rattle.text_lines.specs.Range.{any_out}
@@ -31,6 +31,11 @@ pub data Numbers : Type 0 where
   counted : ℕ → Numbers
   -- the members of a row
   members : ℕ → Numbers
+  -- The choice of the head of a certificate of places, for so many bidders: a part with an order comes behind it for each bidder
+  -- that it uses.
+  ordered_head : ℕ → Numbers
+  -- how many rows with an order come behind it, for so many bidders
+  ordered_count : ℕ → Numbers
 
 -- a kind of line: its word, and which numbers stand behind it
 pub record Kind : Type 0 where
@@ -56,6 +61,8 @@ FitNumbers (headed bidders states) ns = (length ns ≡ bidders) × AreNumbers 65
 -- a row has a member, so there is none where there is no bidder
 FitNumbers (counted bidders) ns = (r : ℕ) × (ns ≡ pos r ∷ []) × (r ≤ 10) × (0 < r → 0 < bidders)
 FitNumbers (members bidders) ns = (0 < length ns) × Rise bidders (pos 0) ns
+FitNumbers (ordered_head bidders) ns = (length ns ≡ bidders) × AreNumbers 65535 ns
+FitNumbers (ordered_count bidders) ns = (r : ℕ) × (ns ≡ pos r ∷ []) × (r ≤ 10) × (0 < r → 0 < bidders)
 
 -- the line is one of this kind
 pub record Fits (k : Kind) (l : Line) : Type 0 where
@@ -89,6 +96,28 @@ abbrev pub rows_plan : ℕ → ℕ → List Kind
 rows_plan bidders zero = []
 rows_plan bidders (suc r) = kind (codes "row") (members bidders) ∷ kind (codes "mult") (signed 2) ∷ kind (codes "choice") (chosen bidders) ∷ rows_plan bidders r
 
+-- a table over sets of so many bidders: one line, with an entry for each set
+abbrev pub set_table_plan : ℕ → List Kind
+set_table_plan bidders = table_plan 0 (2 ^ bidders)
+
+-- the lines of the part without bidder j, with an order before its choice
+abbrev pub ordered_part_plan : ℕ → ℕ → List Kind
+ordered_part_plan bidders j =
+    kind (codes "without") (these (pos j ∷ [])) ∷ kind (codes "order") (chosen bidders) ∷ kind (codes "choice") (chosen bidders)
+    ∷ kind (codes "table") (these []) ∷ set_table_plan bidders
+
+-- such a part for each bidder from j on whose number is not 0
+abbrev pub ordered_parts_plan : ℕ → ℕ → List ℤ → List Kind
+ordered_parts_plan bidders j [] = []
+ordered_parts_plan bidders j (n ∷ ns) = unless_zero n (ordered_part_plan bidders j) ++ ordered_parts_plan bidders (suc j) ns
+
+-- the lines of so many rows, with an order before each choice
+abbrev pub ordered_rows_plan : ℕ → ℕ → List Kind
+ordered_rows_plan bidders zero = []
+ordered_rows_plan bidders (suc r) =
+    kind (codes "row") (members bidders) ∷ kind (codes "mult") (signed 2) ∷ kind (codes "order") (chosen bidders)
+    ∷ kind (codes "choice") (chosen bidders) ∷ ordered_rows_plan bidders r
+
 -- the size of the first number, and 0 where there is none
 abbrev pub first_size : List ℤ → ℕ
 first_size [] = 0
@@ -102,6 +131,8 @@ after_numbers (chosen bidders) ns = []
 after_numbers (headed bidders states) ns = (kind (codes "table") (these []) ∷ table_plan bidders states) ++ parts_plan bidders states 1 ns
 after_numbers (counted bidders) ns = rows_plan bidders (first_size ns)
 after_numbers (members bidders) ns = []
+after_numbers (ordered_head bidders) ns = (kind (codes "table") (these []) ∷ set_table_plan bidders) ++ ordered_parts_plan bidders 1 ns
+after_numbers (ordered_count bidders) ns = ordered_rows_plan bidders (first_size ns)
 
 abbrev pub after : Kind → Line → List Kind
 after k l = after_numbers k.numbers l.numbers
@@ -138,6 +169,17 @@ cert_plan bidders states = version_plan bidders states ++ body_plan bidders stat
 -- the lines are those of a certificate for so many bidders and states
 abbrev pub IsCertText : ℕ → ℕ → List Line → Type 0
 IsCertText bidders states = Follows Fits after (cert_plan bidders states)
+
+-- The plan of a certificate of places: its first line, an order before each choice, and tables over sets of bidders.
+abbrev pub places_plan : ℕ → List Kind
+places_plan bidders =
+    kind (codes "pcert") (these (pos 1 ∷ [])) ∷ kind (codes "den") (signed 1) ∷ kind (codes "value") (signed 1) ∷ kind (codes "order") (chosen bidders)
+    ∷ kind (codes "choice") (ordered_head bidders) ∷ kind (codes "pay") (signed bidders) ∷ kind (codes "rows") (ordered_count bidders)
+    ∷ kind (codes "lowered") (these []) ∷ (set_table_plan bidders ++ kind (codes "end") (these []) ∷ [])
+
+-- the lines are those of a certificate of places for so many bidders
+abbrev pub IsPlacesText : ℕ → List Line → Type 0
+IsPlacesText bidders = Follows Fits after (places_plan bidders)
 
 -- the bytes of each line, and beside a line with a number out of range its place
 abbrev pub lines : List Line → List (List ℕ × Option ℕ)

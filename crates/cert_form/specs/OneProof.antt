@@ -5,15 +5,15 @@ use Rattle.cert_form.specs.Certificate.{CertValue, WithoutValue, RowValue}
 use Rattle.cert_form.specs.CertText.{AtMost, AreTableLines, AreWithouts, AreMembers, AreRows, IsCertificate}
 use Rattle.text_lines.specs.Range.{AllInRange}
 
-AllInRange-prop : (zs : List ℤ) → IsProp (AllInRange zs)
+pub AllInRange-prop : (zs : List ℤ) → IsProp (AllInRange zs)
 AllInRange-prop [] = Prim.hlevel logic.props
 AllInRange-prop (z ∷ zs) = Prim.hlevel (logic.props, AllInRange-prop zs)
 
-AtMost-prop : (most : ℕ) (ns : List ℕ) → IsProp (AtMost most ns)
+pub AtMost-prop : (most : ℕ) (ns : List ℕ) → IsProp (AtMost most ns)
 AtMost-prop most [] = Prim.hlevel logic.props
 AtMost-prop most (n ∷ ns) = Prim.hlevel (logic.props, AtMost-prop most ns)
 
-AreTableLines-prop : (states : ℕ) (table : List (List ℤ)) → IsProp (AreTableLines states table)
+pub AreTableLines-prop : (states : ℕ) (table : List (List ℤ)) → IsProp (AreTableLines states table)
 AreTableLines-prop states [] = Prim.hlevel logic.props
 AreTableLines-prop states (t ∷ table) = Prim.hlevel (logic.props, AllInRange-prop, AreTableLines-prop states table)
 
@@ -24,11 +24,11 @@ AreWithouts-prop bidders states j (zero ∷ ns) ws = AreWithouts-prop bidders st
 AreWithouts-prop bidders states j (suc n ∷ ns) [] = Prim.hlevel
 AreWithouts-prop bidders states j (suc n ∷ ns) (w ∷ ws) = Prim.hlevel (logic.props, AtMost-prop, AreTableLines-prop, AreWithouts-prop bidders states (suc j) ns ws)
 
-AreMembers-prop : (bidders before : ℕ) (js : List ℕ) → IsProp (AreMembers bidders before js)
+pub AreMembers-prop : (bidders before : ℕ) (js : List ℕ) → IsProp (AreMembers bidders before js)
 AreMembers-prop bidders before [] = Prim.hlevel logic.props
 AreMembers-prop bidders before (j ∷ js) = Prim.hlevel (logic.props, AreMembers-prop bidders j js)
 
-AreRows-prop : (bidders : ℕ) (rows : List RowValue) → IsProp (AreRows bidders rows)
+pub AreRows-prop : (bidders : ℕ) (rows : List RowValue) → IsProp (AreRows bidders rows)
 AreRows-prop bidders [] = Prim.hlevel logic.props
 AreRows-prop bidders (r ∷ rows) = Prim.hlevel (logic.props, AtMost-prop, AreMembers-prop, AreRows-prop bidders rows)
 
