@@ -7,7 +7,7 @@ use Rattle.std.specs.Prelude.{ℤ, pos, negsuc, codes}
 use Rattle.cert_form.specs.Certificate.{CertValue}
 use Rattle.cert_form.specs.CertText.{line, cert_lines, IsCertificate}
 use Rattle.cert_form.specs.Plan.{Follows}
-use Rattle.cert_form.specs.Lines.{AreNumbers, FitNumbers, Fits, IsCertText, Kind, Line, Numbers, after, after_numbers, chosen, counted, headed, is_first_version, kind, members, part_plan, parts_plan, rows_plan, signed, table_plan, these, unless_zero}
+use Rattle.cert_form.specs.Lines.{AreNumbers, FitNumbers, Fits, IsCertText, Kind, Line, Numbers, after, after_numbers, chosen, counted, headed, is_first_version, kind, members, part_plan, parts_plan, rows_plan, signed, table_plan, these, unless_zero, ordered_head, ordered_count}
 use Rattle.text_lines.specs.Range.{any_out}
 use Rattle.cert_pieces.specs.declared.due.Due.{Due}
 use Rattle.cert_pieces.specs.declared.due.Due.TheVariants.{Version, Limits, Den, Value, Choice, Title, Entries, Without, PartChoice, Payments, Rows, Members, Multipliers, RowChoice, End, Nothing}
@@ -39,7 +39,7 @@ zeros_in : (n : ℕ) → any_out (zeros n) ≡ false
 zeros_in zero = refl
 zeros_in (suc n) = zeros_in n
 
--- the kinds of lines for which numbers in range can be found
+-- the kinds of lines of a certificate for which numbers in range can be found
 abbrev pub CanFill : Numbers → Type 0
 CanFill (these ms) = any_out ms ≡ false
 CanFill (signed n) = Unit {0}
@@ -47,6 +47,8 @@ CanFill (chosen b) = Unit {0}
 CanFill (headed b s) = Unit {0}
 CanFill (counted b) = Unit {0}
 CanFill (members b) = 0 < b
+CanFill (ordered_head b) = ⊥
+CanFill (ordered_count b) = ⊥
 
 -- the same for each kind of a plan
 abbrev pub CanFillAll : List Kind → Type 0
@@ -99,6 +101,8 @@ own (headed b s) can = record {
 }
 own (counted b) can = record { numbers = pos 0 ∷ []; fit = (0, refl, omega arith, λ some. absurd (omega (arith, some))); inside = refl; next = nothing }
 own (members b) can = record { numbers = pos 1 ∷ []; fit = (omega arith, (omega (arith, ints), omega (arith, ints, can), tt)); inside = refl; next = nothing }
+own (ordered_head b) can = absurd can
+own (ordered_count b) can = absurd can
 
 -- lines of a whole plan
 fill : (ks : List Kind) → CanFillAll ks → Filled ks

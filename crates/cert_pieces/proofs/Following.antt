@@ -5,7 +5,7 @@ use Rattle.std.proofs.lemmas.Bool.Decides.{nat_tests}
 use Rattle.std.proofs.lemmas.List.{append-nil, take_more_set, get_or-take}
 use Rattle.std.proofs.lemmas.Int.{ints}
 use Rattle.std.specs.Prelude.{ℤ, pos, negsuc, ◌≤ℤ◌, ◌<ℤ◌, ◌||◌, nat_eq}
-use Rattle.cert_form.specs.Lines.{Numbers, these, signed, chosen, headed, counted, members, AreNumbers, Rise, FitNumbers}
+use Rattle.cert_form.specs.Lines.{Numbers, these, signed, chosen, headed, counted, members, ordered_head, ordered_count, AreNumbers, Rise, FitNumbers}
 use Rattle.text_lines.specs.Range.{any_out, is_out}
 use Rattle.text_lines.proofs.FieldRuns.{out-push}
 use Rattle.cert_text.proofs.SmallNumbers.{numbers_push}
@@ -60,6 +60,17 @@ follows (chosen bidders) ns z begins next = (omega (arith, next.0, more_long ns 
 follows (headed bidders states) ns z begins next = (omega (arith, next.0, more_long ns z []), numbers_push ns z begins.1 next.1 next.2)
 follows (counted bidders) ns z begins next = subst (MayBegin (counted bidders)) (ap (λ (l : List ℤ). l ++ z ∷ []) (sym next.0)) (omega arith, λ some. next.1)
 follows (members bidders) ns z begins next = rise_push bidders (pos 0) ns z begins next.0 next.1
+follows (ordered_head bidders) ns z begins next = (omega (arith, next.0, more_long ns z []), small_push ns z begins.1 next.1 next.2)
+follows (ordered_count bidders) ns z begins next = subst (MayBegin (counted bidders)) (ap (λ (l : List ℤ). l ++ z ∷ []) (sym next.0)) (omega arith, λ some. next.1)
+
+-- a number in a line of a count stands there alone
+count_has_to_follow : (bidders : ℕ) (ns : List ℤ) (z : ℤ) (more : List ℤ) → FitNumbers (counted bidders) (ns ++ z ∷ more) → (ns ≡ []) × FitNumbers (counted bidders) (z ∷ [])
+count_has_to_follow bidders [] z [] fit = (refl, fit)
+count_has_to_follow bidders [] z (m ∷ more) (r, e, few, some) = absurd (two z m more r e)
+  where
+    two : (z m : ℤ) (more : List ℤ) (r : ℕ) → z ∷ m ∷ more ≡ pos r ∷ [] → ⊥
+    two z m more r e = cc
+count_has_to_follow bidders (n ∷ ns) z more (r, e, few, some) = absurd (omega (arith, ap length e, more_long ns z more))
 
 -- a number in a line of the kind stands there
 pub has_to_follow : (n : Numbers) (ns : List ℤ) (z : ℤ) (more : List ℤ) → FitNumbers n (ns ++ z ∷ more) → MayFollow n ns z
@@ -67,13 +78,10 @@ has_to_follow (these ms) ns z more fit = (more, sym fit)
 has_to_follow (signed count) ns z more fit = omega (arith, fit, more_long ns z more)
 has_to_follow (chosen bidders) ns z more fit = let s = small_next ns z more fit.1 in (omega (arith, fit.0, more_long ns z more), s.0, s.1)
 has_to_follow (headed bidders states) ns z more fit = let s = small_next ns z more fit.1 in (omega (arith, fit.0, more_long ns z more), s.0, s.1)
-has_to_follow (counted bidders) [] z [] fit = (refl, fit)
-has_to_follow (counted bidders) [] z (m ∷ more) (r, e, few, some) = absurd (two z m more r e)
-  where
-    two : (z m : ℤ) (more : List ℤ) (r : ℕ) → z ∷ m ∷ more ≡ pos r ∷ [] → ⊥
-    two z m more r e = cc
-has_to_follow (counted bidders) (n ∷ ns) z more (r, e, few, some) = absurd (omega (arith, ap length e, more_long ns z more))
+has_to_follow (counted bidders) ns z more fit = count_has_to_follow bidders ns z more fit
 has_to_follow (members bidders) ns z more fit = rise_next bidders (pos 0) ns z more fit.1
+has_to_follow (ordered_head bidders) ns z more fit = let s = small_next ns z more fit.1 in (omega (arith, fit.0, more_long ns z more), s.0, s.1)
+has_to_follow (ordered_count bidders) ns z more fit = count_has_to_follow bidders ns z more fit
 
 -- there are no more than the room is for
 pub within_room : (form : Form) (ns : List ℤ) → MayBegin (numbers_of form) ns → length ns ≤ room_for form

@@ -71,6 +71,7 @@ module _ (b s : ℕ) (text : List ℕ) (place : ℕ) where
       let so_far = here.so_far in
       let le = reached_within plan items here in
       record {
+        fine = here.fine;
         so_far = record {
           behind = so_far.behind;
           run = so_far.run;
@@ -121,22 +122,22 @@ module _ (b s : ℕ) (text : List ℕ) (place : ℕ) where
         let next : place + (length this + 1) ≡ length text + 1 = omega (arith, length-drop place text, reached_within (kind word n ∷ plan) items here) in
         subst (λ (t : List ℕ). Reached b s t (length text + 1) (after (kind word n) l ++ plan) (items ++ l ∷ [])) whole
         (subst (λ (p : ℕ). Reached b s ((text ++ 10 ∷ []) ++ []) p (after (kind word n) l ++ plan) (items ++ l ∷ [])) next
-        (reached-next b s ((text ++ 10 ∷ []) ++ []) place (kind word n) plan items (grown []) (length this) (fine_line []) (ends_line []) l fits (line_is [] ∙ spelled) within long))
+        (reached-next ((text ++ 10 ∷ []) ++ []) place (kind word n) plan items (grown []) (length this) (fine_line []) (ends_line []) l fits (line_is [] ∙ spelled) within long))
 
     -- the whole line has a number out of range
     pub line_out : (l : Line) → Fits (kind word n) l → this ≡ spell l → over l ≡ true → StopsFor b s (text ++ 10 ∷ []) (Range place)
     line_out l fits spelled out more =
-        reached-beyond b s ((text ++ 10 ∷ []) ++ more) place (kind word n) plan items (grown more) (length this) (fine_line more) (ends_line more) l fits (line_is more ∙ spelled) out
+        reached-beyond ((text ++ 10 ∷ []) ++ more) place (kind word n) plan items (grown more) (length this) (fine_line more) (ends_line more) l fits (line_is more ∙ spelled) out
 
     -- no line of the kind has this byte there
     pub line_unfit : (c : ℕ) → IsUnfit word n this c → StopsFor b s (text ++ c ∷ []) (Form place)
     line_unfit c unfit more =
         elim (cases_eq c 10) [
           | inl feed ↦ subst (λ (x : ℕ). FaultAt (IsCertText b s) lines ((text ++ x ∷ []) ++ more) place) (sym feed)
-              (reached-refused b s ((text ++ 10 ∷ []) ++ more) place (kind word n) plan items (grown more) (length this) (fine_line more) (ends_line more)
+              (reached-refused ((text ++ 10 ∷ []) ++ more) place (kind word n) plan items (grown more) (length this) (fine_line more) (ends_line more)
               (λ l fits e. unfit.ended feed l.numbers fits.numbers (sym (line_is more) ∙ e ∙ ap (λ (w : List ℕ). w ++ numbers_text l.numbers) fits.word)))
           | inr other ↦ ⊎_elim
-              (λ (none : IsLine (drop place ((text ++ c ∷ []) ++ more))). reached-missing b s ((text ++ c ∷ []) ++ more) place (kind word n) plan items (at c) none)
+              (λ (none : IsLine (drop place ((text ++ c ∷ []) ++ more))). reached-missing ((text ++ c ∷ []) ++ more) place (kind word n) plan items (at c) none)
               (λ (h : HasLine (drop place ((text ++ c ∷ []) ++ more))). refused other h)
               (first_line (drop place ((text ++ c ∷ []) ++ more)))
         ]
@@ -148,21 +149,21 @@ module _ (b s : ℕ) (text : List ℕ) (place : ℕ) where
         refused other h =
             let split : drop place ((text ++ c ∷ []) ++ more) ≡ (this ++ c ∷ []) ++ more = behind (kind word n ∷ plan) items here c more ∙ sym (append_assoc this (c ∷ []) more) in
             let on = longer_line (this ++ c ∷ []) more _ h.size (line_push this c is_line other) (ap (λ (l : List ℕ). drop h.size l) (sym split) ∙ h.feed) in
-            reached-refused b s ((text ++ c ∷ []) ++ more) place (kind word n) plan items (at c) h.size h.is_line h.feed
+            reached-refused ((text ++ c ∷ []) ++ more) place (kind word n) plan items (at c) h.size h.is_line h.feed
             (λ l fits e. unfit.inside other l.numbers on.0 fits.numbers
             (sym (append_assoc this (c ∷ []) on.0) ∙ sym on.1 ∙ ap (λ (l : List ℕ). take h.size l) (sym split) ∙ e ∙ ap (λ (w : List ℕ). w ++ numbers_text l.numbers) fits.word))
 
     -- the text ends within a line
     pub line_unfinished : FaultAt (IsCertText b s) lines text place
-    line_unfinished = reached-missing b s text place (kind word n) plan items here is_line
+    line_unfinished = reached-missing text place (kind word n) plan items here is_line
 
   module _ (items : List Line) (here : Reached b s text place [] items) (none : drop place text ≡ []) where
     -- bytes behind the last line
     pub behind_last : (c : ℕ) → StopsFor b s (text ++ c ∷ []) (Form place)
     behind_last c more =
         ⊎_elim
-        (λ (tail : IsLine (drop place ((text ++ c ∷ []) ++ more))). reached-tail b s ((text ++ c ∷ []) ++ more) place items at tail (omega (arith, ap length split)))
-        (λ (h : HasLine (drop place ((text ++ c ∷ []) ++ more))). reached-more b s ((text ++ c ∷ []) ++ more) place items at h.size h.is_line h.feed)
+        (λ (tail : IsLine (drop place ((text ++ c ∷ []) ++ more))). reached-tail ((text ++ c ∷ []) ++ more) place items at tail (omega (arith, ap length split)))
+        (λ (h : HasLine (drop place ((text ++ c ∷ []) ++ more))). reached-more ((text ++ c ∷ []) ++ more) place items at h.size h.is_line h.feed)
         (first_line (drop place ((text ++ c ∷ []) ++ more)))
       where
         at : Reached b s ((text ++ c ∷ []) ++ more) place [] items
@@ -173,4 +174,4 @@ module _ (b s : ℕ) (text : List ℕ) (place : ℕ) where
 
     -- the plan is done, and the text ends
     pub all_there : IsTextOf (IsCertText b s) lines text items
-    all_there = reached-end b s text place items here (ap length none)
+    all_there = reached-end text place items here (ap length none)

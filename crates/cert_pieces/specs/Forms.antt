@@ -1,6 +1,6 @@
 -- Which numbers may stand on a line so far.
 use Rattle.std.specs.Prelude.{◌≡◌, ℕ, ◌≤◌, ◌<◌, ◌↔◌, IsTrue, Bool, false, List, [], ◌∷◌, ◌++◌, length, take, ℤ, pos, ◌≤ℤ◌, ◌<ℤ◌}
-use Rattle.cert_form.specs.Lines.{Numbers, these, signed, chosen, headed, counted, members, AreNumbers, Rise, FitNumbers}
+use Rattle.cert_form.specs.Lines.{Numbers, these, signed, chosen, headed, counted, members, ordered_head, ordered_count, AreNumbers, Rise, FitNumbers}
 use Rattle.text_lines.specs.Range.{any_out}
 use Rattle.cert_pieces.specs.declared.line.phase.Kept.{Kept}
 use Rattle.cert_pieces.specs.Tallies.{IsKept}
@@ -40,6 +40,8 @@ MayBegin (chosen bidders) ns = (length ns ≤ bidders) × AreNumbers 65535 ns
 MayBegin (headed bidders states) ns = (length ns ≤ bidders) × AreNumbers 65535 ns
 MayBegin (counted bidders) ns = (length ns ≤ 1) × (0 < length ns → FitNumbers (counted bidders) ns)
 MayBegin (members bidders) ns = Rise bidders (pos 0) ns
+MayBegin (ordered_head bidders) ns = (length ns ≤ bidders) × AreNumbers 65535 ns
+MayBegin (ordered_count bidders) ns = (length ns ≤ 1) × (0 < length ns → FitNumbers (counted bidders) ns)
 
 -- a number may be the next
 abbrev pub MayFollow : Numbers → List ℤ → ℤ → Type 0
@@ -49,6 +51,8 @@ MayFollow (chosen bidders) ns z = (length ns < bidders) × (pos 0 ≤ℤ z) × (
 MayFollow (headed bidders states) ns z = (length ns < bidders) × (pos 0 ≤ℤ z) × (z ≤ℤ pos 65535)
 MayFollow (counted bidders) ns z = (ns ≡ []) × FitNumbers (counted bidders) (z ∷ [])
 MayFollow (members bidders) ns z = (last_of (pos 0) ns <ℤ z) × (z ≤ℤ pos bidders)
+MayFollow (ordered_head bidders) ns z = (length ns < bidders) × (pos 0 ≤ℤ z) × (z ≤ℤ pos 65535)
+MayFollow (ordered_count bidders) ns z = (ns ≡ []) × FitNumbers (counted bidders) (z ∷ [])
 
 -- this is kept of numbers: how many there are, and the numbers themselves where all are in range
 pub record Keeps (ns out : List ℤ) (count : ℕ) (beyond : Bool) : Type 0 where

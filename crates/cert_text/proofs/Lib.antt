@@ -1,7 +1,7 @@
 pub mod PlanSteps
 pub mod SmallNumbers
 mod JustThese
-mod TableSteps
+pub mod TableSteps
 mod PartSteps
 mod RowSteps
 mod StageSteps

@@ -9,10 +9,10 @@ use Rattle.cert_form.specs.Lines.{Line, Kind, Numbers, kind, FitNumbers, after_n
 use Rattle.text_lines.specs.Range.{any_out, is_out}
 use Rattle.cert_form.specs.CertText.{line}
 use Rattle.text_lines.specs.Range.{AllInRange}
-use Rattle.cert_form.specs.Reading.{Reached}
+use Rattle.cert_form.specs.Reading.{ReachedBy}
 use Rattle.cert_form.proofs.Reading.{reached-missing, reached-next, reached-beyond, reached-refused}
 use Rattle.text_lines.proofs.Words.{one_behind}
-use Rattle.cert_text.specs.Readers.{IsLineAt, Leads, Halts}
+use Rattle.cert_text.specs.Readers.{AreLike, IsLineAt, Leads, Halts}
 use Rattle.cert_text.specs.declared.stop.CertStop.{CertStop}
 use Rattle.cert_text.specs.declared.stop.CertStop.TheVariants.{Form, Range, Memory}
 
@@ -29,29 +29,33 @@ all_in (n ∷ ns) e = first (is_out n) refl e (λ r. all_in ns r)
     first true is e more = cc e
     first false is e more = (below (unsigned_abs n) is, more e)
 
+-- a kind of numbers is like itself
+pub same_kind : (n : Numbers) → AreLike n n
+same_kind n = record { to = λ ns f. f; from = λ ns f. f }
+
 module _ (bytes : List ℕ) (place : ℕ) where
   -- nothing is read yet
   pub leads_none : (kinds : List Kind) → Leads bytes place kinds place kinds []
-  leads_none kinds = record { leads = λ b s plan items here. subst (λ (l : List Line). Reached b s bytes place (kinds ++ plan) l) (sym (append-nil items)) here }
+  leads_none kinds = record { leads = λ whole plan items here. subst (λ (l : List Line). ReachedBy whole bytes place (kinds ++ plan) l) (sym (append-nil items)) here }
 
   -- one after the other
   pub leads_on : (kinds : List Kind) (next : ℕ) (left : List Kind) (read : List Line) (last : ℕ) (end : List Kind) (more : List Line) → Leads bytes place kinds next left read → Leads bytes next left last end more → Leads bytes place kinds last end (read ++ more)
   leads_on kinds next left read last end more first second = record {
-    leads = λ b s plan items here. subst (λ (l : List Line). Reached b s bytes last (end ++ plan) l) (append_assoc items read more) (second.leads b s plan (items ++ read) (first.leads b s plan items here));
+    leads = λ whole plan items here. subst (λ (l : List Line). ReachedBy whole bytes last (end ++ plan) l) (append_assoc items read more) (second.leads whole plan (items ++ read) (first.leads whole plan items here));
   }
 
   -- with more to come behind
   pub leads_before : (kinds : List Kind) (next : ℕ) (left : List Kind) (read : List Line) (behind : List Kind) → Leads bytes place kinds next left read → Leads bytes place (kinds ++ behind) next (left ++ behind) read
   leads_before kinds next left read behind l = record {
-    leads = λ b s plan items here. subst (λ (p : List Kind). Reached b s bytes next p (items ++ read)) (sym (append_assoc left behind plan)) (l.leads b s (behind ++ plan) items (subst (λ (p : List Kind). Reached b s bytes place p items) (append_assoc kinds behind plan) here));
+    leads = λ whole plan items here. subst (λ (p : List Kind). ReachedBy whole bytes next p (items ++ read)) (sym (append_assoc left behind plan)) (l.leads whole (behind ++ plan) items (subst (λ (p : List Kind). ReachedBy whole bytes place p items) (append_assoc kinds behind plan) here));
   }
 
   pub halts_before : (kinds : List Kind) (stop : CertStop) (behind : List Kind) → Halts bytes place kinds stop → Halts bytes place (kinds ++ behind) stop
-  halts_before kinds stop behind h = record { halts = λ b s plan items here. h.halts b s (behind ++ plan) items (subst (λ (p : List Kind). Reached b s bytes place p items) (append_assoc kinds behind plan) here) }
+  halts_before kinds stop behind h = record { halts = λ whole plan items here. h.halts whole (behind ++ plan) items (subst (λ (p : List Kind). ReachedBy whole bytes place p items) (append_assoc kinds behind plan) here) }
 
   -- halts behind lines that were read
   pub halts_later : (kinds : List Kind) (next : ℕ) (left : List Kind) (read : List Line) (stop : CertStop) → Leads bytes place kinds next left read → Halts bytes next left stop → Halts bytes place kinds stop
-  halts_later kinds next left read stop l h = record { halts = λ b s plan items here. h.halts b s plan (items ++ read) (l.leads b s plan items here) }
+  halts_later kinds next left read stop l h = record { halts = λ whole plan items here. h.halts whole plan (items ++ read) (l.leads whole plan items here) }
 
   -- kinds of lines, and behind them others
   pub leads_then : (kinds : List Kind) (next : ℕ) (read : List Line) (others : List Kind) (last : ℕ) (more : List Line) → Leads bytes place kinds next [] read → Leads bytes next others last [] more → Leads bytes place (kinds ++ others) last [] (read ++ more)
@@ -61,15 +65,15 @@ module _ (bytes : List ℕ) (place : ℕ) where
   halts_then kinds next read others stop first halt = halts_later (kinds ++ others) next others read stop (leads_before kinds next [] read others first) halt
 
   pub halts_memory : (kinds : List Kind) → Halts bytes place kinds Memory
-  halts_memory kinds = record { halts = λ b s plan items here. tt }
+  halts_memory kinds = record { halts = λ whole plan items here. tt }
 
   module _ (word : List ℕ) (n : Numbers) where
     pub line_missing : IsLine (drop place bytes) → Halts bytes place (kind word n ∷ []) (Form place)
-    line_missing none = record { halts = λ b s plan items here. reached-missing b s bytes place (kind word n) plan items here none }
+    line_missing none = record { halts = λ whole plan items here. reached-missing bytes place (kind word n) plan items here none }
 
     pub line_none : (size : ℕ) → IsLine (take size (drop place bytes)) → drop size (drop place bytes) ≡ 10 ∷ drop (size + 1) (drop place bytes) → ((ns : List ℤ) → take size (drop place bytes) ≡ word ++ numbers_text ns → ⊥) → Halts bytes place (kind word n ∷ []) (Form place)
     line_none size is_line feed none = record {
-      halts = λ b s plan items here. reached-refused b s bytes place (kind word n) plan items here size is_line feed
+      halts = λ whole plan items here. reached-refused bytes place (kind word n) plan items here size is_line feed
           (λ l fits e. none l.numbers (e ∙ ap (λ (w : List ℕ). w ++ numbers_text l.numbers) fits.word));
     }
 
@@ -78,14 +82,14 @@ module _ (bytes : List ℕ) (place : ℕ) where
       line_next inside fit =
           let same : kept ≡ at.numbers = at.same inside in
           record {
-            leads = λ b s plan items here. subst (λ (p : ℕ). Reached b s bytes p (after_numbers n kept ++ plan) (items ++ line word kept ∷ [])) (sym at.next_is)
-                (reached-next b s bytes place (kind word n) plan items here at.size at.is_line at.feed (line word kept)
+            leads = λ whole plan items here. subst (λ (p : ℕ). ReachedBy whole bytes p (after_numbers n kept ++ plan) (items ++ line word kept ∷ [])) (sym at.next_is)
+                (reached-next bytes place (kind word n) plan items here at.size at.is_line at.feed (line word kept)
                 (record { word = refl; numbers = fit }) (at.spelled ∙ ap (λ (ns : List ℤ). word ++ numbers_text ns) (sym same)) (ap any_out same ∙ at.out ∙ inside) at.inside);
           }
 
       pub line_unfit : ((ns : List ℤ) → length kept ≡ length ns → (beyond ≡ false → kept ≡ ns) → any_out ns ≡ beyond → FitNumbers n ns → ⊥) → Halts bytes place (kind word n ∷ []) (Form place)
       line_unfit other = record {
-        halts = λ b s plan items here. reached-refused b s bytes place (kind word n) plan items here at.size at.is_line at.feed
+        halts = λ whole plan items here. reached-refused bytes place (kind word n) plan items here at.size at.is_line at.feed
             (λ l fits e. let same : at.numbers ≡ l.numbers = one at.numbers l.numbers (sym at.spelled ∙ e ∙ ap (λ (w : List ℕ). w ++ numbers_text l.numbers) fits.word) in
             other at.numbers at.count at.same at.out (subst (FitNumbers n) (sym same) fits.numbers));
       }
@@ -95,7 +99,7 @@ module _ (bytes : List ℕ) (place : ℕ) where
 
       pub line_out : beyond ≡ true → ((ns : List ℤ) → length kept ≡ length ns → FitNumbers n ns) → Halts bytes place (kind word n ∷ []) (Range place)
       line_out out fit = record {
-        halts = λ b s plan items here. reached-beyond b s bytes place (kind word n) plan items here at.size at.is_line at.feed (line word at.numbers)
+        halts = λ whole plan items here. reached-beyond bytes place (kind word n) plan items here at.size at.is_line at.feed (line word at.numbers)
             (record { word = refl; numbers = fit at.numbers at.count }) at.spelled (at.out ∙ out);
       }
 

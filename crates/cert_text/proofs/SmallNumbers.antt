@@ -7,11 +7,11 @@ use Rattle.std.proofs.Math.IntN.{nat_abs}
 use Rattle.std.specs.Prelude.{ℤ, pos, negsuc, codes, ◌≤ℤ◌, ◌<ℤ◌, ◌^◌, nat_le, ◌||◌, not}
 use Rattle.std.proofs.lemmas.Int.{ints}
 use Rattle.std.proofs.lemmas.List.{take_more}
-use Rattle.cert_form.specs.Lines.{Numbers, kind, counted, members, AreNumbers, Rise, FitNumbers, rows_plan}
+use Rattle.cert_form.specs.Lines.{Numbers, kind, chosen, counted, members, AreNumbers, Rise, FitNumbers}
 use Rattle.text_lines.specs.Range.{any_out, is_out}
 use Rattle.cert_form.specs.CertText.{line, as_numbers, AtMost, IsChoice, AreMembers}
 use Rattle.cert_form.proofs.Written.{long_numbers}
-use Rattle.cert_text.specs.Readers.{IsLineAt, AreChosen, Leads, Halts, LeadsChosen, IsCount, AreSmall}
+use Rattle.cert_text.specs.Readers.{IsLineAt, Leads, Halts, HaltsLike, LeadsLike, LeadsCounted, HaltsCounted, IsCount, AreSmall}
 use Rattle.cert_text.specs.declared.stop.CertStop.TheVariants.{Form}
 use Rattle.cert_text.proofs.PlanSteps.{line_next, line_unfit}
 
@@ -53,11 +53,11 @@ pub is_choice : (bidders : ℕ) (ns : List ℕ) → AreNumbers 65535 (as_numbers
 is_choice bidders ns all many = (many, at_most ns all)
 
 module _ (bytes : List ℕ) (place bidders : ℕ) (ns : List ℕ) (next : ℕ) where
-  pub choice_next : IsLineAt bytes place (codes "choice") (as_numbers ns) false next → AreNumbers 65535 (as_numbers ns) → length ns ≡ bidders → LeadsChosen bytes place bidders next ns
-  choice_next at all many = λ n is. line_next bytes place (codes "choice") n (as_numbers ns) false next at refl (is.from (as_numbers ns) (long_numbers ns ∙ many, all))
+  pub each_next : (word : List ℕ) → IsLineAt bytes place word (as_numbers ns) false next → AreNumbers 65535 (as_numbers ns) → length ns ≡ bidders → LeadsLike bytes place word (chosen bidders) next (as_numbers ns)
+  each_next word at all many = λ n is. line_next bytes place word n (as_numbers ns) false next at refl (is.from (as_numbers ns) (long_numbers ns ∙ many, all))
 
-  pub choice_other : IsLineAt bytes place (codes "choice") (as_numbers ns) false next → (length ns ≡ bidders → ⊥) → (n : Numbers) → AreChosen bidders n → Halts bytes place (kind (codes "choice") n ∷ []) (Form place)
-  choice_other at other n is = line_unfit bytes place (codes "choice") n (as_numbers ns) false next at (λ ms many same out fit. other (sym (long_numbers ns) ∙ many ∙ (is.to ms fit).0))
+  pub each_other : (word : List ℕ) → IsLineAt bytes place word (as_numbers ns) false next → (length ns ≡ bidders → ⊥) → HaltsLike bytes place word (chosen bidders) (Form place)
+  each_other word at other = λ n is. line_unfit bytes place word n (as_numbers ns) false next at (λ ms many same out fit. other (sym (long_numbers ns) ∙ many ∙ (is.to ms fit).0))
 
   pub members_next : IsLineAt bytes place (codes "row") (as_numbers ns) false next → 0 < length ns → AreMembers bidders 0 ns → Leads bytes place (kind (codes "row") (members bidders) ∷ []) next [] (line (codes "row") (as_numbers ns) ∷ [])
   members_next at some are = line_next bytes place (codes "row") (members bidders) (as_numbers ns) false next at refl (omega (arith, some, long_numbers ns), rises 0 ns are)
@@ -75,13 +75,13 @@ module _ (bytes : List ℕ) (place bidders : ℕ) (ns : List ℕ) (next : ℕ) w
       are before [] rise = tt
       are before (n ∷ ns) rise = (omega (arith, ints, rise.0), omega (arith, ints, rise.1), are n ns rise.2)
 
-  pub count_next : IsLineAt bytes place (codes "rows") (as_numbers ns) false next → (count : ℕ) → IsCount bidders ns count → Leads bytes place (kind (codes "rows") (counted bidders) ∷ []) next (rows_plan bidders count) (line (codes "rows") (pos count ∷ []) ∷ [])
-  count_next at count is =
+  pub count_next : IsLineAt bytes place (codes "rows") (as_numbers ns) false next → (count : ℕ) → IsCount bidders ns count → LeadsCounted bytes place bidders next count
+  count_next at count is = λ n like.
       let one : as_numbers ns ≡ pos count ∷ [] = ap as_numbers is.0 in
-      line_next bytes place (codes "rows") (counted bidders) (pos count ∷ []) false next (subst (λ (l : List ℤ). IsLineAt bytes place (codes "rows") l false next) one at) refl (count, refl, is.1, is.2)
+      line_next bytes place (codes "rows") n (pos count ∷ []) false next (subst (λ (l : List ℤ). IsLineAt bytes place (codes "rows") l false next) one at) refl (like.from (pos count ∷ []) (count, refl, is.1, is.2))
 
-  pub count_other : IsLineAt bytes place (codes "rows") (as_numbers ns) false next → (FitNumbers (counted bidders) (as_numbers ns) → ⊥) → Halts bytes place (kind (codes "rows") (counted bidders) ∷ []) (Form place)
-  count_other at other = line_unfit bytes place (codes "rows") (counted bidders) (as_numbers ns) false next at (λ ms many same out fit. other (subst (FitNumbers (counted bidders)) (sym (same refl)) fit))
+  pub count_other : IsLineAt bytes place (codes "rows") (as_numbers ns) false next → (FitNumbers (counted bidders) (as_numbers ns) → ⊥) → HaltsCounted bytes place bidders (Form place)
+  count_other at other = λ n like. line_unfit bytes place (codes "rows") n (as_numbers ns) false next at (λ ms many same out fit. other (subst (FitNumbers (counted bidders)) (sym (same refl)) (like.to ms fit)))
 
   -- numbers that fit these kinds are small
   pub members_small : bidders ≤ 65535 → (ms : List ℤ) → FitNumbers (members bidders) ms → AreNumbers 65535 ms

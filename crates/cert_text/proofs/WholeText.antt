@@ -16,10 +16,10 @@ use Rattle.cert_form.proofs.Reading.{reached-start, reached-end, reached-more, r
 use Rattle.cert_text.specs.declared.certificate.CertRow.{CertRow}
 use Rattle.cert_text.specs.declared.certificate.WithoutPart.{WithoutPart}
 use Rattle.cert_text.specs.declared.stop.CertStop.{CertStop}
-use Rattle.cert_text.specs.declared.stop.CertStop.TheVariants.{Form}
+use Rattle.cert_text.specs.declared.stop.CertStop.TheVariants.{Form, Range, Memory}
 use Rattle.cert_text.specs.Parts.{without_value, row_value, cert_from}
 use Rattle.cert_text.specs.StagePlans.{opening_plan, opening_lines, winning_kind, winning_lines, payment_plan, payment_lines, closing_plan, closing_lines}
-use Rattle.cert_text.specs.Stops.{StopsAt}
+use Rattle.cert_text.specs.Stops.{StopsAt, StopsBy}
 use Rattle.cert_text.specs.Readers.{Leads, Halts, HaltsAtEnd}
 use Rattle.cert_text.proofs.PlanSteps.{leads_then, halts_before, halts_then}
 use Rattle.cert_text.proofs.TableSteps.{lines_width}
@@ -42,17 +42,23 @@ first_feed (c ∷ bytes) = first (c == 10) refl (first_feed bytes)
         more = omega arith
 
 pub end_halts : (bytes : List ℕ) (place : ℕ) → place < length bytes → HaltsAtEnd bytes place (Form place)
-end_halts bytes place lt b s items here = elim (first_feed (drop place bytes)) [
-  | inl none ↦ reached-tail b s bytes place items here none (omega (arith, length-drop place bytes, lt))
-  | inr found ↦ reached-more b s bytes place items here found.0 found.1 found.2
+end_halts bytes place lt whole items here = elim (first_feed (drop place bytes)) [
+  | inl none ↦ reached-tail bytes place items here none (omega (arith, length-drop place bytes, lt))
+  | inr found ↦ reached-more bytes place items here found.0 found.1 found.2
 ]
+
+-- what the bytes say as a text by the plan of a certificate, they say of a certificate
+cert_stops : (b s : ℕ) (bytes : List ℕ) (stop : CertStop) → StopsBy (cert_plan b s) bytes stop → StopsAt b s bytes stop
+cert_stops b s bytes (Form place) h = h
+cert_stops b s bytes (Range place) h = h
+cert_stops b s bytes Memory h = tt
 
 module _ (b s : ℕ) (bytes : List ℕ) where
   start : Reached b s bytes 0 (cert_plan b s ++ []) []
   start = subst (λ (p : List Kind). Reached b s bytes 0 p []) (sym (append-nil (cert_plan b s))) (reached-start b s bytes)
 
   stops : (stop : CertStop) → Halts bytes 0 (cert_plan b s) stop → StopsAt b s bytes stop
-  stops stop h = h.halts b s [] [] start
+  stops stop h = cert_stops b s bytes stop (h.halts (cert_plan b s) [] [] start)
 
   pub version_stops : (stop : CertStop) → Halts bytes 0 (version_plan b s) stop → StopsAt b s bytes stop
   version_stops stop h = stops stop (halts_before bytes 0 (version_plan b s) stop (body_plan b s) h)
@@ -95,13 +101,13 @@ module _ (b s : ℕ) (bytes : List ℕ) where
             whole = leads_then bytes 0 (version_plan b s) n0 (version_lines b s) (body_plan b s) n4 (body_lines value_read) zeroth body
 
             reached : Reached b s bytes n4 [] (version_lines b s ++ body_lines value_read)
-            reached = whole.leads b s [] [] start
+            reached = whole.leads (cert_plan b s) [] [] start
 
             pub end_stops : (stop : CertStop) → HaltsAtEnd bytes n4 stop → StopsAt b s bytes stop
-            end_stops stop h = h b s (version_lines b s ++ body_lines value_read) reached
+            end_stops stop h = cert_stops b s bytes stop (h (cert_plan b s) (version_lines b s ++ body_lines value_read) reached)
 
             pub text_read : IsCertificate b s value_read → length (drop n4 bytes) ≡ 0 → IsTextOf (IsCertText b s) lines bytes (cert_lines value_read)
-            text_read is none = reached-end b s bytes n4 (cert_lines value_read) (subst (λ (ls : List Line). Reached b s bytes n4 [] (ls ++ body_lines value_read)) (sym (version_is b s value_read is)) reached) none
+            text_read is none = reached-end bytes n4 (cert_lines value_read) (subst (λ (ls : List Line). Reached b s bytes n4 [] (ls ++ body_lines value_read)) (sym (version_is b s value_read is)) reached) none
 
 -- what was read of each stage makes a certificate
 pub made : (b s : ℕ) (den value : ℤ) (choice : List ℕ) (table : List (List ℤ)) (withouts : List WithoutPart) (pay : List ℤ) (rows : List CertRow) (lowered : List (List ℤ)) → InRange den × InRange value → IsChoice b choice → IsTable b s table

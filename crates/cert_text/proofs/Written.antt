@@ -55,18 +55,19 @@ bytes_are : (p : ℕ) (ls : List Line) → text_of (placed spell over p ls) ≡ 
 bytes_are p [] = refl
 bytes_are p (l ∷ ls) = ap (λ (b : List ℕ). spell l ++ 10 ∷ b) (bytes_are (next_place spell over p l) ls)
 
+-- the numbers of a table are in range
+pub lines_range : (s : ℕ) (table : List (List ℤ)) → AreTableLines s table → IsTableInRange table
+lines_range s [] h = tt
+lines_range s (t ∷ table) h = (h.1, lines_range s table h.2)
+
 -- what a certificate keeps, for its writer
 module _ (b s : ℕ) where
-  lines_range : (table : List (List ℤ)) → AreTableLines s table → IsTableInRange table
-  lines_range [] h = tt
-  lines_range (t ∷ table) h = (h.1, lines_range table h.2)
-
   parts_range : (j : ℕ) (choice : List ℕ) (parts : List WithoutPart) → AreWithouts b s j choice (map without_value parts) → ArePartsInRange parts
   parts_range j [] [] h = tt
   parts_range j [] (w ∷ ws) h = absurd h
   parts_range j (zero ∷ ns) ws h = parts_range (suc j) ns ws h
   parts_range j (suc n ∷ ns) [] h = tt
-  parts_range j (suc n ∷ ns) (w ∷ ws) h = (lines_range w.table h.0.table.1, parts_range (suc j) ns ws h.1)
+  parts_range j (suc n ∷ ns) (w ∷ ws) h = (lines_range s w.table h.0.table.1, parts_range (suc j) ns ws h.1)
 
   rows_range : (rows : List CertRow) → AreRows b (map row_value rows) → AllByRecursion IsRowInRange rows
   rows_range [] h = tt
@@ -74,10 +75,10 @@ module _ (b s : ℕ) where
 
   module _ (c : Certificate) (is : IsCertificate b s (cert_value c)) where
     pub table_range : IsTableInRange c.table
-    table_range = lines_range c.table is.table.1
+    table_range = lines_range s c.table is.table.1
 
     pub lowered_range : IsTableInRange c.lowered
-    lowered_range = lines_range c.lowered is.lowered.1
+    lowered_range = lines_range s c.lowered is.lowered.1
 
     pub withouts_range : ArePartsInRange c.withouts
     withouts_range = parts_range 1 c.choice c.withouts is.withouts

@@ -1,12 +1,12 @@
 -- What a line is read as, and where the reader then stands.
-use Rattle.std.specs.Prelude.{◌≡◌, ℕ, ◌+◌, ◌≤◌, ◌<◌, Bool, false, List, [], ◌∷◌, codes, ◌++◌, length, take, drop, ℤ}
+use Rattle.std.specs.Prelude.{◌≡◌, ℕ, ◌+◌, ◌≤◌, ◌<◌, Bool, false, List, [], ◌∷◌, codes, ◌++◌, length, take, drop, ℤ, pos}
 use Rattle.line_text.specs.LineText.{IsLine}
 use Rattle.text_lines.specs.Numeral.{numbers_text}
 use Rattle.cert_form.specs.Lines.{Line, Kind, Numbers, chosen, counted, kind, FitNumbers, AreNumbers, after_numbers}
 use Rattle.text_lines.specs.Range.{any_out}
-use Rattle.cert_form.specs.CertText.{as_numbers, choice_line}
-use Rattle.cert_form.specs.Reading.{Reached}
-use Rattle.cert_text.specs.Stops.{StopsAt}
+use Rattle.cert_form.specs.CertText.{as_numbers, line}
+use Rattle.cert_form.specs.Reading.{ReachedBy}
+use Rattle.cert_text.specs.Stops.{StopsBy}
 use Rattle.cert_text.specs.declared.stop.CertStop.{CertStop}
 
 -- at the place stands a line of the word and numbers, of which this is kept
@@ -22,33 +22,52 @@ pub record IsLineAt (bytes : List ℕ) (place : ℕ) (word : List ℕ) (items : 
   pub out : any_out numbers ≡ beyond
   pub same : beyond ≡ false → items ≡ numbers
 
--- With these kinds of lines to come at the place, the lines from there on lead to the next place, where those kinds are left.
+-- With these kinds of lines to come at the place, in a text by any plan, the lines from there on lead to the next place, where
+-- those kinds are left.
 pub record Leads (bytes : List ℕ) (place : ℕ) (kinds : List Kind) (next : ℕ) (left : List Kind) (read : List Line) : Type 0 where
-  pub leads : (b s : ℕ) (plan : List Kind) (items : List Line) → Reached b s bytes place (kinds ++ plan) items → Reached b s bytes next (left ++ plan) (items ++ read)
+  pub leads : (whole plan : List Kind) (items : List Line) → ReachedBy whole bytes place (kinds ++ plan) items → ReachedBy whole bytes next (left ++ plan) (items ++ read)
 
 -- With these kinds of lines to come at the place, this is the stop.
 pub record Halts (bytes : List ℕ) (place : ℕ) (kinds : List Kind) (stop : CertStop) : Type 0 where
-  pub halts : (b s : ℕ) (plan : List Kind) (items : List Line) → Reached b s bytes place (kinds ++ plan) items → StopsAt b s bytes stop
+  pub halts : (whole plan : List Kind) (items : List Line) → ReachedBy whole bytes place (kinds ++ plan) items → StopsBy whole bytes stop
 
 -- With nothing to come at the place, this is the stop.
 abbrev pub HaltsAtEnd : List ℕ → ℕ → CertStop → Type 0
-HaltsAtEnd bytes place stop = (b s : ℕ) (items : List Line) → Reached b s bytes place [] items → StopsAt b s bytes stop
+HaltsAtEnd bytes place stop = (whole : List Kind) (items : List Line) → ReachedBy whole bytes place [] items → StopsBy whole bytes stop
 
 -- a line of the word that is to come at the place isn't there
 abbrev pub IsRefused : List ℕ → ℕ → List ℕ → CertStop → Type 0
 IsRefused bytes place word stop = (n : Numbers) → Halts bytes place (kind word n ∷ []) stop
 
+-- numbers of the one kind are those of the other
+pub record AreLike (m n : Numbers) : Type 0 where
+  pub to : (ns : List ℤ) → FitNumbers n ns → FitNumbers m ns
+  pub from : (ns : List ℤ) → FitNumbers m ns → FitNumbers n ns
+
+-- a line of the word and these numbers is read at the place, whatever such a line puts into the plan
+abbrev pub LeadsLike : List ℕ → ℕ → List ℕ → Numbers → ℕ → List ℤ → Type 0
+LeadsLike bytes place word m next ns = (n : Numbers) → AreLike m n → Leads bytes place (kind word n ∷ []) next (after_numbers n ns) (line word ns ∷ [])
+
+abbrev pub HaltsLike : List ℕ → ℕ → List ℕ → Numbers → CertStop → Type 0
+HaltsLike bytes place word m stop = (n : Numbers) → AreLike m n → Halts bytes place (kind word n ∷ []) stop
+
 -- numbers of this kind are those of a choice
-pub record AreChosen (bidders : ℕ) (n : Numbers) : Type 0 where
-  pub to : (ns : List ℤ) → FitNumbers n ns → FitNumbers (chosen bidders) ns
-  pub from : (ns : List ℤ) → FitNumbers (chosen bidders) ns → FitNumbers n ns
+abbrev pub AreChosen : ℕ → Numbers → Type 0
+AreChosen bidders n = AreLike (chosen bidders) n
 
 -- a choice of so many bidders is read at the place, whether it is the head's or another
 abbrev pub LeadsChosen : List ℕ → ℕ → ℕ → ℕ → List ℕ → Type 0
-LeadsChosen bytes place bidders next choice = (n : Numbers) → AreChosen bidders n → Leads bytes place (kind (codes "choice") n ∷ []) next (after_numbers n (as_numbers choice)) (choice_line choice ∷ [])
+LeadsChosen bytes place bidders next choice = LeadsLike bytes place (codes "choice") (chosen bidders) next (as_numbers choice)
 
 abbrev pub HaltsChosen : List ℕ → ℕ → ℕ → CertStop → Type 0
-HaltsChosen bytes place bidders stop = (n : Numbers) → AreChosen bidders n → Halts bytes place (kind (codes "choice") n ∷ []) stop
+HaltsChosen bytes place bidders stop = HaltsLike bytes place (codes "choice") (chosen bidders) stop
+
+-- a count of rows is read at the place, whatever its rows are
+abbrev pub LeadsCounted : List ℕ → ℕ → ℕ → ℕ → ℕ → Type 0
+LeadsCounted bytes place bidders next count = LeadsLike bytes place (codes "rows") (counted bidders) next (pos count ∷ [])
+
+abbrev pub HaltsCounted : List ℕ → ℕ → ℕ → CertStop → Type 0
+HaltsCounted bytes place bidders stop = HaltsLike bytes place (codes "rows") (counted bidders) stop
 
 -- a line of the word and numbers of 0 to 65,535 that is to come at the place isn't there
 abbrev pub HaltsSmall : List ℕ → ℕ → List ℕ → CertStop → Type 0

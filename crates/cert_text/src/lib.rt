@@ -20,3 +20,15 @@ pub use read::read_cert;
 pub use stop::CertStop;
 pub use version::has_first_version;
 pub use write::write_cert;
+
+// What the text of another certificate by a plan is read and written with.
+pub use read::end_at;
+pub use read::fields::{
+    ChoiceRead, CountRead, MembersRead, SignedRead, SmallRead, take_choice, take_count, take_each,
+    take_members, take_signed, take_these,
+};
+pub use read::parts::take_winner;
+pub use read::rows::{PairRead, take_pair};
+pub use read::stages::{Opening, take_closing, take_opening};
+pub use read::tables::{TableRead, take_named};
+pub use write::{add_choice, add_number_line, add_signed_line, add_table};

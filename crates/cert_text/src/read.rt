@@ -43,7 +43,9 @@ pub fn read_cert(alloc: Global, bytes: &[u8], shape: Shape) -> Result<Certificat
 }
 
 /// Nothing stands at the place.
-fn end_at(bytes: &[u8], place: usize) -> Result<(), CertStop>
+///
+/// Errors: `Form` with the place where something does.
+pub fn end_at(bytes: &[u8], place: usize) -> Result<(), CertStop>
     requires { place ≤ length bytes.now }
     ensures ok { OnOk result (length (drop place bytes.now) ≡ 0) }
     ensures halts { IfErr result (HaltsAtEnd bytes.now place) }

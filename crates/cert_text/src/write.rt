@@ -106,8 +106,8 @@ fn add_row(text: &mut Text, row: &CertRow) -> Result<(), AllocError>
     Ok(())
 }
 
-// The word of a table and its lines.
-fn add_table(text: &mut Text, word: &[u8], table: &Grid) -> Result<(), AllocError>
+/// Adds the word of a table and its lines. The only error is want of memory.
+pub fn add_table(text: &mut Text, word: &[u8], table: &Grid) -> Result<(), AllocError>
     requires { IsTableInRange table.now }
     ensures { OnOk result (Adds text.old text.new (lines_of_table word.now table.now)) }
 {
@@ -118,15 +118,16 @@ fn add_table(text: &mut Text, word: &[u8], table: &Grid) -> Result<(), AllocErro
     Ok(())
 }
 
-fn add_choice(text: &mut Text, choice: &Choice) -> Result<(), AllocError>
+/// Adds the line of a choice. The only error is want of memory.
+pub fn add_choice(text: &mut Text, choice: &Choice) -> Result<(), AllocError>
     ensures { OnOk result (Adds text.old text.new (choice_line choice.now ∷ [])) }
 {
     add_number_line(text, b"choice", choice.numbers())?;
     Ok(())
 }
 
-// A word and numbers with their signs.
-fn add_signed_line(text: &mut Text, word: &[u8], numbers: &[i128]) -> Result<(), AllocError>
+/// Adds a line of a word and numbers with their signs. The only error is want of memory.
+pub fn add_signed_line(text: &mut Text, word: &[u8], numbers: &[i128]) -> Result<(), AllocError>
     requires { AllInRange numbers.now }
     ensures { OnOk result (Adds text.old text.new (line word.now numbers.now ∷ [])) }
 {
@@ -136,8 +137,8 @@ fn add_signed_line(text: &mut Text, word: &[u8], numbers: &[i128]) -> Result<(),
     Ok(())
 }
 
-// A word and numbers of bidders or bids.
-fn add_number_line(text: &mut Text, word: &[u8], numbers: &[u16]) -> Result<(), AllocError>
+/// Adds a line of a word and numbers of bidders or bids. The only error is want of memory.
+pub fn add_number_line(text: &mut Text, word: &[u8], numbers: &[u16]) -> Result<(), AllocError>
     ensures { OnOk result (Adds text.old text.new (line word.now (as_numbers numbers.now) ∷ [])) }
 {
     text.add(word)?;

@@ -1,10 +1,10 @@
 // The kinds of lines of a certificate.
 ghost use Rattle.std.specs.Prelude.{◌≡◌, ◌≤◌, ◌<◌, ◌↔◌, ◌∷◌, length, codes, IsTrue, IfOk, IfErr, MatchOption, [], false, pos};
-ghost use Rattle.cert_form.specs.Lines.{kind, these, signed, counted, members, rows_plan, AreNumbers};
+ghost use Rattle.cert_form.specs.Lines.{kind, these, signed, chosen, members, AreNumbers};
 ghost use Rattle.text_lines.specs.Range.{any_out};
 ghost use Rattle.cert_form.specs.CertText.{line, as_numbers, IsChoice, AreMembers};
 ghost use Rattle.text_lines.specs.Range.{AllInRange};
-ghost use Rattle.cert_text.specs.Readers.{IsLineAt, Leads, Halts, LeadsChosen, HaltsChosen, HaltsSmall, IsCount, IsNoCount, AreSmall, AreNotSmall};
+ghost use Rattle.cert_text.specs.Readers.{IsLineAt, Leads, Halts, LeadsLike, HaltsLike, LeadsChosen, HaltsChosen, LeadsCounted, HaltsCounted, HaltsSmall, IsCount, IsNoCount, AreSmall, AreNotSmall};
 
 use crate::CertStop;
 use crate::read::lines::{LineNumbers, take_line};
@@ -14,34 +14,53 @@ use wide_num::NumList;
 
 /// Signed numbers that were read, and where the next line begins.
 #[derive(Drop)]
-pub(crate) struct SignedRead {
-    pub(crate) numbers: NumList,
-    pub(crate) next: usize,
+pub struct SignedRead {
+    /// The numbers.
+    pub numbers: NumList,
+    /// The byte where the next line begins.
+    pub next: usize,
+}
+
+/// Numbers that were read, each at most 65,535, and where the next line begins.
+#[derive(Drop)]
+pub struct SmallRead {
+    /// The numbers.
+    pub numbers: Numbers,
+    /// The byte where the next line begins.
+    pub next: usize,
 }
 
 /// A choice that was read, and where the next line begins.
 #[derive(Drop)]
-pub(crate) struct ChoiceRead {
-    pub(crate) choice: Choice,
-    pub(crate) next: usize,
+pub struct ChoiceRead {
+    /// The choice.
+    pub choice: Choice,
+    /// The byte where the next line begins.
+    pub next: usize,
 }
 
 /// The members of a row that were read, and where the next line begins.
 #[derive(Drop)]
-pub(crate) struct MembersRead {
-    pub(crate) members: Numbers,
-    pub(crate) next: usize,
+pub struct MembersRead {
+    /// The members.
+    pub members: Numbers,
+    /// The byte where the next line begins.
+    pub next: usize,
 }
 
 /// How many rows there are, and where the next line begins.
 #[derive(Clone, Copy)]
-pub(crate) struct CountRead {
-    pub(crate) count: usize,
-    pub(crate) next: usize,
+pub struct CountRead {
+    /// How many rows come behind the line.
+    pub count: usize,
+    /// The byte where the next line begins.
+    pub next: usize,
 }
 
 /// Reads a line of the word and just these numbers, all in range. Gives the place of the next line.
-pub(crate) fn take_these(
+///
+/// Errors: those of the line, as in [`read_cert`](crate::read_cert).
+pub fn take_these(
     alloc: Global,
     bytes: &[u8],
     place: usize,
@@ -63,7 +82,9 @@ pub(crate) fn take_these(
 }
 
 /// Reads a line of the word and so many signed numbers.
-pub(crate) fn take_signed(
+///
+/// Errors: those of the line, as in [`read_cert`](crate::read_cert).
+pub fn take_signed(
     alloc: Global,
     bytes: &[u8],
     place: usize,
@@ -100,8 +121,33 @@ fn is_just(line: &LineNumbers, numbers: &[i128]) -> bool
     line.numbers.items() == numbers
 }
 
+/// Reads a line of the word and one number of 0 to 65,535 for each bidder.
+///
+/// Errors: those of the line, as in [`read_cert`](crate::read_cert).
+pub fn take_each(
+    alloc: Global,
+    bytes: &[u8],
+    place: usize,
+    word: &[u8],
+    bidders: u16,
+) -> Result<SmallRead, CertStop>
+    requires { place ≤ length bytes.now }
+    ensures leads { IfOk result (λ r. LeadsLike bytes.now place word.now (chosen bidders) r.next (as_numbers r.numbers)) }
+    ensures numbers { IfOk result (λ r. IsChoice bidders r.numbers) }
+    ensures within { IfOk result (λ r. r.next ≤ length bytes.now) }
+    ensures halts { IfErr result (HaltsLike bytes.now place word.now (chosen bidders)) }
+{
+    let read = take_small(alloc, bytes, place, word, bidders as usize)?;
+    if read.numbers.items().len() != bidders as usize {
+        return Err(CertStop::Form(place as u64));
+    }
+    Ok(read)
+}
+
 /// Reads a line of a choice of so many bidders.
-pub(crate) fn take_choice(
+///
+/// Errors: those of the line, as in [`read_cert`](crate::read_cert).
+pub fn take_choice(
     alloc: Global,
     bytes: &[u8],
     place: usize,
@@ -113,10 +159,7 @@ pub(crate) fn take_choice(
     ensures within { IfOk result (λ r. r.next ≤ length bytes.now) }
     ensures halts { IfErr result (HaltsChosen bytes.now place bidders) }
 {
-    let read = take_small(alloc, bytes, place, b"choice", bidders as usize)?;
-    if read.numbers.items().len() != bidders as usize {
-        return Err(CertStop::Form(place as u64));
-    }
+    let read = take_each(alloc, bytes, place, b"choice", bidders)?;
     Ok(ChoiceRead {
         choice: Choice::new(read.numbers),
         next: read.next,
@@ -124,7 +167,9 @@ pub(crate) fn take_choice(
 }
 
 /// Reads the line of a row's members.
-pub(crate) fn take_members(
+///
+/// Errors: those of the line, as in [`read_cert`](crate::read_cert).
+pub fn take_members(
     alloc: Global,
     bytes: &[u8],
     place: usize,
@@ -167,17 +212,19 @@ fn rise(bidders: u16, numbers: &[u16]) -> bool
 }
 
 /// Reads the line of the count of rows.
-pub(crate) fn take_count(
+///
+/// Errors: those of the line, as in [`read_cert`](crate::read_cert).
+pub fn take_count(
     alloc: Global,
     bytes: &[u8],
     place: usize,
     bidders: u16,
 ) -> Result<CountRead, CertStop>
     requires { place ≤ length bytes.now }
-    ensures leads { IfOk result (λ r. Leads bytes.now place (kind (codes "rows") (counted bidders) ∷ []) r.next (rows_plan bidders r.count) (line (codes "rows") (pos r.count ∷ []) ∷ [])) }
+    ensures leads { IfOk result (λ r. LeadsCounted bytes.now place bidders r.next r.count) }
     ensures few { IfOk result (λ r. r.count ≤ 10) }
     ensures within { IfOk result (λ r. r.next ≤ length bytes.now) }
-    ensures halts { IfErr result (Halts bytes.now place (kind (codes "rows") (counted bidders) ∷ [])) }
+    ensures halts { IfErr result (HaltsCounted bytes.now place bidders) }
 {
     let read = take_small(alloc, bytes, place, b"rows", 1)?;
     match row_count(bidders, read.numbers.items()) {
@@ -204,13 +251,6 @@ fn row_count(bidders: u16, numbers: &[u16]) -> Option<usize>
         return None;
     }
     Some(count as usize)
-}
-
-/// Numbers that were read, each at most 65,535, and where the next line begins.
-#[derive(Drop)]
-struct SmallRead {
-    numbers: Numbers,
-    next: usize,
 }
 
 /// Reads a line of the word and numbers of 0 to 65,535, as a rule so many.

@@ -108,8 +108,15 @@ fn take_part(
     })
 }
 
-/// Reads the line that begins the part without the winner.
-fn take_winner(alloc: Global, bytes: &[u8], place: usize, winner: u16) -> Result<usize, CertStop>
+/// Reads the line that begins the part without the winner. Gives the place of the next line.
+///
+/// Errors: those of the line, as in [`read_cert`](crate::read_cert).
+pub fn take_winner(
+    alloc: Global,
+    bytes: &[u8],
+    place: usize,
+    winner: u16,
+) -> Result<usize, CertStop>
     requires { place ≤ length bytes.now }
     ensures leads { IfOk result (λ next. Leads bytes.now place (without_kind winner ∷ []) next [] (without_line winner ∷ [])) }
     ensures within { IfOk result (λ next. next ≤ length bytes.now) }

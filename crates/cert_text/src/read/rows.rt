@@ -20,10 +20,13 @@ pub(crate) struct NumberRead {
 
 /// Two numbers that were read, and where the next line begins.
 #[derive(Clone, Copy)]
-struct PairRead {
-    first: i128,
-    second: i128,
-    next: usize,
+pub struct PairRead {
+    /// The first number.
+    pub first: i128,
+    /// The second number.
+    pub second: i128,
+    /// The byte where the next line begins.
+    pub next: usize,
 }
 
 /// A row that was read, and where the next line begins.
@@ -109,7 +112,14 @@ pub(crate) fn take_number(
 }
 
 /// Reads a line of the word and two signed numbers.
-fn take_pair(alloc: Global, bytes: &[u8], place: usize, word: &[u8]) -> Result<PairRead, CertStop>
+///
+/// Errors: those of the line, as in [`read_cert`](crate::read_cert).
+pub fn take_pair(
+    alloc: Global,
+    bytes: &[u8],
+    place: usize,
+    word: &[u8],
+) -> Result<PairRead, CertStop>
     requires { place ≤ length bytes.now }
     ensures leads { IfOk result (λ r. Leads bytes.now place (kind word.now (signed 2) ∷ []) r.next [] (line word.now (r.first ∷ r.second ∷ []) ∷ [])) }
     ensures range { IfOk result (λ r. InRange r.first × InRange r.second) }

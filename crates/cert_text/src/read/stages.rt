@@ -18,10 +18,13 @@ use wide_num::NumList;
 
 /// The denominator and the value, and where the next line begins.
 #[derive(Clone, Copy)]
-pub(crate) struct Opening {
-    pub(crate) den: i128,
-    pub(crate) value: i128,
-    pub(crate) next: usize,
+pub struct Opening {
+    /// The denominator.
+    pub den: i128,
+    /// The value.
+    pub value: i128,
+    /// The byte where the next line begins.
+    pub next: usize,
 }
 
 /// The winning choice with its table, and the same without each winner, and where the next line begins.
@@ -42,7 +45,9 @@ pub(crate) struct Payments {
 }
 
 /// Reads the denominator and the value.
-pub(crate) fn take_opening(alloc: Global, bytes: &[u8], place: usize) -> Result<Opening, CertStop>
+///
+/// Errors: those of the lines, as in [`read_cert`](crate::read_cert).
+pub fn take_opening(alloc: Global, bytes: &[u8], place: usize) -> Result<Opening, CertStop>
     requires { place ≤ length bytes.now }
     ensures leads { IfOk result (λ r. Leads bytes.now place opening_plan r.next [] (opening_lines r.den r.value)) }
     ensures range { IfOk result (λ r. InRange r.den × InRange r.value) }
@@ -110,7 +115,9 @@ pub(crate) fn take_payments(
 }
 
 /// Reads the table of lowered worths and the last line.
-pub(crate) fn take_closing(
+///
+/// Errors: those of the lines, as in [`read_cert`](crate::read_cert).
+pub fn take_closing(
     alloc: Global,
     bytes: &[u8],
     place: usize,

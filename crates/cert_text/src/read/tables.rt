@@ -11,13 +11,17 @@ use std::alloc::Global;
 
 /// A table that was read, and where the next line begins.
 #[derive(Drop)]
-pub(crate) struct TableRead {
-    pub(crate) table: Grid,
-    pub(crate) next: usize,
+pub struct TableRead {
+    /// The table.
+    pub table: Grid,
+    /// The byte where the next line begins.
+    pub next: usize,
 }
 
-/// Reads the line that names a table, and the table.
-pub(crate) fn take_named(
+/// Reads the line that names a table, and the table: one line more than bidders, each with a number for each state.
+///
+/// Errors: those of the lines, as in [`read_cert`](crate::read_cert).
+pub fn take_named(
     alloc: Global,
     bytes: &[u8],
     place: usize,

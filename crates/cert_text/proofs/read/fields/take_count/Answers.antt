@@ -1,7 +1,13 @@
-use Rattle.std.proofs.Common.{List, ℕ, subst}
-use Rattle.cert_text.specs.Readers.{IsCount, IsNoCount}
-use Rattle.cert_text.proofs.SmallNumbers.{count_next, count_other}
+use Rattle.std.proofs.Common.{List, ℕ, subst, rules}
+use Rattle.cert_text.specs.Readers.{HaltsCounted, IsCount, IsNoCount}
+use Rattle.cert_text.proofs.SmallNumbers.{count_next, count_other, count_small}
 use Rattle.cert_text.proofs.read.fields.take_count.Goals as goal
+
+pub returns-in_err-read-clause-halts : goal.returns-in_err-read-clause-halts
+returns-in_err-read-clause-halts c =
+    let h : HaltsCounted c.args.bytes.now c.args.place c.args.bidders c.in_err-read.field-0.0 =
+    λ n like. c.in_err-read.ensures.halts n (λ ms fit. count_small c.args.bytes.now c.args.place c.args.bidders c.args.bytes.now c.args.place ms (like.to ms fit)) in
+    search rules
 
 pub returns-in-Some-clause-leads : goal.returns-in-Some-clause-leads
 returns-in-Some-clause-leads c =
