@@ -51,7 +51,7 @@ next_part parts i part whole before behind inside item so_far step =
     one_more (λ (l : List WithoutPart). bytes_of (part_lines (map without_value l))) parts i part whole before behind (bytes_of (lines_of_part part)) inside split so_far step
 
 -- the bytes of lines are their text, wherever the lines begin
-bytes_are : (p : ℕ) (ls : List Line) → text_of (placed spell over p ls) ≡ bytes_of ls
+pub bytes_are : (p : ℕ) (ls : List Line) → text_of (placed spell over p ls) ≡ bytes_of ls
 bytes_are p [] = refl
 bytes_are p (l ∷ ls) = ap (λ (b : List ℕ). spell l ++ 10 ∷ b) (bytes_are (next_place spell over p l) ls)
 

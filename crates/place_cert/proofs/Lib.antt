@@ -1,0 +1,11 @@
+mod ThreePieces
+mod OrderedSteps
+mod PartSteps
+mod RowSteps
+mod WholeText
+mod Follows
+mod Ranges
+mod OneCertificate
+mod Sayings
+mod Written
+mod WorkedCases

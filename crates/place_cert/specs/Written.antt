@@ -1,0 +1,27 @@
+-- Lines of a placement certificate that are written together.
+use Rattle.std.specs.Prelude.{ℕ, List, [], ◌∷◌, length, codes, pos}
+use Rattle.std.specs.List.{AllByRecursion}
+use Rattle.cert_form.specs.CertText.{line, choice_line}
+use Rattle.cert_form.specs.Lines.{Line}
+use Rattle.cert_text.specs.Written.{IsTableInRange}
+use Rattle.wide_num.specs.Range.{InRange}
+use Rattle.place_cert.specs.PlaceText.{order_line}
+use Rattle.place_cert.specs.PlaceReads.{row_lines}
+use Rattle.place_cert.specs.declared.certificate.PlaceCertificate.{PlaceCertificate}
+use Rattle.place_cert.specs.declared.certificate.PlaceRow.{PlaceRow}
+use Rattle.place_cert.specs.declared.certificate.PlaceWithout.{PlaceWithout}
+
+-- the version, the denominator, the value and the head's choice
+abbrev pub lines_of_head : PlaceCertificate → List Line
+lines_of_head c =
+    line (codes "pcert") (pos 1 ∷ []) ∷ line (codes "den") (c.den ∷ []) ∷ line (codes "value") (c.value ∷ []) ∷ order_line c.order ∷ choice_line c.choice ∷ []
+
+-- how many rows there are, and the rows
+abbrev pub lines_of_rows : List PlaceRow → List Line
+lines_of_rows rows = line (codes "rows") (pos (length rows) ∷ []) ∷ row_lines rows
+
+abbrev pub ArePartsInRange : List PlaceWithout → Type 0
+ArePartsInRange parts = AllByRecursion (λ w. IsTableInRange w.table) parts
+
+abbrev pub IsRowInRange : PlaceRow → Type 0
+IsRowInRange r = InRange r.first × InRange r.second
