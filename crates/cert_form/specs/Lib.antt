@@ -1,4 +1,5 @@
 pub mod Certificate
+pub mod PlaceCert
 pub mod Plan
 pub mod Lines
 pub mod Reading

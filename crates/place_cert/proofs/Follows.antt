@@ -7,7 +7,7 @@ use Rattle.cert_form.specs.Lines.{Line, Kind, kind, these, signed, ordered_count
 use Rattle.cert_form.specs.CertText.{line, as_numbers, choice_line, table_lines}
 use Rattle.cert_form.proofs.PlanReads.{follows_both}
 use Rattle.cert_form.proofs.Written.{long_numbers, choice_fits, table_follows, rise, some_member}
-use Rattle.place_cert.specs.PlaceCert.{PlaceCertValue}
+use Rattle.cert_form.specs.PlaceCert.{PlaceCertValue}
 use Rattle.place_cert.specs.PlaceText.{HasSets, IsPlaceCertificate, AreOrderedRows, AreOrderedWithouts, order_line, ordered_part_lines, ordered_row_lines, place_lines}
 
 -- the lines of a table over sets

@@ -5,7 +5,7 @@ use Rattle.cert_form.specs.Certificate.{CertValue, WithoutValue, RowValue}
 use Rattle.cert_form.specs.Lines.{Line}
 use Rattle.cert_form.specs.CertText.{line, as_numbers, choice_line, table_lines}
 use Rattle.cert_form.proofs.OneCertificate.{cut, numbers_same, numbers_of, table_same, table_long}
-use Rattle.place_cert.specs.PlaceCert.{PlaceCertValue}
+use Rattle.cert_form.specs.PlaceCert.{PlaceCertValue}
 use Rattle.place_cert.specs.PlaceText.{IsPlaceCertificate, AreOrderedRows, AreOrderedWithouts, order_line, ordered_part_lines, ordered_row_lines, place_lines}
 
 -- parts and their orders are the same

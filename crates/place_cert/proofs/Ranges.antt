@@ -7,7 +7,7 @@ use Rattle.cert_form.specs.Lines.{IsPlacesText, lines}
 use Rattle.cert_form.specs.CertText.{line, as_numbers, choice_line, table_lines, IsChoice}
 use Rattle.cert_form.proofs.Ranges.{Within, within_append, no_excess, all_in_range, one_in_range, small_numbers, table_within, low_members}
 use Rattle.text_lines.specs.Range.{any_out}
-use Rattle.place_cert.specs.PlaceCert.{PlaceCertValue}
+use Rattle.cert_form.specs.PlaceCert.{PlaceCertValue}
 use Rattle.place_cert.specs.PlaceText.{IsPlaceCertificate, AreOrderedRows, AreOrderedWithouts, order_line, ordered_part_lines, ordered_row_lines, place_lines}
 use Rattle.place_cert.proofs.Follows.{places_follow}
 

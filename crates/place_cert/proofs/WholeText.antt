@@ -16,7 +16,7 @@ use Rattle.cert_text.specs.StagePlans.{opening_plan, opening_lines, closing_plan
 use Rattle.cert_text.specs.Stops.{StopsBy}
 use Rattle.cert_text.specs.Readers.{Leads, Halts, HaltsAtEnd}
 use Rattle.cert_text.proofs.PlanSteps.{leads_then, halts_before, halts_then}
-use Rattle.place_cert.specs.PlaceCert.{PlaceCertValue}
+use Rattle.cert_form.specs.PlaceCert.{PlaceCertValue}
 use Rattle.place_cert.specs.PlaceText.{HasSets, IsPlaceCertificate, place_lines, ordered_row_lines}
 use Rattle.place_cert.specs.Parts.{row_value, row_order, place_cert_from, AreParts, AreRows}
 use Rattle.place_cert.specs.CertValues.{PlaceStopsAt}

@@ -3,7 +3,7 @@ use Rattle.std.specs.Prelude.{ℕ, List}
 use Rattle.line_text.specs.LineText.{faulty, beyond}
 use Rattle.cert_text.specs.declared.stop.CertStop.{CertStop}
 use Rattle.cert_text.specs.declared.stop.CertStop.TheVariants.{Form, Range, Memory}
-use Rattle.place_cert.specs.PlaceCert.{PlaceCertValue}
+use Rattle.cert_form.specs.PlaceCert.{PlaceCertValue}
 use Rattle.place_cert.specs.PlaceSays.{PlaceCertSays}
 use Rattle.place_cert.specs.Parts.{place_cert_from}
 use Rattle.place_cert.specs.declared.certificate.PlaceCertificate.{PlaceCertificate}

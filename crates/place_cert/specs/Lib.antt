@@ -1,4 +1,3 @@
-pub mod PlaceCert
 pub mod PlaceText
 pub mod PlaceSays
 pub mod OneProof

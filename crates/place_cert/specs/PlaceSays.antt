@@ -2,7 +2,7 @@
 use Rattle.std.specs.Prelude.{ℕ, List}
 use Rattle.line_text.specs.LineText.{text_of, IsTextOf, FaultAt, Exceeds, Said, stated, faulty, beyond}
 use Rattle.cert_form.specs.Lines.{IsPlacesText, lines}
-use Rattle.place_cert.specs.PlaceCert.{PlaceCertValue}
+use Rattle.cert_form.specs.PlaceCert.{PlaceCertValue}
 use Rattle.place_cert.specs.PlaceText.{IsPlaceCertificate, place_lines}
 
 -- the one text of a placement certificate

@@ -6,7 +6,7 @@ use Rattle.text_lines.specs.Range.{AllInRange}
 use Rattle.cert_form.specs.Certificate.{WithoutValue, RowValue}
 use Rattle.cert_form.specs.Lines.{Line}
 use Rattle.cert_form.specs.CertText.{line, as_numbers, choice_line, table_lines, IsChoice, IsTable, IsRow}
-use Rattle.place_cert.specs.PlaceCert.{PlaceCertValue}
+use Rattle.cert_form.specs.PlaceCert.{PlaceCertValue}
 
 abbrev pub order_line : List ℕ → Line
 order_line order = line (codes "order") (as_numbers order)

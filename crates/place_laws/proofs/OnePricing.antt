@@ -18,7 +18,7 @@ use Rattle.slot_places.specs.SetTable.{holds, fits_behind, sum_outside, IsSetTab
 use Rattle.slot_places.specs.Slots.{SlotList, amount_of}
 use Rattle.slot_places.proofs.FirstOrders.{allowed-says}
 use Rattle.slot_places.proofs.MarketLaws.{market-of_slots}
-use Rattle.place_laws.specs.PlaceCert.{PlaceCertValue, order_without}
+use Rattle.cert_form.specs.PlaceCert.{PlaceCertValue, order_without}
 use Rattle.place_laws.specs.PlacePriced.{IsBestPlacedPart, IsPricedPlaceCert, IsSamePlacedPart, IsSamePricing}
 
 -- of two orders of one length one comes first where they differ

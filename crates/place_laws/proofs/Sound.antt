@@ -26,7 +26,7 @@ use Rattle.slot_places.proofs.NumberLaws.{idle-always}
 use Rattle.slot_places.proofs.OrderLaws.{allowed-by_order}
 use Rattle.slot_places.proofs.PlainSearch.{placed-without}
 use Rattle.slot_places.proofs.SameLaws.{slots-ask}
-use Rattle.place_laws.specs.PlaceCert.{PlaceCertValue, order_without}
+use Rattle.cert_form.specs.PlaceCert.{PlaceCertValue, order_without}
 use Rattle.place_laws.specs.PlaceSound.{prices_in, IsPlaceSound}
 use Rattle.place_laws.specs.PlaceTests.{ObeysSets, lowered_in, IsPlacedPart, Holds}
 use Rattle.place_laws.proofs.MarketAims.{least_sum, nearest_point}

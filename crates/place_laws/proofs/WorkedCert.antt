@@ -12,7 +12,7 @@ use Rattle.slot_places.specs.Board.{Board, board_of, board_without, market_of}
 use Rattle.slot_places.specs.Orders.{allows}
 use Rattle.slot_places.specs.SetTable.{holds}
 use Rattle.slot_places.specs.Slots.{bids_of, amount_of}
-use Rattle.place_laws.specs.PlaceCert.{order_without, order_in_row}
+use Rattle.cert_form.specs.PlaceCert.{order_without, order_in_row}
 use Rattle.place_laws.specs.PlaceTests.{ObeysSets, IsPlacedPart, lowered_in, Holds}
 use Rattle.place_laws.proofs.WorkedCases.{band, certificate}
 

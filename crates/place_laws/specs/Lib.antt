@@ -1,4 +1,3 @@
-pub mod PlaceCert
 pub mod PlaceTests
 pub mod PlaceSound
 pub mod PlacePriced

@@ -11,7 +11,7 @@ use Rattle.slot_places.specs.Board.{board_of, board_without, market_of}
 use Rattle.slot_places.specs.Orders.{IsPlacement}
 use Rattle.slot_places.specs.SetTable.{IsSetTable}
 use Rattle.slot_places.specs.Slots.{SlotList, amount_of}
-use Rattle.place_laws.specs.PlaceCert.{PlaceCertValue, order_without, order_in_row}
+use Rattle.cert_form.specs.PlaceCert.{PlaceCertValue, order_without, order_in_row}
 use Rattle.place_laws.specs.PlaceTests.{Holds}
 
 -- the first of the greatest choices that don't use winner j, its placement, and the exact table in which j has no bids

@@ -9,7 +9,7 @@ use Rattle.cert_laws.specs.Sound.{cert_point}
 use Rattle.slot_places.specs.Board.{market_of}
 use Rattle.slot_places.specs.Orders.{allows}
 use Rattle.slot_places.specs.Slots.{SlotList}
-use Rattle.place_laws.specs.PlaceCert.{PlaceCertValue}
+use Rattle.cert_form.specs.PlaceCert.{PlaceCertValue}
 
 -- the Vickrey prices by the parts, and 0 for losers
 abbrev pub prices_in : Market → CertValue → ℕ → ℤ

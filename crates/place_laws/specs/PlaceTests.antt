@@ -12,7 +12,7 @@ use Rattle.slot_places.specs.Board.{Board, board_of, board_without, market_of}
 use Rattle.slot_places.specs.Orders.{allows}
 use Rattle.slot_places.specs.SetTable.{holds}
 use Rattle.slot_places.specs.Slots.{SlotList, bids_of, amount_of}
-use Rattle.place_laws.specs.PlaceCert.{PlaceCertValue, order_without, order_in_row}
+use Rattle.cert_form.specs.PlaceCert.{PlaceCertValue, order_without, order_in_row}
 
 -- The rules at the entry of a set, whose bidders are placed first. That of all bidders is not below 0. For each bidder outside the
 -- set the entry is at least that of the set with this bidder, and at least that entry plus the worth of each bid of the bidder that

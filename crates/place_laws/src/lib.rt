@@ -19,7 +19,7 @@ ghost use Rattle.cert_laws.specs.MarketTests.{PaysWithinBids};
 ghost use Rattle.slot_places.specs.Board.{board_of, board_without, market_of};
 ghost use Rattle.slot_places.specs.SetTable.{IsSetTable};
 ghost use Rattle.slot_places.specs.Slots.{SlotList, amount_of};
-ghost use Rattle.place_laws.specs.PlaceCert.{PlaceCertValue};
+ghost use Rattle.cert_form.specs.PlaceCert.{PlaceCertValue};
 ghost use Rattle.place_laws.specs.PlacePriced.{IsPricedPlaceCert, IsSamePricing};
 ghost use Rattle.place_laws.specs.PlaceSound.{IsPlaceSound};
 ghost use Rattle.place_laws.specs.PlaceTests.{ObeysSets, lowered_in, Holds, FailsFirst};
