@@ -3,6 +3,7 @@ use Rattle.std.proofs.Common.{◌≡◌, ℕ, suc, zero, ◌^◌, ◌<◌, Bool,
 use Rattle.std.specs.Prelude.{ℤ, pos, negsuc, map, replicate, ◌&&◌, not, ◌==◌, codes}
 use Rattle.std.proofs.lemmas.Int.{ints}
 use Rattle.std.proofs.lemmas.Bool.{and_parts, not-true, eqb-false}
+use Rattle.std.proofs.lemmas.List.{append_cancel_left}
 use Rattle.line_text.specs.LineText.{IsLine, Said, Says}
 use Rattle.line_text.proofs.Lines.{line_append}
 use Rattle.line_text.proofs.Runs.{Reads}
