@@ -42,6 +42,33 @@ pub table_long : (a : List (List ℤ)) → length (table_lines a) ≡ length a
 table_long [] = refl
 table_long (x ∷ a) = ap suc (table_long a)
 
+-- parts are the same where all that they hold is
+pub same_without : (w u : WithoutValue) → w.winner ≡ u.winner → w.choice ≡ u.choice → w.table ≡ u.table → w ≡ u
+same_without w u winner choice table =
+    ap (λ (x : ℕ). record { winner = x; choice = w.choice; table = w.table }) winner
+    ∙ ap (λ (x : List ℕ). record { winner = u.winner; choice = x; table = w.table }) choice
+    ∙ ap (λ (x : List (List ℤ)). record { winner = u.winner; choice = u.choice; table = x }) table
+
+-- so are rows
+pub same_row : (x y : RowValue) → x.members ≡ y.members → x.first ≡ y.first → x.second ≡ y.second → x.choice ≡ y.choice → x ≡ y
+same_row x y members first second choice =
+    ap (λ (m : List ℕ). record { members = m; first = x.first; second = x.second; choice = x.choice }) members
+    ∙ ap (λ (z : ℤ). record { members = y.members; first = z; second = x.second; choice = x.choice }) first
+    ∙ ap (λ (z : ℤ). record { members = y.members; first = y.first; second = z; choice = x.choice }) second
+    ∙ ap (λ (m : List ℕ). record { members = y.members; first = y.first; second = y.second; choice = m }) choice
+
+-- and certificates
+pub same_cert : (c d : CertValue) → c.den ≡ d.den → c.value ≡ d.value → c.choice ≡ d.choice → c.table ≡ d.table → c.withouts ≡ d.withouts → c.pay ≡ d.pay → c.rows ≡ d.rows → c.lowered ≡ d.lowered → c ≡ d
+same_cert c d den value choice table withouts pay rows lowered =
+    ap (λ (x : ℤ). record { den = x; value = c.value; choice = c.choice; table = c.table; withouts = c.withouts; pay = c.pay; rows = c.rows; lowered = c.lowered }) den
+    ∙ ap (λ (x : ℤ). record { den = d.den; value = x; choice = c.choice; table = c.table; withouts = c.withouts; pay = c.pay; rows = c.rows; lowered = c.lowered }) value
+    ∙ ap (λ (x : List ℕ). record { den = d.den; value = d.value; choice = x; table = c.table; withouts = c.withouts; pay = c.pay; rows = c.rows; lowered = c.lowered }) choice
+    ∙ ap (λ (x : List (List ℤ)). record { den = d.den; value = d.value; choice = d.choice; table = x; withouts = c.withouts; pay = c.pay; rows = c.rows; lowered = c.lowered }) table
+    ∙ ap (λ (x : List WithoutValue). record { den = d.den; value = d.value; choice = d.choice; table = d.table; withouts = x; pay = c.pay; rows = c.rows; lowered = c.lowered }) withouts
+    ∙ ap (λ (x : List ℤ). record { den = d.den; value = d.value; choice = d.choice; table = d.table; withouts = d.withouts; pay = x; rows = c.rows; lowered = c.lowered }) pay
+    ∙ ap (λ (x : List RowValue). record { den = d.den; value = d.value; choice = d.choice; table = d.table; withouts = d.withouts; pay = d.pay; rows = x; lowered = c.lowered }) rows
+    ∙ ap (λ (x : List (List ℤ)). record { den = d.den; value = d.value; choice = d.choice; table = d.table; withouts = d.withouts; pay = d.pay; rows = d.rows; lowered = x }) lowered
+
 module _ (b s : ℕ) where
   parts_same : (j : ℕ) (choice : List ℕ) (ws us : List WithoutValue) → AreWithouts b s j choice ws → AreWithouts b s j choice us → part_lines ws ≡ part_lines us → ws ≡ us
   parts_same j [] [] [] g h e = refl
@@ -59,10 +86,7 @@ module _ (b s : ℕ) where
       let choice : w.choice ≡ u.choice = numbers_same w.choice u.choice (numbers_of (choice_line w.choice) (choice_line u.choice) choices) in
       let table : w.table ≡ u.table = table_same w.table u.table parts.0 in
       let rest = parts_same (suc j) ns ws us g.1 h.1 parts.1 in
-      let own : w ≡ u =
-      ap (λ (x : ℕ). record { winner = x; choice = w.choice; table = w.table }) winner
-      ∙ ap (λ (x : List ℕ). record { winner = u.winner; choice = x; table = w.table }) choice
-      ∙ ap (λ (x : List (List ℤ)). record { winner = u.winner; choice = u.choice; table = x }) table in
+      let own : w ≡ u = same_without w u winner choice table in
       ap (λ (x : WithoutValue). x ∷ ws) own ∙ ap (λ (l : List WithoutValue). u ∷ l) rest
 
   parts_long : (j : ℕ) (choice : List ℕ) (ws us : List WithoutValue) → AreWithouts b s j choice ws → AreWithouts b s j choice us → length (part_lines ws) ≡ length (part_lines us)
@@ -92,11 +116,7 @@ rows_same (x ∷ a) (y ∷ b) e =
     let first : x.first ≡ y.first = cc in
     let second : x.second ≡ y.second = cc in
     let choice : x.choice ≡ y.choice = numbers_same x.choice y.choice (numbers_of _ _ choices) in
-    let own : x ≡ y =
-    ap (λ (m : List ℕ). record { members = m; first = x.first; second = x.second; choice = x.choice }) members
-    ∙ ap (λ (z : ℤ). record { members = y.members; first = z; second = x.second; choice = x.choice }) first
-    ∙ ap (λ (z : ℤ). record { members = y.members; first = y.first; second = z; choice = x.choice }) second
-    ∙ ap (λ (m : List ℕ). record { members = y.members; first = y.first; second = y.second; choice = m }) choice in
+    let own : x ≡ y = same_row x y members first second choice in
     ap (λ (r : RowValue). r ∷ a) own ∙ ap (λ (l : List RowValue). y ∷ l) (rows_same a b tails)
 
 rows_long : (a : List RowValue) → length (row_lines a) ≡ 3 * length a
@@ -130,14 +150,7 @@ one_body b s c d g h e =
     let table : c.table ≡ d.table = table_same c.table d.table table_rest in
     let withouts : c.withouts ≡ d.withouts = parts_same b s 1 c.choice c.withouts d.withouts g.withouts others front.1 in
     let tail = last_same c d g h head.1 in
-    ap (λ (x : ℤ). record { den = x; value = c.value; choice = c.choice; table = c.table; withouts = c.withouts; pay = c.pay; rows = c.rows; lowered = c.lowered }) den
-    ∙ ap (λ (x : ℤ). record { den = d.den; value = x; choice = c.choice; table = c.table; withouts = c.withouts; pay = c.pay; rows = c.rows; lowered = c.lowered }) value
-    ∙ ap (λ (x : List ℕ). record { den = d.den; value = d.value; choice = x; table = c.table; withouts = c.withouts; pay = c.pay; rows = c.rows; lowered = c.lowered }) choice
-    ∙ ap (λ (x : List (List ℤ)). record { den = d.den; value = d.value; choice = d.choice; table = x; withouts = c.withouts; pay = c.pay; rows = c.rows; lowered = c.lowered }) table
-    ∙ ap (λ (x : List WithoutValue). record { den = d.den; value = d.value; choice = d.choice; table = d.table; withouts = x; pay = c.pay; rows = c.rows; lowered = c.lowered }) withouts
-    ∙ ap (λ (x : List ℤ). record { den = d.den; value = d.value; choice = d.choice; table = d.table; withouts = d.withouts; pay = x; rows = c.rows; lowered = c.lowered }) tail.0
-    ∙ ap (λ (x : List RowValue). record { den = d.den; value = d.value; choice = d.choice; table = d.table; withouts = d.withouts; pay = d.pay; rows = x; lowered = c.lowered }) tail.1
-    ∙ ap (λ (x : List (List ℤ)). record { den = d.den; value = d.value; choice = d.choice; table = d.table; withouts = d.withouts; pay = d.pay; rows = d.rows; lowered = x }) tail.2
+    same_cert c d den value choice table withouts tail.0 tail.1 tail.2
   where
     last_same : (c d : CertValue) → IsCertificate b s c → IsCertificate b s d → last c ≡ last d → (c.pay ≡ d.pay) × (c.rows ≡ d.rows) × (c.lowered ≡ d.lowered)
     last_same c d g h e =

@@ -1,5 +1,5 @@
 -- The lines of a placement certificate follow the plan.
-use Rattle.std.proofs.Common.{◌≡◌, ℕ, suc, zero, ◌<◌, ◌^◌, List, [], ◌∷◌, ◌++◌, length, refl, ap, arith}
+use Rattle.std.proofs.Common.{ℕ, suc, zero, ◌<◌, ◌^◌, List, [], ◌∷◌, ◌++◌, length, refl, ap, arith}
 use Rattle.std.specs.Prelude.{ℤ, pos, codes}
 use Rattle.cert_form.specs.Certificate.{WithoutValue, RowValue}
 use Rattle.cert_form.specs.Plan.{Follows}

@@ -4,7 +4,7 @@ use Rattle.std.specs.Prelude.{ℤ, pos, codes}
 use Rattle.cert_form.specs.Certificate.{CertValue, WithoutValue, RowValue}
 use Rattle.cert_form.specs.Lines.{Line}
 use Rattle.cert_form.specs.CertText.{line, as_numbers, choice_line, table_lines}
-use Rattle.cert_form.proofs.OneCertificate.{cut, numbers_same, numbers_of, table_same, table_long}
+use Rattle.cert_form.proofs.OneCertificate.{cut, numbers_same, numbers_of, table_same, table_long, same_cert, same_row, same_without}
 use Rattle.cert_form.specs.PlaceCert.{PlaceCertValue}
 use Rattle.place_cert.specs.PlaceText.{IsPlaceCertificate, AreOrderedRows, AreOrderedWithouts, order_line, ordered_part_lines, ordered_row_lines, place_lines}
 
@@ -45,10 +45,7 @@ module _ (b : ℕ) where
       let winner : w.winner ≡ u.winner = g.0.winner ∙ sym h.0.winner in
       let table : w.table ≡ u.table = table_same w.table u.table parts.0 in
       let rest = parts_same (suc j) ns ws us os ps g.1 h.1 parts.1 in
-      let own : w ≡ u =
-      ap (λ (x : ℕ). record { winner = x; choice = w.choice; table = w.table }) winner
-      ∙ ap (λ (x : List ℕ). record { winner = u.winner; choice = x; table = w.table }) (choice_same w.choice u.choice choices)
-      ∙ ap (λ (x : List (List ℤ)). record { winner = u.winner; choice = u.choice; table = x }) table in
+      let own : w ≡ u = same_without w u winner (choice_same w.choice u.choice choices) table in
       let listed : o ≡ p = order_same o p orders in (cc (own, rest.0), cc (listed, rest.1))
 
   parts_long : (j : ℕ) (choice : List ℕ) (ws us : List WithoutValue) (os ps : List (List ℕ)) → AreOrderedWithouts b j choice ws os → AreOrderedWithouts b j choice us ps → length (ordered_part_lines ws os) ≡ length (ordered_part_lines us ps)
@@ -88,11 +85,7 @@ module _ (b : ℕ) where
       let first : x.first ≡ y.first = cc in
       let second : x.second ≡ y.second = cc in
       let others = rows_same rows rest os ps g.2 h.2 tails in
-      let own : x ≡ y =
-      ap (λ (m : List ℕ). record { members = m; first = x.first; second = x.second; choice = x.choice }) members
-      ∙ ap (λ (z : ℤ). record { members = y.members; first = z; second = x.second; choice = x.choice }) first
-      ∙ ap (λ (z : ℤ). record { members = y.members; first = y.first; second = z; choice = x.choice }) second
-      ∙ ap (λ (m : List ℕ). record { members = y.members; first = y.first; second = y.second; choice = m }) (choice_same x.choice y.choice choices) in
+      let own : x ≡ y = same_row x y members first second (choice_same x.choice y.choice choices) in
       let listed : o ≡ p = order_same o p orders in (cc (own, others.0), cc (listed, others.1))
 
   rows_long : (rows : List RowValue) (os : List (List ℕ)) → AreOrderedRows b rows os → length (ordered_row_lines rows os) ≡ 4 * length rows
@@ -160,21 +153,8 @@ module _ (b : ℕ) where
       let choice : c.cert.choice ≡ d.cert.choice = choice_same c.cert.choice d.cert.choice choices in
       let middle = middle_same c d g h choice behind in
       let end = last_same c d g h middle.behind in
-      same (same_cert den value choice middle.table middle.parts.0 end.pay end.rows.0 end.lowered) (order_same c.order d.order orders) middle.parts.1 end.rows.1
+      same (same_cert c.cert d.cert den value choice middle.table middle.parts.0 end.pay end.rows.0 end.lowered) (order_same c.order d.order orders) middle.parts.1 end.rows.1
     where
-      same_cert : c.cert.den ≡ d.cert.den → c.cert.value ≡ d.cert.value → c.cert.choice ≡ d.cert.choice → c.cert.table ≡ d.cert.table → c.cert.withouts ≡ d.cert.withouts → c.cert.pay ≡ d.cert.pay → c.cert.rows ≡ d.cert.rows → c.cert.lowered ≡ d.cert.lowered → c.cert ≡ d.cert
-      same_cert den value choice table withouts pay rows lowered =
-          let x = c.cert in
-          let y = d.cert in
-          ap (λ (z : ℤ). record { den = z; value = x.value; choice = x.choice; table = x.table; withouts = x.withouts; pay = x.pay; rows = x.rows; lowered = x.lowered }) den
-          ∙ ap (λ (z : ℤ). record { den = y.den; value = z; choice = x.choice; table = x.table; withouts = x.withouts; pay = x.pay; rows = x.rows; lowered = x.lowered }) value
-          ∙ ap (λ (z : List ℕ). record { den = y.den; value = y.value; choice = z; table = x.table; withouts = x.withouts; pay = x.pay; rows = x.rows; lowered = x.lowered }) choice
-          ∙ ap (λ (z : List (List ℤ)). record { den = y.den; value = y.value; choice = y.choice; table = z; withouts = x.withouts; pay = x.pay; rows = x.rows; lowered = x.lowered }) table
-          ∙ ap (λ (z : List WithoutValue). record { den = y.den; value = y.value; choice = y.choice; table = y.table; withouts = z; pay = x.pay; rows = x.rows; lowered = x.lowered }) withouts
-          ∙ ap (λ (z : List ℤ). record { den = y.den; value = y.value; choice = y.choice; table = y.table; withouts = y.withouts; pay = z; rows = x.rows; lowered = x.lowered }) pay
-          ∙ ap (λ (z : List RowValue). record { den = y.den; value = y.value; choice = y.choice; table = y.table; withouts = y.withouts; pay = y.pay; rows = z; lowered = x.lowered }) rows
-          ∙ ap (λ (z : List (List ℤ)). record { den = y.den; value = y.value; choice = y.choice; table = y.table; withouts = y.withouts; pay = y.pay; rows = y.rows; lowered = z }) lowered
-
       same : c.cert ≡ d.cert → c.order ≡ d.order → c.part_orders ≡ d.part_orders → c.row_orders ≡ d.row_orders → c ≡ d
       same cert order parts rows =
           ap (λ (z : CertValue). record { cert = z; order = c.order; part_orders = c.part_orders; row_orders = c.row_orders }) cert

@@ -1,6 +1,6 @@
 -- No line of a placement certificate is out of range, and so its lines are a text that states it.
 use Rattle.std.proofs.Common.{◌≡◌, ℕ, suc, zero, ◌+◌, ◌≤◌, ◌<◌, ◌^◌, false, List, [], ◌∷◌, ◌++◌, length, refl, arith}
-use Rattle.std.specs.Prelude.{ℤ, pos, codes}
+use Rattle.std.specs.Prelude.{pos, codes}
 use Rattle.line_text.specs.LineText.{text_of, IsTextOf}
 use Rattle.cert_form.specs.Certificate.{WithoutValue, RowValue}
 use Rattle.cert_form.specs.Lines.{IsPlacesText, lines}

@@ -1,10 +1,10 @@
 -- A placement certificate, from the stages of its text.
-use Rattle.std.proofs.Common.{◌≡◌, ℕ, ◌^◌, ◌≤◌, List, [], ◌∷◌, ◌++◌, length, drop, refl, sym, ap, subst, ◌∙◌, map}
+use Rattle.std.proofs.Common.{◌≡◌, ℕ, ◌^◌, ◌≤◌, List, [], ◌∷◌, ◌++◌, length, drop, sym, ap, subst, map}
 use Rattle.std.specs.Prelude.{ℤ, pos, codes}
 use Rattle.std.proofs.lemmas.List.{append-nil, length-map}
 use Rattle.line_text.specs.LineText.{IsTextOf}
 use Rattle.cert_form.specs.Lines.{Line, Kind, kind, these, places_plan, IsPlacesText, lines}
-use Rattle.cert_form.specs.CertText.{line, table_lines, IsChoice}
+use Rattle.cert_form.specs.CertText.{line, IsChoice}
 use Rattle.cert_form.specs.Reading.{ReachedBy}
 use Rattle.cert_form.proofs.CertReads.{fine_places}
 use Rattle.cert_form.proofs.Reading.{reached-first, reached-end}

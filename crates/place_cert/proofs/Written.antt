@@ -1,10 +1,9 @@
 -- What the lines of a placement certificate add to a text.
-use Rattle.std.proofs.Common.{◌≡◌, ℕ, zero, suc, ◌+◌, ◌<◌, ◌≤◌, ◌^◌, ℤ, pos, List, [], ◌∷◌, ◌++◌, length, codes, get_or, drop, map, sym, ap, ◌∙◌, arith}
+use Rattle.std.proofs.Common.{◌≡◌, ℕ, zero, suc, ◌+◌, ◌<◌, ◌≤◌, ◌^◌, pos, List, [], ◌∷◌, ◌++◌, length, codes, get_or, drop, map, sym, ap, ◌∙◌, arith}
 use Rattle.std.proofs.lemmas.List.{length-map}
 use Rattle.std.specs.List.{AllByRecursion}
 use Rattle.text_lines.proofs.Runs.{one_more}
-use Rattle.cert_form.specs.CertText.{line, AreTableLines}
-use Rattle.cert_form.specs.Lines.{Line}
+use Rattle.cert_form.specs.CertText.{line}
 use Rattle.cert_text.specs.Written.{bytes_of, lines_of_table, Adds, IsTableInRange}
 use Rattle.cert_text.proofs.Written.{adds_both, bytes_append, bytes_are, lines_range}
 use Rattle.place_cert.specs.PlaceText.{IsPlaceCertificate, place_lines, ordered_row_lines}

@@ -1,5 +1,5 @@
 -- Lines of a placement certificate that are written together.
-use Rattle.std.specs.Prelude.{ℕ, List, [], ◌∷◌, length, codes, pos}
+use Rattle.std.specs.Prelude.{List, [], ◌∷◌, length, codes, pos}
 use Rattle.std.specs.List.{AllByRecursion}
 use Rattle.cert_form.specs.CertText.{line, choice_line}
 use Rattle.cert_form.specs.Lines.{Line}

@@ -5,7 +5,7 @@ use Rattle.place_cert.specs.Parts.{place_cert_from}
 use Rattle.cert_form.specs.PlaceCert.{PlaceCertValue}
 use Rattle.place_cert.specs.PlaceSays.{PlaceCertSays}
 use Rattle.place_cert.specs.PlaceText.{IsPlaceCertificate}
-use Rattle.place_cert.proofs.WholeText.{version_stops, opening_stops, placing_stops, payment_stops, closing_stops, end_stops, text_read, made, made_own}
+use Rattle.place_cert.proofs.WholeText.{version_stops, opening_stops, placing_stops, payment_stops, closing_stops, end_stops, text_read, made}
 use Rattle.place_cert.proofs.read.read_places.Goals as goal
 
 pub returns-in_err-begin-clause-stops : goal.returns-in_err-begin-clause-stops

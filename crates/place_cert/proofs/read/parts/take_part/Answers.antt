@@ -1,6 +1,6 @@
-use Rattle.std.proofs.Common.{List, [], ◌∷◌, rules}
+use Rattle.std.proofs.Common.{[], ◌∷◌, rules}
 use Rattle.std.specs.Prelude.{codes}
-use Rattle.cert_form.specs.Lines.{Kind, kind, these, chosen, set_table_plan}
+use Rattle.cert_form.specs.Lines.{kind, these, chosen, set_table_plan}
 use Rattle.cert_form.specs.CertText.{line, table_lines}
 use Rattle.cert_text.specs.PartReads.{without_kind, without_line}
 use Rattle.cert_text.proofs.PlanSteps.{same_kind}
