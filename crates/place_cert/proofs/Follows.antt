@@ -91,8 +91,7 @@ module _ (b : ℕ) (c : PlaceCertValue) (h : IsPlaceCertificate b c) where
   pub places_follow : IsPlacesText b (place_lines c)
   places_follow =
       let tables = follows_both Fits after table_kinds parts_kinds named_lines (ordered_part_lines c.cert.withouts c.part_orders) (record { word = refl; numbers = refl }, sets_follow b c.cert.table h.table) (parts_follow b 1 c.cert.choice c.cert.withouts c.part_orders h.withouts) in
-      let behind = follows_both Fits after (table_kinds ++ parts_kinds) pay_kinds (named_lines ++ ordered_part_lines c.cert.withouts c.part_orders) pay_lines tables pay_follows in
-      (
+      let behind = follows_both Fits after (table_kinds ++ parts_kinds) pay_kinds (named_lines ++ ordered_part_lines c.cert.withouts c.part_orders) pay_lines tables pay_follows in (
         record { word = refl; numbers = refl },
         (
           record { word = refl; numbers = refl },

@@ -112,7 +112,16 @@ module _ (b : ℕ) (bytes : List ℕ) where
 pub made : (b : ℕ) (den value : ℤ) (choice order : List ℕ) (table : List (List ℤ)) (withouts : List PlaceWithout) (pay : List ℤ) (rows : List PlaceRow) (lowered : List (List ℤ)) → InRange den × InRange value → IsChoice b choice → IsChoice b order → HasSets b table
     → AreParts b 1 choice withouts → (length pay ≡ b) × AllInRange pay → length rows ≤ 10 → AreRows b rows → HasSets b lowered → IsPlaceCertificate b (place_cert_from den value choice order table withouts pay rows lowered)
 made b den value choice order table withouts pay rows lowered range c o t w p few r l = record {
-  den = range.0; value = range.1; order = o; choice = c; table = t; withouts = w; pay = p; few = subst (λ (n : ℕ). n ≤ 10) (sym (length-map rows row_value)) few; rows = r; lowered = l
+  den = range.0;
+  value = range.1;
+  order = o;
+  choice = c;
+  table = t;
+  withouts = w;
+  pay = p;
+  few = subst (λ (n : ℕ). n ≤ 10) (sym (length-map rows row_value)) few;
+  rows = r;
+  lowered = l;
 }
 
 -- for as many bidders as its choice has

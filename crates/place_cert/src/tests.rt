@@ -5,7 +5,8 @@ use std::test::Fail;
 
 /// A certificate for three bidders in a band of four: the first has two slots and 10 for slot 1, the second one slot and 8 for slot
 /// 4, the third one slot and 12 for slot 2. The first two win. It has 287 bytes.
-const SAMPLE: &str = "pcert 1\nden 1\nvalue 18\norder 1 3 2\nchoice 1 1 0\ntable\nt 18 8 12 0 8 8 0 0\n\
+const SAMPLE: &str =
+    "pcert 1\nden 1\nvalue 18\norder 1 3 2\nchoice 1 1 0\ntable\nt 18 8 12 0 8 8 0 0\n\
     without 1\norder 2 3 1\nchoice 0 0 1\ntable\nt 12 8 12 0 8 8 0 0\n\
     without 2\norder 2 3 1\nchoice 0 0 1\ntable\nt 12 0 12 0 0 0 0 0\n\
     pay 7 5 0\nrows 1\nrow 1 2\nmult 1 3\norder 2 3 1\nchoice 0 0 1\nlowered\nt 12 5 12 0 5 5 0 0\nend\n";
@@ -30,7 +31,11 @@ fn stops_at(
 ) -> Result<(), AllocError> {
     for (from, to, lines, stop) in faulty {
         let text = edited(alloc, *from, *to, lines)?;
-        assert_eq!(rt; read_places(alloc, text.as_slice(), 3).err(), Some(*stop), "{from} {lines}");
+        assert_eq!(rt;
+            read_places(alloc, text.as_slice(), 3).err(),
+            Some(*stop),
+            "{from} {lines}"
+        );
     }
     Ok(())
 }
@@ -116,10 +121,30 @@ fn names_the_first_faulty_line(rt: HostRuntime) -> Result<(), Fail> {
 #[test]
 fn names_the_first_line_out_of_range(rt: HostRuntime) -> Result<(), Fail> {
     let faulty = [
-        (14, 23, "value 1329227995784915872903807060280344576\n", CertStop::Range(14)),
-        (54, 74, "t 18 8 12 0 8 8 0 -1329227995784915872903807060280344576\n", CertStop::Range(54)),
-        (54, 74, "t 18 8 12 0 8 8 1329227995784915872903807060280344576\n", CertStop::Form(54)),
-        (263, 283, "t 12 5 12 0 5 5 0 1329227995784915872903807060280344576\n", CertStop::Range(263)),
+        (
+            14,
+            23,
+            "value 1329227995784915872903807060280344576\n",
+            CertStop::Range(14),
+        ),
+        (
+            54,
+            74,
+            "t 18 8 12 0 8 8 0 -1329227995784915872903807060280344576\n",
+            CertStop::Range(54),
+        ),
+        (
+            54,
+            74,
+            "t 18 8 12 0 8 8 1329227995784915872903807060280344576\n",
+            CertStop::Form(54),
+        ),
+        (
+            263,
+            283,
+            "t 12 5 12 0 5 5 0 1329227995784915872903807060280344576\n",
+            CertStop::Range(263),
+        ),
     ];
     stops_at(&rt, rt.alloc(), &faulty)?;
     Ok(())
