@@ -1,5 +1,6 @@
 pub mod Nobody
 pub mod SetBounds
+pub mod SetSizes
 pub mod SetExact
 pub mod MarketPrices
 pub mod MarketCore

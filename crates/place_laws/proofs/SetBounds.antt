@@ -34,7 +34,7 @@ sum-next s counts c j some low new =
     ∙ sum-set s counts 0 c (j - 1) (number_of c j) j (omega (arith, some)) (omega (arith, some, low)) new
 
 -- behind the set of all bidders nobody is outside, and behind no other set
-all-inside : (n bits : ℕ) → bits < 2 ^ n → outside (holds bits) n ≡ 0 → bits ≡ 2 ^ n - 1
+pub all-inside : (n bits : ℕ) → bits < 2 ^ n → outside (holds bits) n ≡ 0 → bits ≡ 2 ^ n - 1
 all-inside n bits below none =
     elim (cases_lt (bits + 1) (2 ^ n)) [
       | inl short ↦ (let some = outside-positive n bits short in absurd (omega (arith, none, some)))

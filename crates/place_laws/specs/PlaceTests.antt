@@ -39,8 +39,8 @@ pub record P3 (slots : SlotList) (p : PlaceCertValue) (place : ℕ) : Type 0 whe
   pub rules : place < 2 ^ length slots.bidders → ObeysSet (board_of slots) (amount_of slots) p.cert.table place
   pub top : place ≡ 2 ^ length slots.bidders → entry_at p.cert.table 0 0 ≤ℤ p.cert.value
 
--- A part without winner j: its order allows its choice, which so is known, and which does not use j, and its table shows that no such
--- choice is worth more.
+-- A part without winner j: its order allows its choice, so that this is known, the choice does not use j, and its table shows that no
+-- such choice is worth more.
 pub record IsPlacedPart (slots : SlotList) (j : ℕ) (part : WithoutValue) (order : List ℕ) : Type 0 where
   pub allowed : IsTrue (allows slots order part.choice)
   pub unused : number_of part.choice j ≡ 0

@@ -7,7 +7,7 @@
 //! that allows it. So the tests P1 to P9 need no search, and they ask that the choice is one of the greatest, not the first of them.
 #![tactic(auto)]
 
-ghost use Rattle.std.specs.Prelude.{◌≡◌, ◌<◌, ◌^◌, ℕ, List, ℤ, length};
+ghost use Rattle.std.specs.Prelude.{◌≡◌, ◌<◌, ◌≤◌, ◌^◌, ℕ, IsTrue, IsFalse, List, ℤ, pos, ◌≤ℤ◌, length};
 ghost use Rattle.auction_model.specs.Greatest.{IsGreatestValue};
 ghost use Rattle.auction_model.specs.Lowered.{lowered};
 ghost use Rattle.auction_model.specs.Market.{sum_after};
@@ -16,8 +16,8 @@ ghost use Rattle.auction_model.specs.Table.{entry_at};
 ghost use Rattle.row_laws.specs.Surplus.{surpluses_of};
 ghost use Rattle.cert_form.specs.Certificate.{CertValue};
 ghost use Rattle.cert_laws.specs.MarketTests.{PaysWithinBids};
-ghost use Rattle.slot_places.specs.Board.{board_of, board_without, market_of};
-ghost use Rattle.slot_places.specs.SetTable.{IsSetTable};
+ghost use Rattle.slot_places.specs.Board.{Board, board_of, board_without, market_of};
+ghost use Rattle.slot_places.specs.SetTable.{holds, IsSetTable};
 ghost use Rattle.slot_places.specs.Slots.{SlotList, amount_of};
 ghost use Rattle.cert_form.specs.PlaceCert.{PlaceCertValue};
 ghost use Rattle.place_laws.specs.PlacePriced.{IsPricedPlaceCert, IsSamePricing};
@@ -51,6 +51,15 @@ pub fn exact_set_tables()
     ensures lowered { (slots : SlotList) (c : CertValue) (table : List (List ℤ)) → length c.pay ≡ length slots.bidders → ((place : ℕ) → PaysWithinBids (market_of slots) c place)
         → IsSetTable (board_of slots) (lowered c.den (amount_of slots) (surpluses_of (market_of slots) c.choice c.den c.pay)) table
         → ObeysSets (board_of slots) (lowered_in (market_of slots) c) table }
+{}
+
+/// In a table over sets that obeys the rules no entry is below 0 or above the first, and no bid that can be given right behind a set is
+/// worth more than the first entry.
+pub fn set_sizes()
+    ensures entries { (b : Board) (worth : ℕ → ℕ → ℤ) (table : List (List ℤ)) → ObeysSets b worth table → (bits : ℕ) → bits < 2 ^ b.bidders
+        → (pos 0 ≤ℤ entry_at table 0 bits) × (entry_at table 0 bits ≤ℤ entry_at table 0 0) }
+    ensures bids { (b : Board) (worth : ℕ → ℕ → ℤ) (table : List (List ℤ)) → ObeysSets b worth table → (bits j i : ℕ) → bits < 2 ^ b.bidders → 0 < j → j ≤ b.bidders
+        → IsFalse (holds bits j) → 0 < i → i ≤ b.bids j → IsTrue (b.may (holds bits) j i) → worth j i ≤ℤ entry_at table 0 0 }
 {}
 
 /// The first entry of an exact table, that of nobody, is the greatest sum of an allowed choice, and where a bidder has no bids the
