@@ -1,5 +1,5 @@
 // Choices.
-ghost use Rattle.std.specs.Prelude.{◌≡◌, ◌≤◌, ◌<◌, length, IfOk};
+ghost use Rattle.std.specs.Prelude.{◌≡◌, ◌-◌, ◌≤◌, ◌<◌, length, slice_set, IfOk};
 ghost use Rattle.auction_model.specs.Market.{number_of};
 
 use crate::Numbers;
@@ -36,6 +36,14 @@ impl Choice {
     {
         let numbers = self.numbers();
         numbers[j as usize - 1]
+    }
+
+    /// Sets the number of bidder `j`, to 0 or any other number, and leaves all others. It takes no memory.
+    pub fn set(&mut self, j: u16, number: u16)
+        requires { (0 < j) × (j ≤ length self.old) }
+        ensures { self.new ≡ slice_set self.old (j - 1) number }
+    {
+        self.numbers.set(j as usize - 1, number);
     }
 
     /// The same choice once more.

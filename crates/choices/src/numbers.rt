@@ -1,5 +1,5 @@
 // Lists of numbers of bids.
-ghost use Rattle.std.specs.Prelude.{◌≡◌, [], ◌∷◌, ◌++◌, OnOk, OnErr, IfOk};
+ghost use Rattle.std.specs.Prelude.{◌≡◌, ◌<◌, [], ◌∷◌, ◌++◌, length, slice_set, OnOk, OnErr, IfOk};
 
 use std::alloc::{AllocError, Global};
 use std::marker::Model;
@@ -52,6 +52,14 @@ impl Numbers {
     {
         self.numbers.insert(0, item)?;
         Ok(())
+    }
+
+    /// Sets the number at a place, which is counted from 0. It takes no memory.
+    pub fn set(&mut self, place: usize, item: u16)
+        requires { place < length self.old }
+        ensures { self.new ≡ slice_set self.old place item }
+    {
+        self.numbers[place] = item;
     }
 
     /// The numbers in order.

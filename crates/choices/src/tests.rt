@@ -9,10 +9,12 @@ fn choices_tell_their_numbers(rt: HostRuntime) -> Result<(), AllocError> {
     numbers.push(3)?;
     numbers.push(0)?;
     assert!(rt; numbers.items() == [3, 0].as_slice());
-    let choice = Choice::new(numbers);
+    let mut choice = Choice::new(numbers);
     assert_eq!(rt; choice.count(), 2);
     assert_eq!(rt; choice.number(1), 3);
     assert!(rt; choice.numbers() == [3, 0].as_slice());
+    choice.set(2, 7);
+    assert!(rt; choice.numbers() == [3, 7].as_slice());
     Ok(())
 }
 

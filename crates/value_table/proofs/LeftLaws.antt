@@ -86,3 +86,19 @@ module _ (m : Menu) (counts : ℕ → ℕ → ℤ) (k : ℕ) (left : List ℕ) (
             let own = and_parts (is_known_after (up_to m k) 0 c) (is_within (packages_after (up_to m k) 0 c) left) t in
             left-bound most e c (parted c k (omega (arith, inside, known-length (up_to m k) 0 c own.0))) t;
       }
+
+  -- an entry of the bidders up to k is one of the turned table
+  pub turned-entry : (most : ℤ) → IsEntry (up_to m k) counts 0 left most → IsEntry (in_order true m) (worths_in_order true m.bidders counts) (m.bidders - k) left most
+  turned-entry most e =
+      let c = e.reached.0 in
+      let all = and_parts (is_known_after (up_to m k) 0 c) (is_within (packages_after (up_to m k) 0 c) left) e.reached.1 in
+      let p = parted c k (omega (arith, inside, known-length (up_to m k) 0 c all.0)) in
+      let whole : IsTrue (fits_after (up_to m k) 0 left (onto p.front p.back)) = ap (fits_after (up_to m k) 0 left) p.whole ∙ e.reached.1 in
+      let known = and_parts (is_known_after (up_to m k) 0 (onto p.front p.back)) (is_within (packages_after (up_to m k) 0 (onto p.front p.back)) left) whole in
+      record {
+        reached = (p.front, front-fits p.front p.back p.count whole, sym (front-sum p.front p.back p.count known.0) ∙ ap (sum_after counts 0) p.whole ∙ e.reached.2);
+        bound = λ front t.
+            let own = and_parts (is_known_after (in_order true m) (m.bidders - k) front) (is_within (packages_after (in_order true m) (m.bidders - k) front) left) t in
+            let count = turned-length m k front inside own.0 in
+            rw (← filled-sum front count) (e.bound (onto front (replicate (m.bidders - k) 0)) (filled-fits front count t));
+      }

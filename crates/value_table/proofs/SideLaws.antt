@@ -36,16 +36,20 @@ entry-worths m worth surplus k left most none zeros e =
 entry-all_bids : (m : Menu) (worth : ℕ → ℕ → ℤ) (k : ℕ) (left : List ℕ) (most : ℤ) → IsEntry (without m 0) worth k left most → IsEntry m worth k left most
 entry-all_bids m worth k left most e = IsGreatestValue-same (fits_after (without m 0) k left) (fits_after m k left) (sum_after worth k) most (λ c. fits-without_none m k left c) e
 
--- so the table of all bids is one of the plain worths
+-- so a line of all bids is one of the plain worths
+pub line-plain : (m : Menu) (worth : ℕ → ℕ → ℤ) (surplus : List ℤ) (supply : List ℕ) (k : ℕ) (line : List ℤ) → ((j : ℕ) → worth j 0 ≡ pos 0) → ((k : ℕ) → get_or surplus k (pos 0) ≡ pos 0) → IsLine (without m 0) (lowered (pos 1) worth surplus) supply k line → IsLine m worth supply k line
+line-plain m worth surplus supply k line none zeros e = record {
+  places = e.places;
+  exact = λ s inside.
+      let z = get_or line s (pos 0) in
+      entry-all_bids m worth k (left_at supply s) z (entry-worths (without m 0) worth surplus k (left_at supply s) z none zeros (e.exact s inside));
+}
+
+-- and the table
 pub table-plain : (m : Menu) (worth : ℕ → ℕ → ℤ) (surplus : List ℤ) (supply : List ℕ) (lines : List (List ℤ)) → ((j : ℕ) → worth j 0 ≡ pos 0) → ((k : ℕ) → get_or surplus k (pos 0) ≡ pos 0) → IsExactTable (without m 0) (lowered (pos 1) worth surplus) supply lines → IsExactTable m worth supply lines
 table-plain m worth surplus supply lines none zeros table = record {
   lines = table.lines;
-  exact = λ k h. record {
-    places = (table.exact k h).places;
-    exact = λ s inside.
-        let z = get_or (get_or lines k []) s (pos 0) in
-        entry-all_bids m worth k (left_at supply s) z (entry-worths (without m 0) worth surplus k (left_at supply s) z none zeros ((table.exact k h).exact s inside));
-  };
+  exact = λ k h. line-plain m worth surplus supply k (get_or lines k []) none zeros (table.exact k h);
 }
 
 -- the right side of a book

@@ -7,6 +7,7 @@ mod lines;
 mod lowering;
 mod narrow;
 mod runs;
+mod side_lines;
 mod sides;
 mod table;
 #[cfg(test)]
@@ -14,5 +15,6 @@ mod tests;
 mod tracing;
 
 pub use book_chooser::BookChooser;
+pub use side_lines::{left_line, right_line, right_number};
 pub use sides::Sides;
 pub use table::{ValueTable, plain_table, win};

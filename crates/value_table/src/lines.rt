@@ -52,6 +52,18 @@ fn count_bids(lowering: &Lowering, j: u16, line: &mut [i128], below: &[i128])
     }
 }
 
+/// Makes `line` line `j - 1`, from line `j`. It takes no memory.
+pub fn put_line(lowering: &Lowering, j: u16, below: &[i128], line: &mut [i128])
+    requires bidder { (0 < j) × (j ≤ length lowering.now.book.now.bidders) }
+    requires below { IsCountedLine lowering.now j below.now }
+    requires places { length line.old ≡ length below.now }
+    ensures { IsCountedLine lowering.now (j - 1) line.new }
+{
+    line.copy_from_slice(below);
+    add_to_each(line, lowering.idle(j));
+    count_bids(lowering, j, line, below);
+}
+
 /// Line `j - 1`, from line `j`.
 fn next_line(
     alloc: Global,

@@ -31,7 +31,7 @@ fn sum_at(lowering: &Lowering, j: u16, i: u16, place: usize, below: &[i128]) -> 
 }
 
 /// The first number of bidder `j`, by the order of ties, with which it and the bidders after it reach the entry of a place.
-fn first_number(lowering: &Lowering, j: u16, place: usize, here: i128, below: &[i128]) -> u16
+pub fn first_number(lowering: &Lowering, j: u16, place: usize, here: i128, below: &[i128]) -> u16
     requires bidder { (0 < j) × (j ≤ length lowering.now.book.now.bidders) }
     requires place { place < states_of lowering.now.book.now.supply }
     requires here { IsEntry (counted_bids lowering.now) (counted lowering.now) (j - 1) (left_at lowering.now.book.now.supply place) here }
