@@ -1,7 +1,7 @@
 // From bytes to a placement certificate.
 ghost use Rattle.std.specs.Prelude.{◌≡◌, ◌≤◌, IfErr, IfOk, length};
 ghost use Rattle.line_text.specs.LineText.{stated};
-ghost use Rattle.slot_places.specs.declared.TheConstants.{MOST_PLACED};
+ghost use Rattle.limits.specs.declared.TheConstants.{MOST_PLACED};
 ghost use Rattle.place_cert.specs.CertValues.{place_cert_value, PlaceStopsAt};
 ghost use Rattle.place_cert.specs.Parts.{place_cert_from};
 ghost use Rattle.place_cert.specs.PlaceSays.{PlaceCertSays};

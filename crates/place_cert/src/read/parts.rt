@@ -3,7 +3,7 @@ ghost use Rattle.std.specs.Prelude.{◌≡◌, ◌≤◌, length, IfOk, IfErr, [
 ghost use Rattle.cert_form.specs.CertText.{as_numbers};
 ghost use Rattle.cert_form.specs.Lines.{ordered_part_plan, ordered_parts_plan, unless_zero};
 ghost use Rattle.cert_text.specs.Readers.{Leads, Halts};
-ghost use Rattle.slot_places.specs.declared.TheConstants.{MOST_PLACED};
+ghost use Rattle.limits.specs.declared.TheConstants.{MOST_PLACED};
 ghost use Rattle.place_cert.specs.Parts.{part_value, part_order, AreParts};
 ghost use Rattle.place_cert.specs.PlaceReads.{own_part, part_lines, AddsPart};
 ghost use Rattle.place_cert.specs.PlaceText.{IsOrderedWithout};

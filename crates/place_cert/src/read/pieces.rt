@@ -4,7 +4,7 @@ ghost use Rattle.cert_form.specs.CertText.{line, table_lines, IsChoice};
 ghost use Rattle.cert_form.specs.Lines.{kind, these, set_table_plan};
 ghost use Rattle.cert_text.specs.Readers.{Leads, Halts};
 ghost use Rattle.cert_text.specs.StagePlans.{closing_lines, closing_plan};
-ghost use Rattle.slot_places.specs.declared.TheConstants.{MOST_PLACED};
+ghost use Rattle.limits.specs.declared.TheConstants.{MOST_PLACED};
 ghost use Rattle.place_cert.specs.PlaceReads.{LeadsOrdered, HaltsOrdered};
 ghost use Rattle.place_cert.specs.PlaceText.{HasSets};
 

@@ -3,7 +3,7 @@ ghost use Rattle.std.specs.Prelude.{◌≡◌, ◌≤◌, length, IfOk, IfErr, [
 ghost use Rattle.cert_form.specs.CertText.{IsChoice};
 ghost use Rattle.text_lines.specs.Range.{AllInRange};
 ghost use Rattle.cert_text.specs.Readers.{Leads, Halts};
-ghost use Rattle.slot_places.specs.declared.TheConstants.{MOST_PLACED};
+ghost use Rattle.limits.specs.declared.TheConstants.{MOST_PLACED};
 ghost use Rattle.place_cert.specs.Parts.{AreParts, AreRows};
 ghost use Rattle.place_cert.specs.PlaceReads.{payment_lines, payment_plan, placing_lines, placing_plan};
 ghost use Rattle.place_cert.specs.PlaceText.{HasSets};
