@@ -10,6 +10,7 @@ pub mod MarketGains
 pub mod Sound
 pub mod FirstEntry
 pub mod Exact
+pub mod ExactTests
 pub mod Verdicts
 pub mod OnePricing
 mod WorkedCases

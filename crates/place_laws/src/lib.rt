@@ -8,21 +8,23 @@
 #![tactic(auto)]
 
 ghost use Rattle.std.specs.Prelude.{◌≡◌, ◌<◌, ◌≤◌, ◌^◌, ℕ, IsTrue, IsFalse, List, ℤ, pos, ◌≤ℤ◌, length};
-ghost use Rattle.auction_model.specs.Greatest.{IsGreatestValue};
+ghost use Rattle.auction_model.specs.Greatest.{IsGreatest, IsGreatestValue};
 ghost use Rattle.auction_model.specs.Lowered.{lowered};
-ghost use Rattle.auction_model.specs.Market.{sum_after};
-ghost use Rattle.auction_model.specs.Prices.{allowed_without};
+ghost use Rattle.auction_model.specs.Market.{sum_after, value_of};
+ghost use Rattle.auction_model.specs.Prices.{allowed_without, paid};
 ghost use Rattle.auction_model.specs.Table.{entry_at};
-ghost use Rattle.row_laws.specs.Surplus.{surpluses_of};
-ghost use Rattle.cert_form.specs.Certificate.{CertValue};
+ghost use Rattle.row_laws.specs.Surplus.{surpluses_of, lowered_sum};
+ghost use Rattle.cert_form.specs.Certificate.{CertValue, WithoutValue};
 ghost use Rattle.cert_laws.specs.MarketTests.{PaysWithinBids};
+ghost use Rattle.cert_laws.specs.Sound.{cert_point};
 ghost use Rattle.slot_places.specs.Board.{Board, board_of, board_without, market_of};
+ghost use Rattle.slot_places.specs.Orders.{allows};
 ghost use Rattle.slot_places.specs.SetTable.{holds, IsSetTable};
 ghost use Rattle.slot_places.specs.Slots.{SlotList, amount_of};
 ghost use Rattle.cert_form.specs.PlaceCert.{PlaceCertValue};
-ghost use Rattle.place_laws.specs.PlacePriced.{IsPricedPlaceCert, IsSamePricing};
+ghost use Rattle.place_laws.specs.PlacePriced.{IsBestPlacedPart, IsPricedPlaceCert, IsSamePricing};
 ghost use Rattle.place_laws.specs.PlaceSound.{IsPlaceSound};
-ghost use Rattle.place_laws.specs.PlaceTests.{ObeysSets, lowered_in, Holds, FailsFirst};
+ghost use Rattle.place_laws.specs.PlaceTests.{ObeysSets, P2, P3, IsPlacedPart, P5, lowered_in, P9, Holds, FailsFirst};
 
 /// A placement certificate that passes all tests is sound: its order places its choice, which is one of the greatest, its value is
 /// the value of that choice, its parts give the Vickrey prices, and its choice and payments are the core outcome.
@@ -69,6 +71,19 @@ pub fn first_entries()
         → IsGreatestValue (market_of slots).allowed (sum_after counts 0) (entry_at table 0 0) }
     ensures without { (slots : SlotList) (j : ℕ) (counts : ℕ → ℕ → ℤ) (table : List (List ℤ)) → 0 < j → IsSetTable (board_without slots j) counts table
         → IsGreatestValue (allowed_without (market_of slots) j) (sum_after counts 0) (entry_at table 0 0) }
+{}
+
+/// Choices that are greatest, with exact tables, pass the tests of tables: the head's choice with its order, value and table the second and
+/// the third, a best part its part of the fourth, and the exact table of the worths lowered by what each bidder gains the ninth, where
+/// no allowed choice counts more by these than all that is paid.
+pub fn exact_tests()
+    ensures head { (slots : SlotList) (p : PlaceCertValue) → IsGreatest (market_of slots).allowed (value_of (market_of slots)) p.cert.choice → IsTrue (allows slots p.order p.cert.choice)
+        → value_of (market_of slots) p.cert.choice ≡ p.cert.value → IsSetTable (board_of slots) (amount_of slots) p.cert.table → (place : ℕ) → P2 slots p place × P3 slots p place }
+    ensures part { (slots : SlotList) (j : ℕ) (part : WithoutValue) (order : List ℕ) → 0 < j → IsBestPlacedPart slots j part order → IsPlacedPart slots j part order }
+    ensures lowered { (slots : SlotList) (p : PlaceCertValue) → length p.cert.pay ≡ length slots.bidders → ((place : ℕ) → P5 slots p place)
+        → IsSetTable (board_of slots) (lowered p.cert.den (amount_of slots) (surpluses_of (market_of slots) p.cert.choice p.cert.den p.cert.pay)) p.cert.lowered
+        → ((f : List ℕ) → IsTrue ((market_of slots).allowed f) → lowered_sum (market_of slots) p.cert.choice (cert_point p.cert) f ≤ℤ paid (market_of slots) (cert_point p.cert))
+        → (place : ℕ) → P9 slots p place }
 {}
 
 /// Pricing writes one placement certificate of slots, as far as it isn't free: all that are exact and first agree in their choices, their
