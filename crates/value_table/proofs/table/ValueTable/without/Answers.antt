@@ -11,7 +11,7 @@ invariant_of-lowering c =
     let same : c.deref-2.result.now ≡ t.surplus = c.deref-2.ensures.value ∙ c.in_ok-surplus.ensures.items ∙ c.deref.ensures.value ∙ ap (λ (x : TableValue). x.surplus) c.self.view_is in
     rw same (record {
       bidders = c.requires.whole.bidders;
-      range = plain-range book c.args.j t.surplus c.bidders-bidders.ensures.kept c.requires.plain.zeros;
+      range = plain-range book c.args.j t.surplus c.kept.ensures c.requires.plain.zeros;
     })
 
 pub lines_without-requires-clause-whole : goal.lines_without-requires-clause-whole
@@ -30,6 +30,6 @@ returns-clause-exact c =
     let zeros : (k : ℕ) → get_or c.in_ok-surplus.surplus.items k (pos 0) ≡ pos 0 = λ k. ap (λ (l : List ℤ). get_or l k (pos 0)) same ∙ c.requires.plain.zeros k in
     record {
       bidders = ap (λ (l : List ℤ). length l) same ∙ c.requires.whole.bidders;
-      range = plain-range book c.args.j c.in_ok-surplus.surplus.items c.bidders-bidders.ensures.kept zeros;
+      range = plain-range book c.args.j c.in_ok-surplus.surplus.items c.kept.ensures zeros;
       exact = subst (λ (l : List ℤ). IsBookTable book c.args.j (pos 1) l c.in_ok-grid.grid) c.deref-2.ensures.value c.in_ok-grid.ensures;
     }
