@@ -51,6 +51,7 @@ impl Reader {
     /// A reader to which nothing was fed. It leaves the room as it is.
     pub fn start(shape: Shape) -> Reader
         ensures stands { (room : List ℤ) → StandsFor result room [] }
+        ensures fresh { (room : List ℤ) → StandsBehind result room [] [] }
         ensures shape { result.shape ≡ shape }
         ensures first { (result.due ≡ Due.Version) × (result.stop ≡ None) }
     {
