@@ -50,7 +50,11 @@ fn form(due: Due, shape: Shape) -> Form
 fn version_number(shape: Shape) -> u16
     ensures { result ≡ version_number (is_first_version shape.bidders shape.states) }
 {
-    if has_first_version(shape.bidders as usize, shape.states as usize) { 1 } else { 2 }
+    if has_first_version(shape.bidders as usize, shape.states as usize) {
+        1
+    } else {
+        2
+    }
 }
 
 /// How many numbers a line has at most.
