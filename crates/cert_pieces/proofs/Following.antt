@@ -60,7 +60,7 @@ follows (chosen bidders) ns z begins next = (omega (arith, next.0, more_long ns 
 follows (headed bidders states) ns z begins next = (omega (arith, next.0, more_long ns z []), numbers_push ns z begins.1 next.1 next.2)
 follows (counted bidders) ns z begins next = subst (MayBegin (counted bidders)) (ap (λ (l : List ℤ). l ++ z ∷ []) (sym next.0)) (omega arith, λ some. next.1)
 follows (members bidders) ns z begins next = rise_push bidders (pos 0) ns z begins next.0 next.1
-follows (ordered_head bidders) ns z begins next = (omega (arith, next.0, more_long ns z []), small_push ns z begins.1 next.1 next.2)
+follows (ordered_head bidders) ns z begins next = (omega (arith, next.0, more_long ns z []), numbers_push ns z begins.1 next.1 next.2)
 follows (ordered_count bidders) ns z begins next = subst (MayBegin (counted bidders)) (ap (λ (l : List ℤ). l ++ z ∷ []) (sym next.0)) (omega arith, λ some. next.1)
 
 -- a number in a line of a count stands there alone
