@@ -1,0 +1,6 @@
+pub mod SameLines
+pub mod EditedLines
+pub mod ReplyLaws
+pub mod RemoveLaws
+pub mod LineSets
+pub mod EditLaws

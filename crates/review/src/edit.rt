@@ -1,0 +1,48 @@
+// Edits of a book, and what they are answered.
+use lots::Package;
+
+/// A change of one bid of a book. Bidder 0 is one that the book doesn't have.
+#[derive(Drop)]
+pub enum Edit {
+    /// A bid for a package for which the bidder has none.
+    Add {
+        bidder: u16,
+        package: Package,
+        amount: u64,
+    },
+    /// A greater amount for a package for which the bidder has a bid.
+    Raise {
+        bidder: u16,
+        package: Package,
+        amount: u64,
+    },
+    /// The bid of the bidder for a package is taken out.
+    Remove { bidder: u16, package: Package },
+}
+
+/// The answer to an edit: the first of these, in this order behind `Ok`, whose condition holds.
+#[derive(Clone, Copy, Debug, PartialEq, Eq)]
+pub enum EditReply {
+    /// The book has the edit.
+    Ok,
+    /// The book doesn't have the bidder.
+    Unknown,
+    /// The count of this category, counted from 1, is above the supply; it is the first such category.
+    Supply(u16),
+    /// The package is empty.
+    Empty,
+    /// The bidder has a bid for the package that is to be added, of this amount.
+    Present(u64),
+    /// The bidder has no bid for the package that is to be raised or taken out.
+    Absent,
+    /// The raised amount isn't above this one of the bid.
+    NotHigher(u64),
+    /// The amount of an added bid is below this price of the package at reserve.
+    BelowReserve(u64),
+    /// The amount is above this greatest one.
+    AmountTop(u64),
+    /// The bidder has this many bids, so there is no room for one more.
+    Full(u64),
+    /// There was no memory.
+    Memory,
+}
