@@ -17,7 +17,10 @@ pub enum Edit {
         amount: u64,
     },
     /// The bid of the bidder for a package is taken out.
-    Remove { bidder: u16, package: Package },
+    Remove {
+        bidder: u16,
+        package: Package,
+    },
 }
 
 /// The answer to an edit: the first of these, in this order behind `Ok`, whose condition holds.

@@ -8,11 +8,7 @@ use std::mem;
 use value_table::{left_line, right_line};
 
 /// So many lines of so many zeros.
-pub fn zero_lines(
-    alloc: Global,
-    count: usize,
-    states: usize,
-) -> Result<Vec<Vec<i128>>, AllocError>
+pub fn zero_lines(alloc: Global, count: usize, states: usize) -> Result<Vec<Vec<i128>>, AllocError>
     ensures { IfOk result (λ v. lines_of v.items ≡ replicate count (replicate states (pos 0))) }
 {
     let mut lines = Vec::new(alloc);

@@ -1,4 +1,7 @@
 // Reviews of small books: the values and choices after edits, and that they are those of the edited book.
+ghost use Rattle.std.specs.Prelude.{◌≡◌, length};
+ghost use Rattle.review.specs.Edits.{edit_lots};
+
 use crate::{Edit, EditReply, Review};
 use bid_book::read_book;
 use choices::value;
@@ -10,14 +13,20 @@ use value_table::win;
 const BOOK: &str =
     "book 1\nsupply 1 1\nreserve 0 0\nbidder b1\nbid 1 0 28\nbidder b2\nbid 0 1 20\nbidder b3\nbid 1 1 32\nbidder b4\nbid 1 0 14\nbidder b5\nbid 0 1 12\nend\n";
 
-// The answer to an edit, where its package has as many categories as the book.
-fn answer(alloc: Global, review: &mut Review, edit: &Edit) -> Option<EditReply> {
-    let categories = match edit {
+// How many categories the package of an edit has.
+fn categories_of(edit: &Edit) -> usize
+    ensures { result ≡ length (edit_lots edit.now) }
+{
+    match edit {
         Edit::Add { package, .. } => package.categories(),
         Edit::Raise { package, .. } => package.categories(),
         Edit::Remove { package, .. } => package.categories(),
-    };
-    if categories != review.book().supply().categories() {
+    }
+}
+
+// The answer to an edit, where its package has as many categories as the book.
+fn answer(alloc: Global, review: &mut Review, edit: &Edit) -> Option<EditReply> {
+    if categories_of(edit) != review.book().supply().categories() {
         return None;
     }
     Some(review.edit(alloc, edit))
@@ -69,7 +78,10 @@ fn edits_change_the_winning_choice(rt: HostRuntime) -> Result<(), LotStop> {
     assert_eq!(rt; answer(alloc, &mut review, &edit), Some(EditReply::Ok));
     assert!(rt; shows(&review, 50, &[0, 0, 1, 0, 0]));
     let edit = raised(alloc, 3, &[1, 1], 50)?;
-    assert_eq!(rt; answer(alloc, &mut review, &edit), Some(EditReply::NotHigher(50)));
+    assert_eq!(rt;
+        answer(alloc, &mut review, &edit),
+        Some(EditReply::NotHigher(50))
+    );
     let edit = added(alloc, 0, &[1, 0], 5)?;
     assert_eq!(rt; answer(alloc, &mut review, &edit), Some(EditReply::Unknown));
     assert!(rt; shows(&review, 50, &[0, 0, 1, 0, 0]));
@@ -93,15 +105,16 @@ fn edit_by(alloc: Global, number: u32) -> Result<Edit, LotStop> {
 
 // Whether the value and the choice are those of the book as it is now.
 fn is_right(alloc: Global, review: &Review) -> Result<bool, AllocError> {
-    let winners = win(alloc, review.book())?;
-    Ok(review.choice().numbers() == winners.numbers()
-        && review.net() == value(review.book(), review.choice()))
+    let book = review.book();
+    let winners = win(alloc, book)?;
+    Ok(review.choice().numbers() == winners.numbers() && review.net() == value(book, &winners))
 }
 
 #[test]
 fn edits_agree_with_the_edited_book(rt: HostRuntime) -> Result<(), LotStop> {
     let alloc = rt.alloc();
-    let text = "book 1\nsupply 2 1\nreserve 1 0\nbidder a\nbid 1 0 10\nbid 2 0 16\nbidder b\nbid 0 1 5\nbidder c\nend\n";
+    let text =
+        "book 1\nsupply 2 1\nreserve 1 0\nbidder a\nbid 1 0 10\nbid 2 0 16\nbidder b\nbid 0 1 5\nbidder c\nend\n";
     let Ok(book) = read_book(alloc, text.as_bytes()) else {
         panic!(rt; "this is a book");
     };
