@@ -1,0 +1,29 @@
+// A line that has come.
+ghost use Rattle.std.specs.Prelude.{◌≡◌, length};
+ghost use Rattle.auction_model.specs.Prices.{AreWeights};
+ghost use Rattle.cert_laws.specs.Tests.{bidders_of, states};
+ghost use Rattle.cert_pieces.specs.Rooms.{room_size};
+
+use crate::row_totals::RowTotals;
+use bid_book::BidBook;
+use cert_pieces::Due;
+
+/// A line that has come whole and in range, and what is kept of those before it.
+#[derive(Drop)]
+pub(crate) struct Moment<'a> {
+    pub(crate) book: &'a BidBook,
+    pub(crate) weights: &'a [u32],
+    /// Which line it is.
+    pub(crate) due: Due,
+    /// How many numbers it has.
+    pub(crate) count: usize,
+    /// The numbers of the lines, each line's in its part.
+    pub(crate) room: &'a [i128],
+    /// What was found early of the table that is read.
+    pub(crate) late: Option<u64>,
+    /// How many members the row has that is read.
+    pub(crate) members: usize,
+    pub(crate) totals: &'a RowTotals,
+    pub ghost sized: { length room.now ≡ room_size (bidders_of book.now) (states book.now) },
+    pub ghost weighed: { AreWeights (bidders_of book.now) weights.now },
+}
