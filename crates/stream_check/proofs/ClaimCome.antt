@@ -1,6 +1,6 @@
 -- What a line has whose tests need the first three.
-use Rattle.std.proofs.Common.{◌≡◌, ℕ, zero, suc, ◌+◌, ◌-◌, ◌<◌, ◌≤◌, List, [], ◌∷◌, length, inl, inr, refl, sym, ap, subst, ◌∙◌, arith}
-use Rattle.std.specs.Prelude.{ℤ, ◌≤ℤ◌, Option, Some, None, IsTrue}
+use Rattle.std.proofs.Common.{◌≡◌, ℕ, suc, ◌+◌, ◌-◌, ◌<◌, ◌≤◌, List, [], ◌∷◌, inl, refl, sym, subst, arith}
+use Rattle.std.specs.Prelude.{ℤ, Option, None, IsTrue}
 use Rattle.auction_model.specs.Book.{Book}
 use Rattle.auction_model.specs.Prices.{weight_of}
 use Rattle.bid_book.specs.Kept.{IsBidBook}
@@ -23,7 +23,7 @@ use Rattle.stream_check.specs.declared.moment.Moment.{Moment}
 use Rattle.stream_check.specs.InRoom.{fields_come, parts_come}
 use Rattle.stream_check.specs.Lines.{IsNext}
 use Rattle.stream_check.specs.Moments.{IsAt, IsClaimOf}
-use Rattle.stream_check.specs.Tests.{IsClaimed, IsFound, IsRowsEnd, test_due, place_due}
+use Rattle.stream_check.specs.Tests.{IsClaimed, IsFound, IsRowsEnd, test_due}
 use Rattle.stream_check.proofs.NextLaws.{at-due, next-due, found-by, found-next, loses}
 
 -- the head and its choice have come, and the first four tests are made

@@ -1,7 +1,6 @@
 -- The value and the head's choice have come.
-use Rattle.std.proofs.Common.{◌≡◌, ℕ, List, [], ◌∷◌, refl, subst, arith}
-use Rattle.std.specs.Prelude.{ℤ, Option, None}
-use Rattle.auction_model.specs.Book.{Book}
+use Rattle.std.proofs.Common.{◌≡◌, ℕ, [], ◌∷◌, refl, subst, arith}
+use Rattle.std.specs.Prelude.{Option, None}
 use Rattle.auction_model.specs.Prices.{weight_of}
 use Rattle.cert_form.specs.Certificate.{CertValue}
 use Rattle.cert_form.specs.CertText.{as_numbers}
@@ -15,7 +14,7 @@ use Rattle.cert_pieces.specs.Rooms.{segment}
 use Rattle.stream_check.specs.declared.moment.Moment.{Moment}
 use Rattle.stream_check.specs.Lines.{IsNext}
 use Rattle.stream_check.specs.Moments.{IsAt}
-use Rattle.stream_check.specs.Tests.{IsFound, IsTestedTo}
+use Rattle.stream_check.specs.Tests.{IsFound}
 use Rattle.stream_check.proofs.NextLaws.{at-due, next-due, found-by, found-next}
 
 module _ (at : Moment) (c : CertValue) (is : IsAt at c) where

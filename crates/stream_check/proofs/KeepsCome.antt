@@ -1,6 +1,6 @@
 -- What is asked behind the rules, when a line of the head's table has come.
-use Rattle.std.proofs.Common.{◌≡◌, ℕ, zero, suc, ◌+◌, ◌-◌, ◌*◌, ◌^◌, ◌<◌, ◌≤◌, List, [], ◌∷◌, length, inl, refl, sym, ap, subst, ◌∙◌, arith}
-use Rattle.std.specs.Prelude.{ℤ, pos, ◌≤ℤ◌, ◌↔◌, Bool, IsTrue, slice_index_or, unsigned_abs}
+use Rattle.std.proofs.Common.{◌≡◌, ℕ, zero, suc, ◌+◌, ◌*◌, ◌^◌, ◌<◌, ◌≤◌, [], ◌∷◌, length, inl, refl, sym, subst, arith}
+use Rattle.std.specs.Prelude.{ℤ, ◌≤ℤ◌, ◌↔◌, Bool, IsTrue, slice_index_or, unsigned_abs}
 use Rattle.auction_model.specs.Book.{Book, market_of}
 use Rattle.auction_model.specs.Prices.{weight_of}
 use Rattle.auction_model.specs.Table.{entry_at}
@@ -24,7 +24,7 @@ pub keeps-top : (book : Book) (w : ℕ → ℕ) (c : CertValue) (k : ℕ) (numbe
 keeps-top book w c k number most b first is most_is test =
     subst (λ (n : ℕ). IsTrue b ↔ Asks book w c 3 ((bidders_of book + 1) * states book + n)) (sym first)
     (let low = subst (λ (z : ℤ). IsTrue b ↔ (z ≤ℤ c.value)) is (subst (λ (z : ℤ). IsTrue b ↔ (number ≤ℤ z)) most_is test) in
-      (λ t. (top-C3 book w c).0 (low.0 t), λ asks. low.1 ((top-C3 book w c).1 asks)))
+    (λ t. (top-C3 book w c).0 (low.0 t), λ asks. low.1 ((top-C3 book w c).1 asks)))
 
 -- another line
 pub keeps-none : (book : Book) (w : ℕ → ℕ) (c : CertValue) (k : ℕ) (b : Bool) → 0 < k → k ≤ bidders_of book → (IsTrue b ↔ NoneEarlier book c k) → IsTrue b ↔ Asks book w c 3 ((bidders_of book + 1) * states book + k)

@@ -1,9 +1,8 @@
 -- The members of a row, as numbers.
-use Rattle.std.proofs.Common.{◌≡◌, ℕ, zero, suc, ◌+◌, ◌-◌, ◌<◌, ◌≤◌, List, [], ◌∷◌, ◌++◌, length, take, drop, inl, inr, refl, sym, ap, subst, ◌∙◌, arith, length-take}
-use Rattle.std.specs.Prelude.{ℤ, pos, min, ◌⊎◌, IsTrue, unsigned_abs, ◌^◌}
+use Rattle.std.proofs.Common.{◌≡◌, ℕ, zero, suc, ◌-◌, ◌<◌, ◌≤◌, List, [], ◌∷◌, ◌++◌, length, take, drop, inl, inr, refl, sym, ap, subst, ◌∙◌, arith, length-take}
+use Rattle.std.specs.Prelude.{ℤ, ◌⊎◌}
 use Rattle.std.proofs.lemmas.Bool.{cases_lt}
 use Rattle.auction_model.specs.Book.{Book}
-use Rattle.auction_model.specs.Prices.{weight_of}
 use Rattle.cert_form.specs.Certificate.{CertValue}
 use Rattle.cert_form.specs.CertText.{AreMembers, AtMost, IsRow, as_numbers}
 use Rattle.cert_laws.specs.Tests.{bidders_of, states}
@@ -15,7 +14,7 @@ use Rattle.cert_pieces.specs.LinesLeft.{row_at}
 use Rattle.cert_pieces.specs.Rooms.{segment, start_due}
 use Rattle.stream_check.specs.declared.moment.Moment.{Moment}
 use Rattle.stream_check.specs.InRoom.{HasMembers}
-use Rattle.stream_check.specs.Lines.{IsAtLine, IsNext}
+use Rattle.stream_check.specs.Lines.{IsNext}
 use Rattle.stream_check.specs.Moments.{IsAt}
 use Rattle.stream_check.specs.Totals.{AreTotals}
 use Rattle.stream_check.proofs.NextLaws.{at-due, next-due}

@@ -1,26 +1,25 @@
 -- What is known of the tests behind a line, by the line that comes next.
-use Rattle.std.proofs.Common.{◌≡◌, ◌≢◌, ℕ, zero, suc, ◌+◌, ◌-◌, ◌*◌, ◌<◌, ◌≤◌, List, [], ◌∷◌, length, get_or, inl, inr, refl, sym, ap, subst, ◌∙◌, arith}
-use Rattle.std.proofs.lemmas.Bool.{cases_lt, ne_eqb, eq-eqb}
-use Rattle.std.specs.Prelude.{ℤ, pos, Option, Some, None, IsTrue, Bool, not, ◌==◌}
+use Rattle.std.proofs.Common.{◌≡◌, ◌≢◌, ℕ, zero, suc, ◌+◌, ◌-◌, ◌<◌, ◌≤◌, List, [], ◌∷◌, get_or, inl, inr, refl, sym, ap, subst, ◌∙◌, arith}
+use Rattle.std.proofs.lemmas.Bool.{cases_lt}
+use Rattle.std.specs.Prelude.{pos, Option, Some, None, IsTrue}
 use Rattle.auction_model.specs.Book.{Book}
 use Rattle.auction_model.specs.Market.{number_of, uses}
 use Rattle.auction_model.specs.Prices.{weight_of}
 use Rattle.cert_form.specs.Certificate.{CertValue}
 use Rattle.cert_form.specs.CertText.{as_numbers}
-use Rattle.cert_laws.specs.Tests.{Asks, C4, bidders_of, states}
+use Rattle.cert_laws.specs.Tests.{Asks, C4, bidders_of}
 use Rattle.cert_check.specs.declared.failure.Failure.{Failure}
 use Rattle.cert_check.specs.Partway.{HoldsTo, IsJudged}
 use Rattle.cert_check.proofs.PartLaws.{loses-zero, wins-some}
 use Rattle.cert_check.proofs.PartwayLaws.{holds-further, holds-whole}
 use Rattle.cert_pieces.specs.declared.due.Due.{Due}
 use Rattle.cert_pieces.specs.declared.due.Due.TheVariants.{Version, Limits, Den, Value, Choice, Title, Entries, Without, PartChoice, Payments, Rows, Members, Multipliers, RowChoice, End, Nothing}
-use Rattle.cert_pieces.specs.declared.due.Table.{Table}
 use Rattle.cert_pieces.specs.declared.due.Table.TheVariants.{Head, Part, Lowered}
-use Rattle.cert_pieces.specs.Order.{ComesBehind, IsPartNext, NoneFrom}
+use Rattle.cert_pieces.specs.Order.{IsPartNext, NoneFrom}
 use Rattle.stream_check.specs.declared.moment.Moment.{Moment}
 use Rattle.stream_check.specs.Lines.{IsAtLine, IsNext}
 use Rattle.stream_check.specs.Moments.{IsAt}
-use Rattle.stream_check.specs.Tests.{IsFound, IsTestedTo, IsPlain, test_due, place_due, IsLateDue, IsPartDue}
+use Rattle.stream_check.specs.Tests.{IsFound, IsTestedTo, IsPlain}
 
 -- at the line that it is
 pub at-due : (at : Moment) (c : CertValue) (due : Due) → at.due ≡ due → IsAt at c → IsAtLine at.book.now (weight_of at.weights.now) c due at.count at.late at.members at.totals.now at.room.now

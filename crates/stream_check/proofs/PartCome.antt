@@ -1,5 +1,5 @@
 -- The choice and the lines of a part that have come.
-use Rattle.std.proofs.Common.{◌≡◌, ℕ, zero, suc, ◌+◌, ◌-◌, ◌*◌, ◌<◌, ◌≤◌, List, [], inl, inr, refl, sym, ap, subst, ◌∙◌, arith}
+use Rattle.std.proofs.Common.{◌≡◌, ℕ, suc, ◌+◌, ◌-◌, ◌*◌, ◌<◌, ◌≤◌, [], inl, inr, refl, sym, subst, arith}
 use Rattle.std.proofs.lemmas.Bool.{cases_lt, false≢true}
 use Rattle.std.specs.Prelude.{ℤ, ◌≤ℤ◌, ◌↔◌, Bool, true, false, IsTrue, Option, Some, None, is_some, slice_index_or}
 use Rattle.std.proofs.Math.Nat.{mul-le-mul_left}
@@ -8,8 +8,8 @@ use Rattle.auction_model.specs.Market.{number_of, uses, value_of}
 use Rattle.auction_model.specs.Menu.{without}
 use Rattle.auction_model.specs.Prices.{weight_of}
 use Rattle.auction_model.specs.Table.{entry_at}
-use Rattle.cert_form.specs.Certificate.{CertValue, WithoutValue, part_of}
-use Rattle.cert_form.specs.CertText.{IsChoice, IsTable, as_numbers}
+use Rattle.cert_form.specs.Certificate.{CertValue, part_of}
+use Rattle.cert_form.specs.CertText.{IsChoice, as_numbers}
 use Rattle.cert_laws.specs.Tests.{Asks, FailsFirst, IsPart, ObeysAt, bidders_of, states, full}
 use Rattle.cert_check.specs.declared.failure.Failure.{Failure}
 use Rattle.cert_check.specs.declared.tables.offers.Offers.{Offers}
@@ -64,12 +64,15 @@ module _ (at : Moment) (c : CertValue) (is : IsAt at c) (j : ℕ) (due : at.due 
       (record {
         holds = own.known.tested.holds;
         early = refl;
-        part = (own.known.tested.part, record {
-          allowed = two.0;
-          unused = two.1;
-          rules = λ l s lt low. absurd (omega (arith, lt));
-          top = λ some. absurd (omega (arith, some));
-        });
+        part = (
+          own.known.tested.part,
+          record {
+            allowed = two.0;
+            unused = two.1;
+            rules = λ l s lt low. absurd (omega (arith, lt));
+            top = λ some. absurd (omega (arith, some));
+          },
+        );
       })))
   choice-shows next failed late false follows test holds fails =
       let (f, some_is, test_is, place_is) = fails (λ t. absurd (false≢true t)) in
@@ -138,21 +141,26 @@ module _ (at : Moment) (c : CertValue) (is : IsAt at c) (j k : ℕ) (due : at.du
               found-next at.book.now (weight_of at.weights.now) c (Entries (Part j) (k + 1)) next None None (order.0 lt) (record {
                 holds = line.known.tested.holds;
                 early = refl;
-                part = (line.known.tested.part.0, record {
-                  allowed = lines-part.allowed;
-                  unused = lines-part.unused;
-                  rules = λ l s low in_line. rule l s (omega (arith, low)) (omega (arith, low, lt)) in_line (λ from. rules-kept f l s from (subst (λ (n : ℕ). l < n) (sym (tested-inside (bidders_of at.book.now) k lt)) (omega (arith, low))) (omega (arith, low, lt)) in_line);
-                  top = λ some. first;
-                });
+                part = (
+                  line.known.tested.part.0,
+                  record {
+                    allowed = lines-part.allowed;
+                    unused = lines-part.unused;
+                    rules = λ l s low in_line. rule l s (omega (arith, low)) (omega (arith, low, lt)) in_line (λ from. rules-kept f l s from (subst (λ (n : ℕ). l < n) (sym (tested-inside (bidders_of at.book.now) k lt)) (omega (arith, low))) (omega (arith, low, lt)) in_line);
+                    top = λ some. first;
+                  },
+                );
               })
           | inr past ↦
               behind-part at.book.now (weight_of at.weights.now) c j next (order.1 past) (subst (HoldsTo at.book.now (weight_of at.weights.now) c 4) {x = j + 1} {y = suc j} (omega arith) (holds-further at.book.now (weight_of at.weights.now) c 4 j 1 line.known.tested.holds (λ i low. let here : j ≡ j + i = omega (arith, low) in subst (λ (n : ℕ). Asks at.book.now (weight_of at.weights.now) c 4 n) here
-              (asks-C4 at.book.now (weight_of at.weights.now) c j (record { part = λ some inside wins. record {
-                allowed = lines-part.allowed;
-                unused = lines-part.unused;
-                rules = λ l s le in_line. rule l s (omega (arith, le, past)) le in_line (λ from. rules-kept f l s from (subst (λ (n : ℕ). l < n) (sym (tested-all (bidders_of at.book.now) k past)) (omega (arith, le))) le in_line);
-                top = first;
-              } })))))
+              (asks-C4 at.book.now (weight_of at.weights.now) c j (record {
+                part = λ some inside wins. record {
+                  allowed = lines-part.allowed;
+                  unused = lines-part.unused;
+                  rules = λ l s le in_line. rule l s (omega (arith, le, past)) le in_line (λ from. rules-kept f l s from (subst (λ (n : ℕ). l < n) (sym (tested-all (bidders_of at.book.now) k past)) (omega (arith, le))) le in_line);
+                  top = first;
+                };
+              })))))
         ]))
       where
         -- a line was tested before, or is now

@@ -1,15 +1,12 @@
 -- The room keeps what it has of a certificate while a line is read.
-use Rattle.std.proofs.Common.{◌≡◌, ◌≢◌, ℕ, suc, zero, ◌+◌, ◌%◌, ◌≤◌, ◌<◌, List, [], ◌∷◌, take, drop, refl, sym, ap, ◌∙◌, arith}
-use Rattle.std.specs.Prelude.{ℤ, IsTrue, slice_index_or}
-use Rattle.auction_model.specs.Market.{uses}
-use Rattle.cert_form.specs.Certificate.{CertValue, part_of}
+use Rattle.std.proofs.Common.{◌≡◌, ◌≢◌, ℕ, suc, zero, ◌%◌, ◌≤◌, ◌<◌, List, take, ap, ◌∙◌, arith}
+use Rattle.std.specs.Prelude.{ℤ}
+use Rattle.cert_form.specs.Certificate.{CertValue}
 use Rattle.cert_form.specs.CertText.{as_numbers}
 use Rattle.cert_pieces.specs.declared.due.Due.{Due}
 use Rattle.cert_pieces.specs.declared.due.Due.TheVariants.{Version, Limits, Den, Value, Choice, Title, Entries, Without, PartChoice, Payments, Rows, Members, Multipliers, RowChoice, End, Nothing}
-use Rattle.cert_pieces.specs.declared.due.Table.{Table}
-use Rattle.cert_pieces.specs.declared.due.Table.TheVariants.{Head, Part, Lowered}
 use Rattle.cert_pieces.specs.Dues.{IsDue}
-use Rattle.cert_pieces.specs.LinesLeft.{row_at, table_in}
+use Rattle.cert_pieces.specs.LinesLeft.{row_at}
 use Rattle.cert_pieces.specs.Rooms.{segment, KeepsOthers}
 use Rattle.cert_pieces.proofs.RoomParts.{part_due, other_line_kept, part_kept, line_kept}
 use Rattle.stream_check.specs.InRoom.{HasRoom, HasLineBefore, HasMembers, fields_come, parts_come}

@@ -1,7 +1,7 @@
 -- What the room has of a certificate behind one more line.
-use Rattle.std.proofs.Common.{◌≡◌, ◌≢◌, ℕ, zero, suc, ◌+◌, ◌-◌, ◌<◌, ◌≤◌, List, [], ◌∷◌, get_or, length, inl, inr, refl, sym, ap, subst, ◌∙◌, arith}
+use Rattle.std.proofs.Common.{◌≡◌, ℕ, zero, suc, ◌+◌, ◌-◌, ◌<◌, ◌≤◌, List, length, inl, inr, refl, sym, subst, arith}
 use Rattle.std.proofs.lemmas.Bool.{cases_lt}
-use Rattle.std.specs.Prelude.{ℤ, pos, IsTrue, slice_index_or}
+use Rattle.std.specs.Prelude.{ℤ, pos, IsTrue}
 use Rattle.auction_model.specs.Market.{uses}
 use Rattle.cert_form.specs.Certificate.{CertValue, part_of}
 use Rattle.cert_form.specs.CertText.{as_numbers}
@@ -9,7 +9,7 @@ use Rattle.cert_pieces.specs.declared.due.Due.{Due}
 use Rattle.cert_pieces.specs.declared.due.Due.TheVariants.{Version, Limits, Den, Value, Choice, Title, Entries, Without, PartChoice, Payments, Rows, Members, Multipliers, RowChoice, End, Nothing}
 use Rattle.cert_pieces.specs.declared.due.Table.{Table}
 use Rattle.cert_pieces.specs.declared.due.Table.TheVariants.{Head, Part, Lowered}
-use Rattle.cert_pieces.specs.LinesLeft.{table_in, HasDue}
+use Rattle.cert_pieces.specs.LinesLeft.{HasDue}
 use Rattle.cert_pieces.specs.Order.{ComesBehind, IsPartNext, IsRowNext, IsTableNext, NoneFrom}
 use Rattle.cert_pieces.specs.Rooms.{segment}
 use Rattle.stream_check.specs.InRoom.{HasRoom, HasLine, HasLineBefore, HasMembers, fields_come, parts_come}

@@ -1,28 +1,23 @@
 -- The members, the multipliers and the choice of a row that have come.
-use Rattle.std.proofs.Common.{◌≡◌, ℕ, zero, suc, ◌+◌, ◌-◌, ◌<◌, ◌≤◌, List, [], ◌∷◌, length, take, get_or, inl, inr, refl, sym, ap, subst, ◌∙◌, arith}
+use Rattle.std.proofs.Common.{◌≡◌, ℕ, zero, suc, ◌-◌, ◌<◌, ◌≤◌, List, [], ◌∷◌, length, take, inl, inr, refl, sym, ap, subst, ◌∙◌, arith}
 use Rattle.std.proofs.lemmas.Bool.{cases_lt}
 use Rattle.std.proofs.lemmas.List.{take_all}
-use Rattle.std.specs.Prelude.{ℤ, pos, Option, Some, None, Bool, true, false, ◌↔◌, IsTrue, min, slice_index_or}
+use Rattle.std.specs.Prelude.{ℤ, pos, min, slice_index_or}
 use Rattle.auction_model.specs.Book.{Book}
-use Rattle.auction_model.specs.Prices.{weight_of}
 use Rattle.cert_form.specs.Certificate.{CertValue, RowValue, row_of}
 use Rattle.cert_form.specs.CertText.{AreRows, IsRow, as_numbers}
-use Rattle.cert_laws.specs.Tests.{Asks, C6, IsTightRow, bidders_of, states}
-use Rattle.cert_check.specs.declared.failure.Failure.{Failure}
-use Rattle.cert_check.specs.Partway.{HoldsTo, IsJudged}
+use Rattle.cert_laws.specs.Tests.{bidders_of}
 use Rattle.cert_pieces.specs.declared.due.Due.{Due}
 use Rattle.cert_pieces.specs.declared.due.Due.TheVariants.{Version, Limits, Den, Value, Choice, Title, Entries, Without, PartChoice, Payments, Rows, Members, Multipliers, RowChoice, End, Nothing}
 use Rattle.cert_pieces.specs.declared.due.Table.TheVariants.{Head, Part, Lowered}
 use Rattle.cert_pieces.specs.LinesLeft.{row_at}
-use Rattle.cert_pieces.specs.Order.{IsPartNext, IsRowNext, IsTableNext}
-use Rattle.cert_pieces.specs.Rooms.{segment}
+use Rattle.cert_pieces.specs.Order.{IsPartNext, IsRowNext}
 use Rattle.stream_check.specs.declared.moment.Moment.{Moment}
 use Rattle.stream_check.specs.declared.row_totals.RowTotals.{RowTotals}
-use Rattle.stream_check.specs.InRoom.{HasMembers}
-use Rattle.stream_check.specs.Lines.{IsAtLine, IsNext}
+use Rattle.stream_check.specs.Lines.{IsNext}
 use Rattle.stream_check.specs.Moments.{IsAt}
-use Rattle.stream_check.specs.Totals.{AreTotals, HasTotals, rows_come}
-use Rattle.stream_check.proofs.NextLaws.{at-due, next-due}
+use Rattle.stream_check.specs.Totals.{AreTotals, HasTotals}
+use Rattle.stream_check.proofs.NextLaws.{at-due}
 
 -- the row of which r are to come with it, counted from 1
 pub row-is : (c : CertValue) (r : ℕ) → row_at c r ≡ row_of c.rows (suc (length c.rows - r))

@@ -1,18 +1,16 @@
 -- The tests of the rows and of their multipliers, when a line of the rows has come.
-use Rattle.std.proofs.Common.{◌≡◌, ℕ, zero, suc, ◌+◌, ◌-◌, ◌<◌, ◌≤◌, List, [], ◌∷◌, length, take, inl, inr, refl, sym, ap, subst, ◌∙◌, arith}
-use Rattle.std.proofs.lemmas.Bool.{cases_lt}
-use Rattle.std.specs.Prelude.{ℤ, pos, ◌↔◌, Bool, IsTrue, Option, Some, None}
+use Rattle.std.proofs.Common.{◌≡◌, ℕ, zero, suc, ◌+◌, ◌-◌, ◌<◌, ◌≤◌, [], ◌∷◌, length, refl, sym, subst, ◌∙◌, arith}
+use Rattle.std.specs.Prelude.{pos, Option, Some, None}
 use Rattle.auction_model.specs.Book.{Book}
-use Rattle.auction_model.specs.Market.{uses}
 use Rattle.auction_model.specs.Prices.{weight_of}
-use Rattle.cert_form.specs.Certificate.{CertValue, RowValue, part_of, row_of}
-use Rattle.cert_form.specs.CertText.{IsChoice, as_numbers}
+use Rattle.cert_form.specs.Certificate.{CertValue}
+use Rattle.cert_form.specs.CertText.{as_numbers}
 use Rattle.cert_laws.specs.Tests.{Asks, C6, FailsFirst, IsTightRow, bidders_of, states}
 use Rattle.cert_check.specs.declared.failure.Failure.{Failure}
 use Rattle.cert_check.specs.Partway.{HoldsTo, IsJudged}
 use Rattle.cert_check.proofs.PartwayLaws.{holds-further, holds-whole}
 use Rattle.cert_pieces.specs.declared.due.Due.{Due}
-use Rattle.cert_pieces.specs.declared.due.Due.TheVariants.{Title, Payments, Rows, Members, PartChoice, RowChoice}
+use Rattle.cert_pieces.specs.declared.due.Due.TheVariants.{Title, Payments, Rows, Members, RowChoice}
 use Rattle.cert_pieces.specs.declared.due.Table.TheVariants.{Lowered}
 use Rattle.cert_pieces.specs.LinesLeft.{row_at}
 use Rattle.cert_pieces.specs.Order.{IsRowNext}
@@ -20,7 +18,7 @@ use Rattle.cert_pieces.specs.Rooms.{segment}
 use Rattle.stream_check.specs.declared.moment.Moment.{Moment}
 use Rattle.stream_check.specs.Lines.{IsAtLine, IsNext}
 use Rattle.stream_check.specs.Moments.{IsAt}
-use Rattle.stream_check.specs.Tests.{IsClaimed, IsFound, IsTestedTo}
+use Rattle.stream_check.specs.Tests.{IsFound}
 use Rattle.stream_check.specs.Totals.{AreTotals}
 use Rattle.stream_check.proofs.NextLaws.{at-due, next-due, found-by, found-next}
 use Rattle.stream_check.proofs.RowCome.{row-is}

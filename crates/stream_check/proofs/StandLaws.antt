@@ -1,5 +1,5 @@
 -- A checker that stands for a text, and one more line.
-use Rattle.std.proofs.Common.{◌≡◌, ℕ, zero, suc, ◌+◌, ◌-◌, ◌<◌, ◌≤◌, Bool, false, List, [], ◌∷◌, ◌++◌, length, take, drop, get_or, append_assoc, inl, inr, refl, sym, ap, subst, ◌∙◌, arith}
+use Rattle.std.proofs.Common.{◌≡◌, ℕ, zero, suc, ◌≤◌, false, List, [], ◌∷◌, ◌++◌, length, take, drop, get_or, append_assoc, inl, inr, refl, sym, ap, subst, ◌∙◌, arith}
 use Rattle.std.proofs.lemmas.List.{append-nil}
 use Rattle.std.specs.Prelude.{ℤ, pos, Option, Some, None, codes}
 use Rattle.line_text.specs.LineText.{IsTextOf, stated}
@@ -14,24 +14,22 @@ use Rattle.cert_check.specs.Partway.{HoldsTo, IsJudged}
 use Rattle.cert_pieces.specs.declared.due.Due.{Due}
 use Rattle.cert_pieces.specs.declared.due.Due.TheVariants.{Version, Limits, Den, Value, Choice, Title, Entries, Without, PartChoice, Payments, Rows, Members, Multipliers, RowChoice, End, Nothing}
 use Rattle.cert_pieces.specs.declared.line.LinePart.{LinePart}
-use Rattle.cert_pieces.specs.declared.stop.TextStop.{TextStop}
 use Rattle.cert_pieces.specs.Dues.{IsDue, line_with}
-use Rattle.cert_pieces.specs.LinesLeft.{lines_left, line_due, ComesNext, HasDue, Tells, Leads, LeadsInRoom, counted_left}
+use Rattle.cert_pieces.specs.LinesLeft.{lines_left, line_due, ComesNext, Tells, LeadsInRoom}
 use Rattle.cert_pieces.specs.Order.{ComesBehind}
 use Rattle.cert_pieces.specs.declared.due.Table.TheVariants.{Head, Part, Lowered}
 use Rattle.cert_pieces.specs.Rooms.{KeepsOthers, form_due, segment, start_due}
 use Rattle.cert_pieces.specs.Standing.{IsReading, IsEnding}
-use Rattle.cert_pieces.specs.Stops.{StopsFor}
 use Rattle.cert_pieces.proofs.CertOf.{cert_of}
 use Rattle.cert_pieces.proofs.Comings.{all_left}
 use Rattle.cert_pieces.proofs.Fills.{reading_cert}
 use Rattle.cert_pieces.proofs.RoomParts.{IsFixed, came_whole}
-use Rattle.cert_pieces.proofs.Standing.{whole_text, stands_more}
+use Rattle.cert_pieces.proofs.Standing.{whole_text}
 use Rattle.cert_pieces.proofs.Stated.{none_out}
 use Rattle.stream_check.specs.declared.row_totals.RowTotals.{RowTotals}
-use Rattle.stream_check.specs.InRoom.{HasRoom, HasLine, HasMembers}
-use Rattle.stream_check.specs.Lines.{IsOpen, IsAtLine, IsNext, IsLeft, HasCome, IsKnown}
-use Rattle.stream_check.specs.Tests.{IsFound, IsTestedTo}
+use Rattle.stream_check.specs.InRoom.{HasRoom, HasMembers}
+use Rattle.stream_check.specs.Lines.{IsAtLine, IsNext, IsLeft, HasCome, IsKnown}
+use Rattle.stream_check.specs.Tests.{IsFound}
 use Rattle.stream_check.specs.Totals.{AreTotals, HasTotals}
 use Rattle.stream_check.proofs.RoomKept.{room_stays}
 use Rattle.stream_check.proofs.RoomNext.{room-next}

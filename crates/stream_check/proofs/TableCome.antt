@@ -1,11 +1,11 @@
 -- Lines of tables that have come.
-use Rattle.std.proofs.Common.{◌≡◌, ℕ, zero, suc, ◌+◌, ◌-◌, ◌*◌, ◌^◌, ◌<◌, ◌≤◌, List, [], inl, inr, refl, sym, ap, subst, ◌∙◌, arith}
+use Rattle.std.proofs.Common.{◌≡◌, ℕ, zero, suc, ◌+◌, ◌-◌, ◌*◌, ◌^◌, ◌<◌, ◌≤◌, [], inl, inr, refl, sym, subst, ◌∙◌, arith}
 use Rattle.std.proofs.Math.Nat.{mul-le-mul_left}
 use Rattle.std.proofs.lemmas.Bool.{cases_lt}
-use Rattle.std.specs.Prelude.{ℤ, Option, Some, None, slice_index_or}
+use Rattle.std.specs.Prelude.{Option, Some, None, slice_index_or}
 use Rattle.auction_model.specs.Book.{Book, net_of}
 use Rattle.auction_model.specs.Prices.{weight_of}
-use Rattle.cert_form.specs.Certificate.{CertValue, part_of}
+use Rattle.cert_form.specs.Certificate.{CertValue}
 use Rattle.cert_form.specs.CertText.{IsTable}
 use Rattle.cert_laws.specs.Tests.{Asks, bidders_of, states, lowered_net}
 use Rattle.cert_check.specs.declared.failure.Failure.{Failure}
@@ -17,7 +17,7 @@ use Rattle.cert_check.proofs.LoweredLines.{rules-C9, C9-rules}
 use Rattle.cert_pieces.specs.declared.due.Due.{Due}
 use Rattle.cert_pieces.specs.declared.due.Due.TheVariants.{Entries, End}
 use Rattle.cert_pieces.specs.declared.due.Table.{Table}
-use Rattle.cert_pieces.specs.declared.due.Table.TheVariants.{Head, Part, Lowered}
+use Rattle.cert_pieces.specs.declared.due.Table.TheVariants.{Head, Lowered}
 use Rattle.cert_pieces.specs.LinesLeft.{table_in}
 use Rattle.cert_pieces.specs.Rooms.{segment}
 use Rattle.stream_check.specs.declared.moment.Moment.{Moment}
@@ -25,7 +25,7 @@ use Rattle.stream_check.specs.InRoom.{HasLineBefore}
 use Rattle.stream_check.specs.Lines.{IsAtLine, IsNext}
 use Rattle.stream_check.specs.Moments.{IsAt}
 use Rattle.stream_check.specs.Rules.{IsFirstBetween, HasTwoLines, lines_tested}
-use Rattle.stream_check.specs.Tests.{IsFound, IsTestedTo, one_of}
+use Rattle.stream_check.specs.Tests.{IsFound, one_of}
 use Rattle.stream_check.proofs.NextLaws.{at-due, next-due, found-by, found-next, asks-nobody, behind-part}
 use Rattle.stream_check.proofs.RuleLaws.{between-same, tested-inside, tested-all}
 

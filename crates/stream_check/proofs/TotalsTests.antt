@@ -1,10 +1,7 @@
 -- The tests of the multipliers, from the totals.
-use Rattle.std.proofs.Common.{◌≡◌, ℕ, zero, suc, ◌+◌, ◌-◌, ◌<◌, ◌≤◌, List, [], ◌∷◌, length, take, get_or, refl, sym, ap, subst, ◌∙◌, arith, length-take}
-use Rattle.std.specs.Prelude.{ℤ, pos, min}
-use Rattle.auction_model.specs.Book.{Book}
-use Rattle.cert_form.specs.Certificate.{CertValue, row_of}
-use Rattle.cert_laws.specs.Tests.{bidders_of}
-use Rattle.wide_num.specs.Sums.{nth}
+use Rattle.std.proofs.Common.{◌≡◌, ℕ, zero, suc, ◌-◌, ◌<◌, ◌≤◌, List, [], ◌∷◌, length, take, get_or, refl, ◌∙◌, arith, length-take}
+use Rattle.std.specs.Prelude.{ℤ, pos}
+use Rattle.cert_form.specs.Certificate.{CertValue}
 use Rattle.cert_check.specs.Columns.{AreFirsts, AreFirstSums, AreSeconds, AreSecondSums}
 use Rattle.stream_check.specs.declared.row_totals.RowTotals.{RowTotals}
 use Rattle.stream_check.specs.Totals.{AreTotals}

@@ -1,5 +1,5 @@
 -- The rules of a table, two lines at a time.
-use Rattle.std.specs.Prelude.{◌≡◌, ℕ, zero, suc, ◌+◌, ◌-◌, ◌≤◌, ◌<◌, nat_lt, List, [], slice_index_or, Option, Some, None, ℤ, if◌then◌else◌}
+use Rattle.std.specs.Prelude.{◌≡◌, ℕ, suc, ◌-◌, ◌≤◌, ◌<◌, nat_lt, List, [], slice_index_or, Option, Some, None, ℤ, if◌then◌else◌}
 use Rattle.auction_model.specs.Book.{Book}
 use Rattle.cert_form.specs.CertText.{IsTable}
 use Rattle.cert_laws.specs.Tests.{bidders_of, states}

@@ -1,5 +1,5 @@
 -- How far the tests of a certificate are, by the line that is due.
-use Rattle.std.specs.Prelude.{◌≡◌, ℕ, zero, suc, ◌+◌, ◌-◌, ◌*◌, ◌≤◌, ◌<◌, IsTrue, length, Option, Some, None, ℤ, ◌≤ℤ◌}
+use Rattle.std.specs.Prelude.{◌≡◌, ℕ, zero, suc, ◌+◌, ◌-◌, ◌*◌, ◌<◌, IsTrue, length, Option, Some, None, ◌≤ℤ◌}
 use Rattle.auction_model.specs.Book.{Book, net_of, menu_of, market_of}
 use Rattle.auction_model.specs.Market.{number_of, uses, value_of}
 use Rattle.auction_model.specs.Menu.{without}

@@ -1,5 +1,5 @@
 -- The multipliers of the rows that have come, and their sums.
-use Rattle.std.specs.Prelude.{◌≡◌, ℕ, zero, suc, ◌-◌, ◌≤◌, ◌<◌, length}
+use Rattle.std.specs.Prelude.{◌≡◌, ℕ, suc, ◌-◌, ◌≤◌, ◌<◌, length}
 use Rattle.auction_model.specs.Lowered.{of_bidder}
 use Rattle.cert_form.specs.Certificate.{CertValue, row_of}
 use Rattle.cert_laws.specs.Tests.{sum_holding}

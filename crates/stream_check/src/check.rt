@@ -95,7 +95,6 @@ impl<'a> StreamCheck<'a> {
     /// The verdict is that of `check`: the first test that fails, with the first of its places, and else yes; then the choice is the
     /// winning one, and with the payments it is the core outcome for these weights.
     pub fn finish(&self, room: &[i128]) -> Result<Verdict, TextStop>
-        requires stands { (text : List ℕ) × StandsFor self.now room.now text }
         ensures verdict { (text : List ℕ) → StandsFor self.now room.now text → IfOk result (λ v. (c : CertValue) × CertSays (bidders_of self.now.book.now) (states self.now.book.now) text (stated c)
             × IsVerdict self.now.book.now (weight_of self.now.weights.now) c v × (v ≡ Verdict.Yes → IsSound self.now.book.now (weight_of self.now.weights.now) c)) }
         ensures stops { (text : List ℕ) → StandsFor self.now room.now text → IfErr result (SaysStop (bidders_of self.now.book.now) (states self.now.book.now) text) }

@@ -14,7 +14,9 @@ use crate::room::{number_in, numbers_in, put_choice};
 use crate::rows::{row_line, rows_line};
 use crate::rules::{of_rules, rules_fault};
 use crate::tables::{behind_entries, is_at_most};
-use cert_check::{BIDDER_ROOM, Claim, Failure, Offers, of_test, payments_test, put_gains, sum_paid, with_late};
+use cert_check::{
+    BIDDER_ROOM, Claim, Failure, Offers, of_test, payments_test, put_gains, sum_paid, with_late,
+};
 use cert_pieces::{Due, Table};
 
 /// What a line shows whose tests need what the first three have shown.
@@ -78,7 +80,11 @@ fn lowered_line(at: &Moment, claim: &Claim, k: u16) -> Finding
 {
     let _bidders = at.book.bidders();
     let mut gains = [0i128; BIDDER_ROOM];
-    put_gains(claim, numbers_in(at.book, Due::Payments, at.room), &mut gains);
+    put_gains(
+        claim,
+        numbers_in(at.book, Due::Payments, at.room),
+        &mut gains,
+    );
     let offers = Offers {
         book: at.book,
         skip: 0,

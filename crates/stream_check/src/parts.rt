@@ -94,5 +94,8 @@ fn keeps_top(at: &Moment, j: u16, k: u16) -> bool
     put_choice(at.book, Due::PartChoice(j), at.room, &mut numbers);
     let choice = &numbers[..bidders];
     let line = numbers_in(at.book, Due::Entries(Table::Part(j), k), at.room);
-    is_at_most(line[at.book.supply().states() - 1], value_among(at.book, choice))
+    is_at_most(
+        line[at.book.supply().states() - 1],
+        value_among(at.book, choice),
+    )
 }

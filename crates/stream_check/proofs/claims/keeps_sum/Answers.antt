@@ -1,4 +1,4 @@
-use Rattle.std.proofs.Common.{◌≡◌, ◌∙◌, ◌-◌, ℕ, [], refl, ap, get_or, pos, List, length, rules}
+use Rattle.std.proofs.Common.{◌≡◌, ◌∙◌, ◌-◌, ℕ, [], ap, get_or, pos, List, length, rules}
 use Rattle.std.specs.Prelude.{ℤ, slice_index_or}
 use Rattle.std.proofs.lemmas.Int.{to_z-of_z}
 use mir.Val.{SFits}
@@ -7,7 +7,7 @@ use Rattle.auction_model.specs.Lowered.{of_bidder}
 use Rattle.auction_model.specs.Place.{states_of}
 use Rattle.auction_model.specs.Prices.{weight_of, sum_over, everyone}
 use Rattle.auction_model.specs.Table.{entry_at}
-use Rattle.cert_laws.specs.Tests.{bidders_of, states, full}
+use Rattle.cert_laws.specs.Tests.{states, full}
 use Rattle.stream_check.proofs.LoweredCome.{pay-there, line-there, keeps-sum}
 use Rattle.stream_check.proofs.claims.keeps_sum.Goals as goal
 

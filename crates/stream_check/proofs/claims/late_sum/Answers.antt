@@ -1,4 +1,4 @@
-use Rattle.std.proofs.Common.{◌≡◌, ◌+◌, ◌*◌, ℕ, ◌∙◌, ap}
+use Rattle.std.proofs.Common.{◌+◌, ◌*◌, ℕ, ◌∙◌, ap}
 use Rattle.auction_model.specs.Prices.{weight_of}
 use Rattle.cert_laws.specs.Tests.{bidders_of, states}
 use Rattle.cert_pieces.specs.declared.due.Due.TheVariants.{Entries}

@@ -1,9 +1,9 @@
-use Rattle.std.proofs.Common.{◌≡◌, ◌∙◌, ◌-◌, ℕ, suc, List, inl, length, get_or, pos, sym, ap, arith, rules}
+use Rattle.std.proofs.Common.{◌≡◌, ◌∙◌, ◌-◌, List, inl, length, get_or, pos, sym, ap, rules}
 use Rattle.std.specs.Prelude.{ℤ}
 use Rattle.std.proofs.lemmas.Int.{to_z-of_z}
 use mir.Val.{SFits}
 use mir.Syntax.{w128}
-use Rattle.cert_form.specs.Certificate.{RowValue, row_of}
+use Rattle.cert_form.specs.Certificate.{RowValue}
 use Rattle.cert_laws.specs.Tests.{bidders_of}
 use Rattle.cert_pieces.specs.declared.due.Due.TheVariants.{Multipliers}
 use Rattle.cert_pieces.specs.LinesLeft.{row_at}

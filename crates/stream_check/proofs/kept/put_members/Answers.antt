@@ -1,4 +1,4 @@
-use Rattle.std.proofs.Common.{◌≡◌, ◌∙◌, ◌≤◌, ℕ, List, length, length-take, take, sym, ap, arith}
+use Rattle.std.proofs.Common.{◌≡◌, ◌∙◌, ◌≤◌, ℕ, List, length, length-take, take, ap, arith}
 use Rattle.std.specs.Prelude.{ℤ}
 use Rattle.cert_laws.specs.Tests.{bidders_of, states}
 use Rattle.cert_pieces.specs.LinesLeft.{row_at}
@@ -11,10 +11,11 @@ put_numbers-requires-clause-numbers c =
     let at = c.args.at.now in
     let cert = c.requires.some.0 in
     let is = c.requires.some.1 in
-    let whole = row-whole c.args.at.now cert is c.args.left c.requires.due in
-    ((row_at cert c.args.left).members,
-    ap (λ (n : ℕ). take n c.numbers_in-in_room.result.now) c.min-count.ensures ∙ take-few at.members c.numbers_in-in_room.result.now ∙ ap (λ (l : List ℤ). take c.args.at.now.members l) c.numbers_in-in_room.ensures ∙ members-there c.args.at.now cert is c.args.left c.requires.due,
-    members-most (bidders_of at.book.now) 0 (row_at cert c.args.left).members (omega (arith, c.bidders-bidders.ensures.bidders, c.bidders-bidders.ensures.most)) whole.members)
+    let whole = row-whole c.args.at.now cert is c.args.left c.requires.due in (
+      (row_at cert c.args.left).members,
+      ap (λ (n : ℕ). take n c.numbers_in-in_room.result.now) c.min-count.ensures ∙ take-few at.members c.numbers_in-in_room.result.now ∙ ap (λ (l : List ℤ). take c.args.at.now.members l) c.numbers_in-in_room.ensures ∙ members-there c.args.at.now cert is c.args.left c.requires.due,
+      members-most (bidders_of at.book.now) 0 (row_at cert c.args.left).members (omega (arith, c.bidders-bidders.ensures.bidders, c.bidders-bidders.ensures.most)) whole.members,
+    )
 
 pub returns-clause-members : goal.returns-clause-members
 returns-clause-members c = λ cert is.

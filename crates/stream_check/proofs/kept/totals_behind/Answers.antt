@@ -1,5 +1,4 @@
-use Rattle.std.proofs.Common.{◌≡◌, ◌≤◌, ◌<◌, ℕ, length, subst}
-use Rattle.cert_form.specs.Certificate.{CertValue}
+use Rattle.std.proofs.Common.{subst}
 use Rattle.stream_check.proofs.RowCome.{IsPair, totals-next, rows-named}
 use Rattle.stream_check.proofs.kept.totals_behind.Goals as goal
 

@@ -1,4 +1,4 @@
-use Rattle.std.proofs.Common.{◌≡◌, ◌∙◌, ℕ, List, ap, sym, subst, take}
+use Rattle.std.proofs.Common.{◌≡◌, ◌∙◌, ℕ, List, ap, subst, take}
 use Rattle.std.specs.Prelude.{IsTrue, ◌↔◌}
 use Rattle.auction_model.specs.Book.{market_of}
 use Rattle.auction_model.specs.Market.{number_of}

@@ -1,4 +1,4 @@
-use Rattle.std.proofs.Common.{◌≡◌, ◌∙◌, List, length, ap, arith, length-take}
+use Rattle.std.proofs.Common.{◌∙◌, List, length, ap, arith, length-take}
 use Rattle.std.specs.Prelude.{ℤ}
 use Rattle.cert_form.proofs.Written.{long_numbers}
 use Rattle.stream_check.proofs.room.put_choice.Goals as goal

@@ -1,4 +1,4 @@
-use Rattle.std.proofs.Common.{◌≡◌, ◌∙◌, ℕ, List, length, inr, refl, sym, ap, subst, take}
+use Rattle.std.proofs.Common.{◌∙◌, ℕ, List, length, inr, sym, ap, subst, take}
 use Rattle.std.specs.Prelude.{ℤ, IsTrue, ◌↔◌}
 use Rattle.auction_model.specs.Book.{Book}
 use Rattle.cert_form.specs.CertText.{AllInRange, AreMembers}
@@ -11,9 +11,11 @@ use Rattle.stream_check.proofs.rows.keeps_row.Goals as goal
 pub put_choice-requires-clause-choice : goal.put_choice-requires-clause-choice
 put_choice-requires-clause-choice c =
     let cert = c.requires.some.0 in
-    let is = c.requires.some.1 in
-    ((row_at cert c.args.left).choice, row-choice c.args.at.now cert is c.args.left c.requires.due,
-    (row-at-kept (bidders_of c.args.at.now.book.now) cert c.args.left is.kept.rows (row-some c.args.at.now cert is c.args.left c.requires.due) (row-inside c.args.at.now cert is c.args.left c.requires.due)).choice)
+    let is = c.requires.some.1 in (
+      (row_at cert c.args.left).choice,
+      row-choice c.args.at.now cert is c.args.left c.requires.due,
+      (row-at-kept (bidders_of c.args.at.now.book.now) cert c.args.left is.kept.rows (row-some c.args.at.now cert is c.args.left c.requires.due) (row-inside c.args.at.now cert is c.args.left c.requires.due)).choice,
+    )
 
 pub put_members-count-requires-clause-due : goal.put_members-count-requires-clause-due
 put_members-count-requires-clause-due c = inr c.requires.due

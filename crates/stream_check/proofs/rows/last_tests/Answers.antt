@@ -1,11 +1,9 @@
-use Rattle.std.proofs.Common.{◌≡◌, ◌∙◌, ◌≤◌, ℕ, length, refl, sym, subst, arith, rules}
-use Rattle.std.specs.Prelude.{Option, Some, None}
+use Rattle.std.proofs.Common.{◌≤◌, refl, sym, subst, arith}
 use Rattle.auction_model.specs.Book.{Book}
 use Rattle.auction_model.specs.Prices.{weight_of}
 use Rattle.cert_laws.specs.Tests.{C7, bidders_of}
 use Rattle.cert_check.specs.Places.{IsFirstFailing}
 use Rattle.cert_check.specs.Partway.{IsJudged}
-use Rattle.cert_check.specs.declared.failure.Failure.{Failure}
 use Rattle.cert_check.proofs.VerdictLaws.{asks-C7}
 use Rattle.stream_check.proofs.TotalsTests.{firsts-are, first-sums}
 use Rattle.stream_check.proofs.rows.last_tests.Goals as goal

@@ -1,4 +1,4 @@
-use Rattle.std.proofs.Common.{◌≡◌, ℕ, length}
+use Rattle.std.proofs.Common.{◌≡◌, length}
 use Rattle.cert_form.specs.Certificate.{CertValue}
 use Rattle.cert_check.specs.Fields.{worth_without}
 use Rattle.cert_check.proofs.Written.{AreWritten}

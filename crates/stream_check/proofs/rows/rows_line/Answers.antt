@@ -1,5 +1,5 @@
-use Rattle.std.proofs.Common.{◌≡◌, ◌∙◌, ℕ, [], ◌∷◌, length, refl, sym, ap, subst, arith, rules}
-use Rattle.std.specs.Prelude.{ℤ, pos}
+use Rattle.std.proofs.Common.{◌∙◌, length, sym, ap, subst, rules}
+use Rattle.std.specs.Prelude.{pos}
 use Rattle.std.proofs.lemmas.Bool.{iff_false}
 use Rattle.std.proofs.lemmas.Int.{to_z-of_z}
 use mir.Val.{SFits}

@@ -1,4 +1,4 @@
-use Rattle.std.proofs.Common.{◌≡◌, ◌∙◌, ◌+◌, ◌-◌, ◌*◌, ◌<◌, ◌≤◌, suc, Some, None, arith, ap, subst, sym, ℕ, refl, List, length, [], pos}
+use Rattle.std.proofs.Common.{◌≡◌, ◌∙◌, ◌+◌, ◌-◌, ◌*◌, ◌<◌, suc, Some, arith, ap, subst, sym, ℕ, List, length, [], pos}
 use Rattle.std.specs.Prelude.{ℤ, slice_index_or, unsigned_abs, ◌^◌}
 use Rattle.auction_model.specs.Place.{states_of}
 use Rattle.cert_laws.specs.Tests.{bidders_of, states}

@@ -1,4 +1,4 @@
-use Rattle.std.proofs.Common.{◌≡◌, ◌∙◌, ◌+◌, ◌-◌, ◌*◌, ◌<◌, ◌≤◌, suc, Some, None, arith, ap, subst, sym, ℕ, []}
+use Rattle.std.proofs.Common.{◌≡◌, ◌∙◌, ◌+◌, ◌*◌, suc, Some, arith, ap, subst, sym, ℕ, []}
 use Rattle.std.specs.Prelude.{slice_index_or}
 use Rattle.auction_model.specs.Place.{states_of}
 use Rattle.cert_laws.specs.Tests.{bidders_of, states}

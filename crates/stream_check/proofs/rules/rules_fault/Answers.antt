@@ -1,4 +1,4 @@
-use Rattle.std.proofs.Common.{◌≡◌, ◌-◌, ◌*◌, Some, None, subst}
+use Rattle.std.proofs.Common.{◌-◌, ◌*◌, subst}
 use Rattle.cert_laws.specs.Tests.{bidders_of, states}
 use Rattle.cert_check.specs.LineTests.{RulesAt}
 use Rattle.stream_check.specs.Rules.{IsFirstBetween, lines_tested}

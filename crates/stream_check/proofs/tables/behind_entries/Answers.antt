@@ -1,4 +1,4 @@
-use Rattle.std.proofs.Common.{◌≡◌, ◌∙◌, ◌+◌, ◌*◌, ◌≤◌, ℕ, subst, sym, ap, arith}
+use Rattle.std.proofs.Common.{◌≡◌, ◌∙◌, ◌+◌, ◌*◌, ◌≤◌, ℕ, subst, sym, ap}
 use Rattle.auction_model.specs.Place.{states_of}
 use Rattle.cert_laws.specs.Tests.{Asks, bidders_of, states}
 use Rattle.cert_check.specs.Partway.{IsJudged, IsLate}

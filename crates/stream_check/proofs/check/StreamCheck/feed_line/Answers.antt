@@ -22,9 +22,11 @@ end_line-requires-clause-ends c =
     let r = c.args.self.now.reader in
     let now = subst (StandsWith c.args.self.now c.args.room.now text items) c.requires.reading is in
     let behind = reads_on r.shape.bidders r.shape.states r.due r.part r.place r.read c.args.room.now text items r.stop c.requires.reading now.0 in
-    let ended = subst (Advances c.read_on.new.self c.read_on.new.room text items c.args.piece.now c.args.at) c.in-Ended.is (c.read_on.ensures.advances text items behind) in
-    (text ++ between c.args.at c.in-Ended.end c.args.piece.now, items,
-    ends-line c.args.self.now set c.args.room.now c.read_on.new.room text (text ++ between c.args.at c.in-Ended.end c.args.piece.now) items c.read_on.new.self c.read_on.ensures.shape c.read_on.ensures.due c.read_on.ensures.others now.0 now.1 ended.1)
+    let ended = subst (Advances c.read_on.new.self c.read_on.new.room text items c.args.piece.now c.args.at) c.in-Ended.is (c.read_on.ensures.advances text items behind) in (
+      text ++ between c.args.at c.in-Ended.end c.args.piece.now,
+      items,
+      ends-line c.args.self.now set c.args.room.now c.read_on.new.room text (text ++ between c.args.at c.in-Ended.end c.args.piece.now) items c.read_on.new.self c.read_on.ensures.shape c.read_on.ensures.due c.read_on.ensures.others now.0 now.1 ended.1,
+    )
 
 pub returns-in-Ended-clause-stands : goal.returns-in-Ended-clause-stands
 returns-in-Ended-clause-stands c = λ text (set, (items, is)).

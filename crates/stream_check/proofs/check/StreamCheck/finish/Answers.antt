@@ -1,4 +1,4 @@
-use Rattle.std.proofs.Common.{ℕ, subst}
+use Rattle.std.proofs.Common.{subst}
 use Rattle.auction_model.specs.Prices.{weight_of}
 use Rattle.cert_check.specs.Verdicts.{IsVerdict}
 use Rattle.stream_check.specs.Standing.{StandsWith}

@@ -1,5 +1,4 @@
-use Rattle.std.proofs.Common.{◌≡◌, ◌∙◌, ap, refl}
-use Rattle.auction_model.specs.Place.{states_of}
+use Rattle.std.proofs.Common.{◌∙◌, ap, refl}
 use Rattle.stream_check.proofs.CheckLaws.{stands-first}
 use Rattle.stream_check.proofs.check.StreamCheck.start.Goals as goal
 
