@@ -1,0 +1,12 @@
+-- A number that is counted or not.
+use Rattle.std.specs.Prelude.{ℕ, ◌^◌, Bool, true, false, cond, ℤ, pos, ◌≤ℤ◌}
+use Rattle.std.proofs.Common.{arith}
+use Rattle.std.proofs.lemmas.Int.{ints}
+
+pub counted-least : (b : Bool) (z : ℤ) → pos 0 ≤ℤ z → pos 0 ≤ℤ cond b z (pos 0)
+counted-least true z h = h
+counted-least false z h = omega (arith, ints)
+
+pub counted-most : (b : Bool) (z : ℤ) → pos 0 ≤ℤ z → z ≤ℤ pos (2 ^ 42) → cond b z (pos 0) ≤ℤ pos (2 ^ 42)
+counted-most true z least h = h
+counted-most false z least h = omega (arith, ints)

@@ -1,0 +1,4 @@
+pub mod Verdicts
+pub mod OfferRules
+pub mod Multipliers
+pub mod Shown

@@ -1,0 +1,18 @@
+//! Prices of placements in a band with their certificate, and the checker of such certificates.
+#![tactic(auto)]
+
+mod amounts;
+mod checking;
+mod claims;
+mod figures;
+mod heads;
+mod offers;
+mod parts;
+mod sets;
+mod sums;
+mod tables;
+#[cfg(test)]
+mod tests;
+
+pub use cert_check::Verdict;
+pub use checking::check_places;
