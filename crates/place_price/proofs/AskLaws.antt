@@ -2,7 +2,7 @@
 use Rattle.std.specs.Prelude.{◌≡◌, ℕ, Bool, IsTrue, ◌↔◌}
 use Rattle.std.proofs.Common.{arith}
 use Rattle.slot_places.specs.Slots.{SlotList}
-use Rattle.place_laws.specs.PlaceCert.{PlaceCertValue}
+use Rattle.cert_form.specs.PlaceCert.{PlaceCertValue}
 use Rattle.place_laws.specs.PlaceTests.{Asks, P1, P2, P3, P4, P5, P6, P7, P8, P9}
 
 module _ (slots : SlotList) (p : PlaceCertValue) (t place : ℕ) where

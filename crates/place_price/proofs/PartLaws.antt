@@ -9,7 +9,7 @@ use Rattle.place_cert.specs.PlaceText.{HasSets, IsPlaceCertificate}
 use Rattle.place_cert.specs.CertValues.{place_cert_value}
 use Rattle.place_cert.specs.declared.certificate.PlaceCertificate.{PlaceCertificate}
 use Rattle.place_cert.specs.declared.certificate.PlaceWithout.{PlaceWithout}
-use Rattle.place_laws.specs.PlaceCert.{order_without}
+use Rattle.cert_form.specs.PlaceCert.{order_without}
 use Rattle.place_laws.specs.PlaceTests.{IsPlacedPart}
 use Rattle.slot_places.specs.Board.{board_of, nobody}
 use Rattle.slot_places.specs.Orders.{allows, are_new, gives}

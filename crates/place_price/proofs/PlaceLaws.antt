@@ -12,7 +12,7 @@ use Rattle.slot_places.specs.Board.{market_of}
 use Rattle.slot_places.specs.Orders.{allows}
 use Rattle.slot_places.specs.Slots.{SlotList, bids_of}
 use Rattle.slot_places.proofs.OrderLaws.{allowed-by_order}
-use Rattle.place_laws.specs.PlaceCert.{PlaceCertValue, order_without, order_in_row}
+use Rattle.cert_form.specs.PlaceCert.{PlaceCertValue, order_without, order_in_row}
 use Rattle.place_laws.specs.PlaceTests.{P1, P2, P4, P6, IsPlacedPart}
 use Rattle.place_price.specs.Shown.{IsTightPlaced}
 

@@ -6,7 +6,7 @@ use Rattle.cert_form.specs.Certificate.{RowValue, row_of}
 use Rattle.cert_form.specs.CertText.{IsRow}
 use Rattle.place_cert.specs.Parts.{row_value, row_order, AreRows}
 use Rattle.place_cert.specs.declared.certificate.PlaceRow.{PlaceRow}
-use Rattle.place_laws.specs.PlaceCert.{order_in_row}
+use Rattle.cert_form.specs.PlaceCert.{order_in_row}
 use Rattle.cert_laws.specs.MarketTests.{sum_holding}
 use Rattle.place_price.specs.declared.sums.Multiplier.{Multiplier}
 use Rattle.place_price.specs.declared.sums.Multiplier.TheVariants.{First, Second}

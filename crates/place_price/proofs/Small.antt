@@ -13,7 +13,7 @@ use Rattle.slot_places.specs.Kept.{AreSlots}
 use Rattle.slot_places.specs.SetTable.{holds}
 use Rattle.slot_places.specs.Slots.{SlotList, bids_of, bid_of, amount_of}
 use Rattle.slot_places.proofs.WithoutLaws.{one-bid}
-use Rattle.place_laws.specs.PlaceCert.{PlaceCertValue}
+use Rattle.cert_form.specs.PlaceCert.{PlaceCertValue}
 use Rattle.place_laws.specs.PlaceTests.{ObeysSet, ObeysSets, lowered_in, P1, P2, P3, P5}
 use Rattle.place_laws.proofs.SetSizes.{worth-most}
 use Rattle.cert_check.proofs.LoweredLaws.{scaled-small}

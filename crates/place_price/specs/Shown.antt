@@ -12,7 +12,7 @@ use Rattle.slot_places.specs.Board.{board_of, market_of}
 use Rattle.slot_places.specs.Orders.{allows}
 use Rattle.slot_places.specs.SetTable.{holds}
 use Rattle.slot_places.specs.Slots.{SlotList, amount_of}
-use Rattle.place_laws.specs.PlaceCert.{PlaceCertValue}
+use Rattle.cert_form.specs.PlaceCert.{PlaceCertValue}
 use Rattle.place_laws.specs.PlaceTests.{P5}
 
 -- the certificate has as many bidders as the slots

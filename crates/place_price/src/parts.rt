@@ -4,7 +4,7 @@ ghost use Rattle.cert_form.specs.Certificate.{part_of};
 ghost use Rattle.place_cert.specs.CertValues.{place_cert_value};
 ghost use Rattle.place_cert.specs.Parts.{part_value, part_order};
 ghost use Rattle.place_cert.specs.PlaceText.{HasSets};
-ghost use Rattle.place_laws.specs.PlaceCert.{order_without};
+ghost use Rattle.cert_form.specs.PlaceCert.{order_without};
 ghost use Rattle.place_laws.specs.PlaceTests.{IsPlacedPart, ObeysSets, P4};
 ghost use Rattle.slot_places.specs.Board.{board_without};
 ghost use Rattle.slot_places.specs.Slots.{amount_of};
