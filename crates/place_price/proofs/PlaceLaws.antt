@@ -166,8 +166,7 @@ pub tight-by : (slots : SlotList) (c : CertValue) (row : RowValue) (order member
     ≡ c.den *ℤ (value_of (market_of slots) row.choice -ℤ sum_over (λ j. not (is_member row.members j)) (won_in (market_of slots) c) (length slots.bidders))))
     → IsTrue b ↔ IsTightPlaced slots c row order
 tight-by slots c row order members listed b members_are order_is all none may test =
-    let own : IsTrue (allows slots order row.choice) = subst (λ (l : List ℕ). IsTrue (allows slots l row.choice)) order_is may in
-    (
+    let own : IsTrue (allows slots order row.choice) = subst (λ (l : List ℕ). IsTrue (allows slots l row.choice)) order_is may in (
       λ t. record {
         tight = record {
           winners = λ j m. all j (subst (λ (l : List ℕ). IsTrue (is_member l j)) (sym members_are) m);

@@ -59,9 +59,10 @@ module _ (slots : SlotList) (p : PlaceCertValue) (numbers : length p.cert.choice
   pub small-products : HasSmallProducts slots p
   small-products j some low =
       let won = worth_in (market_of slots) p.cert.choice j in
-      let least : pos 0 ≤ℤ worth_in (market_of slots) p.cert.choice j = omega (arith, ints) in
-      (nonneg-product p.cert.den won ((p1 1).den refl) least,
-      scaled-small p.cert.den won p.cert.value ((p1 1).den refl) least (won-most j some low) ((p1 3).size refl))
+      let least : pos 0 ≤ℤ worth_in (market_of slots) p.cert.choice j = omega (arith, ints) in (
+        nonneg-product p.cert.den won ((p1 1).den refl) least,
+        scaled-small p.cert.den won p.cert.value ((p1 1).den refl) least (won-most j some low) ((p1 3).size refl),
+      )
 
   pub can-lower : ((place : ℕ) → P3 slots p place) → ((place : ℕ) → P5 slots p place) → CanLower slots p
   can-lower p3 p5 = record {

@@ -4,7 +4,7 @@ ghost use Rattle.auction_model.specs.Market.{value_of};
 ghost use Rattle.limits.specs.declared.TheConstants.{MOST_AMOUNT};
 ghost use Rattle.slot_places.specs.Board.{market_of};
 ghost use Rattle.slot_places.specs.Slots.{amount_of};
-ghost use Rattle.slot_places.specs.declared.TheConstants.{MOST_PLACED};
+ghost use Rattle.limits.specs.declared.TheConstants.{MOST_PLACED};
 
 use slot_places::Slots;
 

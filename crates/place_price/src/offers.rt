@@ -40,7 +40,11 @@ impl<'a> Offers<'a> {
         ensures size { unsigned_abs result < 2 ^ 121 }
     {
         let _bidders = self.slots.bidders();
-        lowered(self.den, amount(self.slots, j, i), self.gains[j as usize - 1])
+        lowered(
+            self.den,
+            amount(self.slots, j, i),
+            self.gains[j as usize - 1],
+        )
     }
 }
 

@@ -2,7 +2,7 @@
 ghost use Rattle.std.specs.Prelude.{◌≡◌, ◌-◌, ◌≤◌, ◌<◌, ◌^◌};
 ghost use Rattle.slot_places.specs.Board.{start_behind};
 ghost use Rattle.slot_places.specs.SetTable.{holds};
-ghost use Rattle.slot_places.specs.declared.TheConstants.{MOST_PLACED};
+ghost use Rattle.limits.specs.declared.TheConstants.{MOST_PLACED};
 
 use slot_places::Slots;
 

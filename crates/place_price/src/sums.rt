@@ -9,7 +9,7 @@ ghost use Rattle.cert_laws.specs.MarketTests.{sum_holding};
 ghost use Rattle.limits.specs.declared.TheConstants.{MOST_AMOUNT};
 ghost use Rattle.place_cert.specs.Parts.{row_value, AreRows};
 ghost use Rattle.slot_places.specs.Board.{market_of};
-ghost use Rattle.slot_places.specs.declared.TheConstants.{MOST_PLACED};
+ghost use Rattle.limits.specs.declared.TheConstants.{MOST_PLACED};
 ghost use Rattle.place_price.specs.Multipliers.{multiplier_of};
 
 use crate::amounts::amount;

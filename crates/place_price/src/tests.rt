@@ -50,7 +50,10 @@ fn fails_at(
         let text = edited(alloc, *from, *to, other)?;
         assert_eq!(rt;
             verdict_of(rt, alloc, text.as_slice()),
-            Verdict::No { test: *test, place: *place },
+            Verdict::No {
+                test: *test,
+                place: *place
+            },
             "{from} {other}"
         );
     }

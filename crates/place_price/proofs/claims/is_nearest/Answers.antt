@@ -36,8 +36,7 @@ returns c =
     let sum_own = to_z-of_z w128 c.sum_of-sum.result sum_fits in
     let fits = less-fits _ _ _ _ paid sum_own small c.sum_of-sum.ensures.size in
     let test = rw (to_z-of_z w128 c.args.cert.now.den den_fits) at c.is_product.ensures in
-    let own = above-price c.is_product.result _ _ _ (times-same c.is_product.result c.args.cert.now.den _ _ _ _ (to_z-of_z w128 _ fits ∙ less-same _ _ _ _ paid sum) price test) in
-    (
+    let own = above-price c.is_product.result _ _ _ (times-same c.is_product.result c.args.cert.now.den _ _ _ _ (to_z-of_z w128 _ fits ∙ less-same _ _ _ _ paid sum) price test) in (
       λ t _. own.0 t,
       λ h. own.1 (h (wins-some c.args.cert.now.choice c.args.j c.number.result c.number.ensures c.if-number-eq0.false)),
     )

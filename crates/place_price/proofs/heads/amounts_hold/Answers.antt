@@ -21,9 +21,8 @@ returns c =
     let slots = c.args.slots.now in
     let value_fits : SFits w128 c.args.cert.now.value = search rules in
     let value = to_z-of_z w128 c.args.cert.now.value value_fits in
-    let f = worth_with slots (pos 1) (replicate 6 (pos 0)) in
-    (
+    let f = worth_with slots (pos 1) (replicate 6 (pos 0)) in (
       λ t. (let own = whole-table slots f (amount_of slots) c.args.cert.now.table _ c.args.cert.now.value c.args.place (λ j i some inside. plain-worth slots 6 j i) value (c.table_holds.ensures.0 t) in
-      record { rules = own.rules; top = own.top }),
+          record { rules = own.rules; top = own.top }),
       λ h. c.table_holds.ensures.1 (table-whole slots f (amount_of slots) c.args.cert.now.table _ c.args.cert.now.value c.args.place (λ j i some inside. plain-worth slots 6 j i) value (record { rules = h.rules; top = h.top })),
     )

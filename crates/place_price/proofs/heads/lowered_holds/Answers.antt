@@ -49,8 +49,7 @@ returns c =
     let g = lowered_in (market_of slots) p.cert in
     let same = lowered-worth slots p c.requires.lower c.put_gains.new.gains c.put_gains.ensures.gains in
     let test = subst (λ (z : ℤ). IsTrue c.table_holds.result ↔ SetTableAt (board_without slots 0) (worth_with slots z c.put_gains.new.gains) c.args.cert.now.lowered (to_z w128 (of_z w128 c.total_of.result)) c.args.place)
-    (to_z-of_z w128 c.args.cert.now.den den_fits) c.table_holds.ensures in
-    (
+    (to_z-of_z w128 c.args.cert.now.den den_fits) c.table_holds.ensures in (
       λ t. (let own = whole-table slots f g c.args.cert.now.lowered _ _ c.args.place same total (test.0 t) in record { rules = own.rules; top = own.top }),
       λ h. test.1 (table-whole slots f g c.args.cert.now.lowered _ _ c.args.place same total (record { rules = h.rules; top = h.top })),
     )
