@@ -1,10 +1,9 @@
 // What bids and choices are worth.
 ghost use Rattle.std.specs.Prelude.{◌≡◌, ◌*◌, ◌≤◌, ◌<◌, ◌≤ℤ◌, length, pos};
 ghost use Rattle.auction_model.specs.Market.{value_of};
-ghost use Rattle.limits.specs.declared.TheConstants.{MOST_AMOUNT};
+ghost use Rattle.limits.specs.declared.TheConstants.{MOST_AMOUNT, MOST_PLACED};
 ghost use Rattle.slot_places.specs.Board.{market_of};
 ghost use Rattle.slot_places.specs.Slots.{amount_of};
-ghost use Rattle.limits.specs.declared.TheConstants.{MOST_PLACED};
 
 use slot_places::Slots;
 

@@ -6,10 +6,9 @@ ghost use Rattle.auction_model.specs.Prices.{sum_over, everyone};
 ghost use Rattle.cert_form.specs.CertText.{AllInRange, AreMembers};
 ghost use Rattle.cert_form.specs.Certificate.{is_member};
 ghost use Rattle.cert_laws.specs.MarketTests.{sum_holding};
-ghost use Rattle.limits.specs.declared.TheConstants.{MOST_AMOUNT};
+ghost use Rattle.limits.specs.declared.TheConstants.{MOST_AMOUNT, MOST_PLACED};
 ghost use Rattle.place_cert.specs.Parts.{row_value, AreRows};
 ghost use Rattle.slot_places.specs.Board.{market_of};
-ghost use Rattle.limits.specs.declared.TheConstants.{MOST_PLACED};
 ghost use Rattle.place_price.specs.Multipliers.{multiplier_of};
 
 use crate::amounts::amount;
