@@ -1,8 +1,7 @@
 -- The parts of a certificate without each winner, with their orders.
-use Rattle.std.specs.Prelude.{◌↔◌, ◌≡◌, ℕ, zero, suc, ◌+◌, ◌<◌, ◌≤◌, ◌==◌, ◌&&◌, Bool, IsTrue, List, [], ◌∷◌, length, map, drop, get_or, ℤ, pos, ◌≤ℤ◌, refl}
+use Rattle.std.specs.Prelude.{◌↔◌, ◌≡◌, ℕ, zero, suc, ◌+◌, ◌<◌, ◌≤◌, ◌==◌, ◌&&◌, Bool, IsTrue, List, [], ◌∷◌, length, map, drop, get_or, ℤ, refl}
 use Rattle.std.proofs.Common.{sym, ◌∙◌, ap, subst, arith, drop-cons}
-use Rattle.std.proofs.lemmas.Bool.{cond-true, cond-false, eq-eqb, ne_eqb, false≢true, and_parts, eqb-true}
-use Rattle.auction_model.specs.Market.{number_of, value_of}
+use Rattle.std.proofs.lemmas.Bool.{cond-true, cond-false, eq-eqb, ne_eqb, and_parts, eqb-true}
 use Rattle.cert_form.specs.Certificate.{WithoutValue, part_of}
 use Rattle.place_cert.specs.Parts.{part_value, part_order, AreParts}
 use Rattle.place_cert.specs.PlaceText.{HasSets, IsPlaceCertificate}
@@ -11,8 +10,7 @@ use Rattle.place_cert.specs.declared.certificate.PlaceCertificate.{PlaceCertific
 use Rattle.place_cert.specs.declared.certificate.PlaceWithout.{PlaceWithout}
 use Rattle.cert_form.specs.PlaceCert.{order_without}
 use Rattle.place_laws.specs.PlaceTests.{IsPlacedPart}
-use Rattle.slot_places.specs.Board.{board_of, nobody}
-use Rattle.slot_places.specs.Orders.{allows, are_new, gives}
+use Rattle.slot_places.specs.Orders.{allows}
 use Rattle.slot_places.specs.Slots.{SlotList}
 use Rattle.place_price.specs.Shown.{IsFor}
 

@@ -1,5 +1,5 @@
 -- Tables of one line with an entry for each set.
-use Rattle.std.specs.Prelude.{◌≡◌, ℕ, zero, suc, ◌^◌, ◌<◌, List, [], ◌∷◌, length, slice_index_or, ℤ, unsigned_abs}
+use Rattle.std.specs.Prelude.{◌≡◌, ℕ, ◌^◌, ◌<◌, List, [], ◌∷◌, length, slice_index_or, ℤ, unsigned_abs}
 use Rattle.std.proofs.Common.{arith}
 use Rattle.auction_model.specs.Table.{entry_at}
 use Rattle.cert_form.specs.CertText.{IsTable}

@@ -1,13 +1,13 @@
 -- The rules at a set from those of each bidder, and a table's places.
-use Rattle.std.specs.Prelude.{◌≡◌, ℕ, ◌+◌, ◌-◌, ◌^◌, ◌≤◌, ◌<◌, ◌↔◌, Bool, true, false, IsTrue, IsFalse, List, ℤ, pos, ◌+ℤ◌, ◌≤ℤ◌, length, refl}
-use Rattle.std.proofs.Common.{inl, inr, sym, ◌∙◌, ap, subst, arith, eqb}
+use Rattle.std.specs.Prelude.{◌≡◌, ℕ, ◌+◌, ◌-◌, ◌^◌, ◌≤◌, ◌<◌, ◌↔◌, Bool, true, false, IsTrue, List, ℤ, pos, ◌≤ℤ◌, length, refl}
+use Rattle.std.proofs.Common.{inl, inr, sym, ◌∙◌, subst, arith, eqb}
 use Rattle.std.proofs.lemmas.Bool.{cases_lt, cond-false, ne_eqb, false≢true}
 use Rattle.std.proofs.lemmas.Int.{ints}
 use Rattle.auction_model.specs.Table.{entry_at}
 use Rattle.slot_places.specs.Board.{Board, board_of, board_without}
 use Rattle.slot_places.specs.SetTable.{holds}
 use Rattle.slot_places.specs.Slots.{SlotList, bids_of}
-use Rattle.place_laws.specs.PlaceTests.{ObeysSet, ObeysSets}
+use Rattle.place_laws.specs.PlaceTests.{ObeysSet}
 use Rattle.place_price.specs.OfferRules.{KeepsBid, KeepsBidder, SetTableAt}
 
 -- a test that fails

@@ -1,20 +1,18 @@
 -- No number leaves the range: products with the denominator, and the worths that a table is tested for.
-use Rattle.std.specs.Prelude.{◌≡◌, ℕ, zero, suc, ◌+◌, ◌-◌, ◌*◌, ◌^◌, ◌≤◌, ◌<◌, Bool, IsTrue, IsFalse, List, length, replicate, get_or, ℤ, pos, negsuc, ◌+ℤ◌, ◌-ℤ◌, ◌*ℤ◌, ◌≤ℤ◌, ◌<ℤ◌, unsigned_abs, refl, if◌then◌else◌, cond}
+use Rattle.std.specs.Prelude.{◌≡◌, ℕ, zero, suc, ◌+◌, ◌-◌, ◌*◌, ◌^◌, ◌≤◌, ◌<◌, List, length, replicate, get_or, ℤ, pos, negsuc, ◌-ℤ◌, ◌*ℤ◌, ◌≤ℤ◌, unsigned_abs, refl}
 use Rattle.std.proofs.Common.{FitsSigned, to_z, of_z, inl, inr, sym, ◌∙◌, ap, subst, arith}
 use Rattle.std.proofs.lemmas.Bool.{cases_Bool, cond-true, cond-false}
 use Rattle.std.proofs.lemmas.Int.{ints, to_z-of_z}
 use Rattle.std.specs.Int.{w128}
 use Rattle.std.proofs.lemmas.List.{length-replicate}
 use Rattle.auction_model.specs.Lowered.{of_bidder}
-use Rattle.auction_model.specs.Market.{uses, number_of, value_of, worth_in}
-use Rattle.auction_model.specs.Table.{entry_at}
-use Rattle.slot_places.specs.Board.{Board, board_of, board_without, market_of}
+use Rattle.auction_model.specs.Market.{uses, worth_in}
+use Rattle.slot_places.specs.Board.{board_of, market_of}
 use Rattle.slot_places.specs.Kept.{AreSlots}
-use Rattle.slot_places.specs.SetTable.{holds}
-use Rattle.slot_places.specs.Slots.{SlotList, bids_of, bid_of, amount_of}
+use Rattle.slot_places.specs.Slots.{SlotList, bid_of, amount_of}
 use Rattle.slot_places.proofs.WithoutLaws.{one-bid}
 use Rattle.cert_form.specs.PlaceCert.{PlaceCertValue}
-use Rattle.place_laws.specs.PlaceTests.{ObeysSet, ObeysSets, lowered_in, P1, P2, P3, P5}
+use Rattle.place_laws.specs.PlaceTests.{lowered_in, P1, P2, P3, P5}
 use Rattle.place_laws.proofs.SetSizes.{worth-most}
 use Rattle.cert_check.proofs.LoweredLaws.{scaled-small}
 use Rattle.place_price.specs.OfferRules.{worth_with, HasSmallWorths}

@@ -1,5 +1,5 @@
 -- A number that is counted or not.
-use Rattle.std.specs.Prelude.{ℕ, ◌^◌, Bool, true, false, cond, ℤ, pos, ◌≤ℤ◌}
+use Rattle.std.specs.Prelude.{◌^◌, Bool, true, false, cond, ℤ, pos, ◌≤ℤ◌}
 use Rattle.std.proofs.Common.{arith}
 use Rattle.std.proofs.lemmas.Int.{ints}
 

@@ -3,7 +3,7 @@ use Rattle.std.specs.Prelude.{◌≡◌, ℕ, ◌^◌, ◌<◌, ◌≤◌, IsTru
 use Rattle.auction_model.specs.Lowered.{of_bidder}
 use Rattle.auction_model.specs.Market.{uses, worth_in}
 use Rattle.cert_form.specs.Certificate.{CertValue, RowValue}
-use Rattle.cert_form.specs.CertText.{IsChoice, IsRow}
+use Rattle.cert_form.specs.CertText.{IsRow}
 use Rattle.cert_laws.specs.MarketTests.{IsTight}
 use Rattle.place_cert.specs.Parts.{row_value}
 use Rattle.place_cert.specs.declared.certificate.PlaceCertificate.{PlaceCertificate}

@@ -76,7 +76,7 @@ pub(crate) fn total_of(payments: &[i128]) -> i128
 {
     let mut sum = 0i128;
     for k in 0..payments.len() {
-        sum += counted(true, payments[k]);
+        sum += payments[k];
     }
     sum
 }

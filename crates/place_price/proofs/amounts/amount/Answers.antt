@@ -1,4 +1,4 @@
-use Rattle.std.proofs.Common.{◌≡◌, ◌∙◌, sym, ap, arith, pos, ℕ}
+use Rattle.std.proofs.Common.{sym, arith}
 use Rattle.std.proofs.lemmas.Int.{ints}
 use Rattle.place_price.proofs.AmountLaws.{amount-past, amount-most}
 use Rattle.place_price.proofs.amounts.amount.Goals as goal

@@ -1,4 +1,4 @@
-use Rattle.std.proofs.Common.{◌≡◌, None, ◌∙◌, subst, refl, arith, rules}
+use Rattle.std.proofs.Common.{◌≡◌, None, ◌∙◌, subst, arith, rules}
 use Rattle.cert_check.specs.Places.{IsFirstFailing}
 use Rattle.place_cert.specs.CertValues.{place_cert_value}
 use Rattle.place_laws.specs.PlaceTests.{Asks}

@@ -1,4 +1,4 @@
-use Rattle.std.proofs.Common.{◌≡◌, ◌∙◌, ◌-◌, ◌-ℤ◌, ◌*ℤ◌, ℤ, List, get_or, pos, sym, ap, subst, arith, rules}
+use Rattle.std.proofs.Common.{◌∙◌, ◌-◌, ℤ, List, get_or, pos, sym, ap, subst, rules}
 use Rattle.std.proofs.lemmas.Int.{to_z-of_z}
 use mir.Val.{SFits}
 use mir.Syntax.{w128}

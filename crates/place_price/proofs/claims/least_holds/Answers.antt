@@ -1,4 +1,4 @@
-use Rattle.std.proofs.Common.{◌≡◌, arith}
+use Rattle.std.proofs.Common.{arith}
 use Rattle.std.proofs.lemmas.Bool.{iff_false}
 use Rattle.place_cert.specs.CertValues.{place_cert_value}
 use Rattle.slot_places.specs.Board.{market_of}

@@ -1,4 +1,4 @@
-use Rattle.std.proofs.Common.{◌≡◌, ◌∙◌, ◌-◌, ◌<◌, List, get_or, length, sym, ap, subst, arith}
+use Rattle.std.proofs.Common.{◌-◌, ◌<◌, List, length, sym, subst, arith}
 use Rattle.std.proofs.lemmas.Bool.{iff_false}
 use Rattle.place_cert.specs.CertValues.{place_cert_value}
 use Rattle.place_cert.specs.Parts.{AreRows}

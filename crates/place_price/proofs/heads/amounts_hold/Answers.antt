@@ -1,10 +1,9 @@
-use Rattle.std.proofs.Common.{◌≡◌, refl, arith, rules, replicate, pos, length, sym, ap, to_z, of_z}
+use Rattle.std.proofs.Common.{arith, rules, replicate, pos}
 use Rattle.std.proofs.lemmas.Int.{to_z-of_z}
 use mir.Val.{SFits}
 use mir.Syntax.{w128}
-use Rattle.slot_places.specs.Board.{board_of, board_without}
 use Rattle.slot_places.specs.Slots.{amount_of}
-use Rattle.place_price.specs.OfferRules.{worth_with, SetTableAt}
+use Rattle.place_price.specs.OfferRules.{worth_with}
 use Rattle.place_price.proofs.PartLaws.{cert-kept}
 use Rattle.place_price.proofs.SetTests.{whole-table, table-whole}
 use Rattle.place_price.proofs.Small.{plain-small, plain-worth}

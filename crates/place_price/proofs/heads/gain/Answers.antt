@@ -1,4 +1,4 @@
-use Rattle.std.proofs.Common.{◌≡◌, ◌∙◌, ◌-◌, ◌-ℤ◌, ◌*ℤ◌, ◌^◌, ◌<◌, ◌≤◌, ◌*◌, ℤ, List, get_or, length, pos, unsigned_abs, sym, ap, subst, arith, rules}
+use Rattle.std.proofs.Common.{◌∙◌, ◌-◌, ◌-ℤ◌, ◌*ℤ◌, ◌^◌, ◌<◌, ℤ, List, get_or, pos, unsigned_abs, sym, ap, subst, arith, rules}
 use Rattle.std.proofs.lemmas.Bool.{cond-true}
 use Rattle.std.proofs.lemmas.Int.{to_z-of_z}
 use mir.Val.{SFits}

@@ -1,8 +1,5 @@
-use Rattle.std.proofs.Common.{◌≡◌, ◌∙◌, ◌<◌, ◌≤◌, ap, sym, subst, List, ℕ, [], drop, get_or, length, arith}
-use Rattle.std.specs.Prelude.{IsTrue, ◌↔◌}
+use Rattle.std.proofs.Common.{◌∙◌, ◌<◌, ◌≤◌, ap, subst, List, get_or, length, arith}
 use Rattle.std.proofs.lemmas.List.{drop_all}
-use Rattle.cert_form.specs.Certificate.{WithoutValue}
-use Rattle.place_laws.specs.PlaceTests.{IsPlacedPart}
 use Rattle.place_cert.specs.Parts.{part_order, part_value}
 use Rattle.place_cert.specs.declared.certificate.PlaceWithout.{PlaceWithout}
 use Rattle.place_price.proofs.PartLaws.{HasForm, part-form, found-part, found-order, from-next, from-start, no-part, part-by}

@@ -1,4 +1,4 @@
-use Rattle.std.proofs.Common.{refl, arith, replicate, pos, length, sym}
+use Rattle.std.proofs.Common.{arith, replicate, pos, sym}
 use Rattle.slot_places.specs.Board.{board_without}
 use Rattle.slot_places.specs.Slots.{amount_of}
 use Rattle.place_price.specs.OfferRules.{worth_with}

@@ -1,4 +1,4 @@
-use Rattle.std.proofs.Common.{◌≡◌, ◌∙◌, sym, ap, arith, not}
+use Rattle.std.proofs.Common.{◌∙◌, sym, ap, arith, not}
 use Rattle.std.proofs.lemmas.Bool.{iff_false, eq-eqb}
 use Rattle.auction_model.specs.Market.{number_of}
 use Rattle.place_cert.specs.CertValues.{place_cert_value}

@@ -1,4 +1,4 @@
-use Rattle.std.proofs.Common.{◌≡◌, ◌∙◌, ◌^◌, sym, subst, length, arith, List, ℕ}
+use Rattle.std.proofs.Common.{◌∙◌, ◌^◌, sym, subst, length, arith, List, ℕ}
 use Rattle.std.specs.Prelude.{IsTrue}
 use Rattle.std.proofs.lemmas.Bool.{false≢true}
 use Rattle.slot_places.specs.Orders.{allows}

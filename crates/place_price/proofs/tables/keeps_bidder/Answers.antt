@@ -1,4 +1,4 @@
-use Rattle.std.proofs.Common.{◌≡◌, ◌^◌, true, length, arith, rules}
+use Rattle.std.proofs.Common.{◌^◌, length, arith, rules}
 use Rattle.slot_places.specs.Board.{board_without}
 use Rattle.slot_places.proofs.SetBits.{joined-small}
 use Rattle.place_price.specs.OfferRules.{worth_with}

@@ -1,4 +1,3 @@
-use Rattle.std.proofs.Common.{length}
 use Rattle.slot_places.specs.Board.{board_without}
 use Rattle.place_price.specs.OfferRules.{worth_with}
 use Rattle.place_price.proofs.SetTests.{KeepsTo}

@@ -1,4 +1,4 @@
-use Rattle.std.proofs.Common.{◌≡◌, ◌≤◌, ◌^◌, ℕ, length, ap, arith, rules}
+use Rattle.std.proofs.Common.{◌≡◌, ◌≤◌, ◌^◌, ℕ, length, ap, arith}
 use Rattle.slot_places.specs.Board.{board_without}
 use Rattle.slot_places.proofs.SetBits.{power-most}
 use Rattle.place_price.specs.OfferRules.{worth_with}
