@@ -1,4 +1,4 @@
-//! Prices of placements in a band with their certificate, and the checker of such certificates.
+//! The checker of the certificates of placements in a band. It takes no memory.
 #![tactic(auto)]
 
 mod amounts;
