@@ -71,7 +71,7 @@ fn names_the_first_test_of_the_choices_that_fails(rt: HostRuntime) -> Result<(),
     let faulty = [
         (8, 13, "den 0", 1, 1),
         (14, 22, "value -1", 1, 2),
-        (35, 48, "choice 1 1 2\n", 2, 3),
+        (35, 48, "choice 1 2 0\n", 2, 2),
         (23, 34, "order 1 2 3", 2, 4),
         (14, 22, "value 17", 2, 5),
         (54, 73, "t 18 8 12 0 8 8 0 -1", 3, 7),
