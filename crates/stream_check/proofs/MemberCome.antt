@@ -5,6 +5,7 @@ use Rattle.std.proofs.lemmas.Bool.{cases_lt}
 use Rattle.auction_model.specs.Book.{Book}
 use Rattle.cert_form.specs.Certificate.{CertValue}
 use Rattle.cert_form.specs.CertText.{AreMembers, AtMost, IsRow, as_numbers}
+use Rattle.text_lines.proofs.Words.{word_front}
 use Rattle.cert_laws.specs.Tests.{bidders_of, states}
 use Rattle.cert_pieces.specs.declared.due.Due.{Due}
 use Rattle.cert_pieces.specs.declared.due.Due.TheVariants.{Version, Limits, Den, Value, Choice, Title, Entries, Without, PartChoice, Payments, Rows, Members, Multipliers, RowChoice, End, Nothing}
@@ -119,10 +120,6 @@ members-come at c is r next due follows =
 pub segment-few : (b s r : ℕ) (room : List ℤ) → length (segment b s (Members r) room) ≤ b
 segment-few b s r room = omega (arith, length-take b (drop (start_due b s (Members r)) room))
 
--- the first part of two
-front : (xs ys : List ℕ) → take (length xs) (xs ++ ys) ≡ xs
-front [] ys = refl
-front (x ∷ xs) ys = ap (λ (l : List ℕ). x ∷ l) (front xs ys)
-
+-- the first part of two, of this length
 pub take-front : (n : ℕ) (xs ys : List ℕ) → length xs ≡ n → take n (xs ++ ys) ≡ xs
-take-front n xs ys long = ap (λ (m : ℕ). take m (xs ++ ys)) (sym long) ∙ front xs ys
+take-front n xs ys long = ap (λ (m : ℕ). take m (xs ++ ys)) (sym long) ∙ word_front xs ys

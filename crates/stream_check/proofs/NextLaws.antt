@@ -1,5 +1,5 @@
 -- What is known of the tests behind a line, by the line that comes next.
-use Rattle.std.proofs.Common.{◌≡◌, ◌≢◌, ℕ, zero, suc, ◌+◌, ◌-◌, ◌<◌, ◌≤◌, List, [], ◌∷◌, get_or, inl, inr, refl, sym, ap, subst, ◌∙◌, arith}
+use Rattle.std.proofs.Common.{◌≡◌, ◌≢◌, ℕ, suc, ◌+◌, ◌-◌, ◌<◌, ◌≤◌, List, get_or, inl, inr, refl, sym, ap, subst, ◌∙◌, arith}
 use Rattle.std.proofs.lemmas.Bool.{cases_lt}
 use Rattle.std.specs.Prelude.{pos, Option, Some, None, IsTrue}
 use Rattle.auction_model.specs.Book.{Book}
@@ -12,6 +12,7 @@ use Rattle.cert_check.specs.declared.failure.Failure.{Failure}
 use Rattle.cert_check.specs.Partway.{HoldsTo, IsJudged}
 use Rattle.cert_check.proofs.PartLaws.{loses-zero, wins-some}
 use Rattle.cert_check.proofs.PartwayLaws.{holds-further, holds-whole}
+use Rattle.stream_check.proofs.NumberLaws.{number-is}
 use Rattle.cert_pieces.specs.declared.due.Due.{Due}
 use Rattle.cert_pieces.specs.declared.due.Due.TheVariants.{Version, Limits, Den, Value, Choice, Title, Entries, Without, PartChoice, Payments, Rows, Members, Multipliers, RowChoice, End, Nothing}
 use Rattle.cert_pieces.specs.declared.due.Table.TheVariants.{Head, Part, Lowered}
@@ -36,12 +37,6 @@ found-by book w c test place next None late judged more = more judged
 -- for the line that is next
 pub found-next : (book : Book) (w : ℕ → ℕ) (c : CertValue) (due next : Due) (failed : Option Failure) (late : Option ℕ) → next ≡ due → IsFound book w c due failed late → IsFound book w c next failed late
 found-next book w c due next failed late is found = subst (λ (d : Due). IsFound book w c d failed late) (sym is) found
-
--- the number of a bidder in the choice, as one of a line
-number-is : (choice : List ℕ) (q : ℕ) → get_or (as_numbers choice) q (pos 0) ≡ pos (get_or choice q 0)
-number-is [] q = refl
-number-is (n ∷ choice) zero = refl
-number-is (n ∷ choice) (suc q) = number-is choice q
 
 -- a bidder whose number is 0 loses
 pub loses : (choice : List ℕ) (j : ℕ) → get_or (as_numbers choice) (j - 1) (pos 0) ≡ pos 0 → IsTrue (uses choice j) → ⊥

@@ -3,7 +3,8 @@ use Rattle.std.proofs.Common.{◌≡◌, ◌≢◌, ℕ, zero, suc, ◌+◌, ◌
 use Rattle.std.specs.Prelude.{ℤ, pos}
 use Rattle.cert_form.specs.CertText.{AtMost, as_numbers}
 
-number-is : (ns : List ℕ) (q : ℕ) → get_or (as_numbers ns) q (pos 0) ≡ pos (get_or ns q 0)
+-- the number of a bidder in a choice, as one of a line
+pub number-is : (ns : List ℕ) (q : ℕ) → get_or (as_numbers ns) q (pos 0) ≡ pos (get_or ns q 0)
 number-is [] q = refl
 number-is (n ∷ ns) zero = refl
 number-is (n ∷ ns) (suc q) = number-is ns q
@@ -29,11 +30,6 @@ pub put-more : (to ns : List ℕ) (k v : ℕ) → k < length to → ((q : ℕ) �
 put-more to ns k v inside done is = below_more (λ q. get_or (set to k v) q 0 ≡ get_or ns q 0) k
     (λ q h. let other : q ≢ k = omega arith in rw get_or-set_other (done q h))
     (rw get_or-set_same is)
-
-pub set-long : (to : List ℕ) (k v : ℕ) → length (set to k v) ≡ length to
-set-long [] k v = refl
-set-long (x ∷ to) zero v = refl
-set-long (x ∷ to) (suc k) v = ap suc (set-long to k v)
 
 -- lists of the same numbers
 pub same-list : (xs ys : List ℕ) → length xs ≡ length ys → ((q : ℕ) → q < length xs → get_or xs q 0 ≡ get_or ys q 0) → xs ≡ ys

@@ -2,6 +2,7 @@
 use Rattle.std.proofs.Common.{◌≡◌, ℕ, zero, suc, ◌+◌, ◌-◌, ◌*◌, ◌^◌, ◌<◌, ◌≤◌, List, [], ◌∷◌, length, get_or, inl, inr, refl, sym, ap, subst, ◌∙◌, arith, set}
 use Rattle.std.proofs.lemmas.Bool.{cases_lt}
 use Rattle.std.proofs.lemmas.Int.{ints}
+use Rattle.std.proofs.lemmas.List.{length-set}
 use Rattle.std.specs.Prelude.{ℤ, pos, ◌+ℤ◌, unsigned_abs, if◌then◌else◌}
 use Rattle.auction_model.specs.Lowered.{of_bidder}
 use Rattle.cert_form.specs.Certificate.{CertValue, RowValue, is_member, row_of}
@@ -75,12 +76,6 @@ number-more numbers f n z inside are is r some le =
         let back : k ≡ k + 1 - 1 = omega arith in
         ap (λ (x : ℕ). get_or numbers x (pos 0)) back ∙ are (k + 1) (omega arith) (omega (arith, lt))
 
--- a list of as many numbers
-set-long : (xs : List ℤ) (k : ℕ) (z : ℤ) → length (set xs k z) ≡ length xs
-set-long [] k z = refl
-set-long (x ∷ xs) zero z = refl
-set-long (x ∷ xs) (suc k) z = ap suc (set-long xs k z)
-
 -- one row more
 pub totals-more : (c : CertValue) (n : ℕ) (t u : RowTotals) (members : List ℕ) (first second : ℤ) → AreTotals c n t → (row_of c.rows (suc n)).members ≡ members → (row_of c.rows (suc n)).first ≡ first → (row_of c.rows (suc n)).second ≡ second
     → n < length t.firsts → n < length t.seconds → u.count ≡ n + 1 → u.firsts ≡ set t.firsts n first → u.seconds ≡ set t.seconds n second
@@ -89,7 +84,7 @@ pub totals-more : (c : CertValue) (n : ℕ) (t u : RowTotals) (members : List �
     → AreTotals c (suc n) u
 totals-more c n t u members first second are members_are first_is second_is long_firsts long_seconds count firsts seconds first_sums second_sums = record {
   count = omega (arith, count);
-  long = (ap (λ (l : List ℤ). length l) firsts ∙ set-long t.firsts n first ∙ are.long.0, ap (λ (l : List ℤ). length l) seconds ∙ set-long t.seconds n second ∙ are.long.1);
+  long = (ap (λ (l : List ℤ). length l) firsts ∙ length-set t.firsts n first ∙ are.long.0, ap (λ (l : List ℤ). length l) seconds ∙ length-set t.seconds n second ∙ are.long.1);
   firsts = λ r some le. subst (λ (l : List ℤ). nth l (r - 1) ≡ (row_of c.rows r).first) (sym firsts) (number-more t.firsts (λ r. (row_of c.rows r).first) n first long_firsts are.firsts (sym first_is) r some le);
   seconds = λ r some le. subst (λ (l : List ℤ). nth l (r - 1) ≡ (row_of c.rows r).second) (sym seconds) (number-more t.seconds (λ r. (row_of c.rows r).second) n second long_seconds are.seconds (sym second_is) r some le);
   first_sums = λ j some le. first_sums j some le ∙ sum (of_bidder t.first_sums j) (sum_holding c.rows j (λ row. row.first) n) j first (row_of c.rows (suc n)).first (are.first_sums j some le) (sym first_is);
