@@ -1,0 +1,2 @@
+//! The edits of a book, and the reader of their file.
+#![tactic(auto)]

@@ -1,0 +1,10 @@
+use Rattle.std.proofs.Common.{◌≡◌, ◌≤◌, ◌*◌, ◌^◌, unsigned_abs}
+use Rattle.auction_model.specs.Lowered.{of_bidder}
+use Rattle.auction_model.specs.Prices.{sum_over, everyone}
+use Rattle.place_check.proofs.sums.total_of.Given as goal
+
+abbrev pub invariant-loop-k : goal.invariant-loop-k
+invariant-loop-k l = record {
+  sum : l.sum ≡ sum_over everyone (of_bidder l.payments) l.k;
+  size : unsigned_abs l.sum ≤ l.k * 2 ^ 120;
+}

@@ -1,0 +1,145 @@
+// Sums over bidders and over rows.
+ghost use Rattle.std.specs.Prelude.{IsTrue, length, map, not, pos, unsigned_abs, if◌then◌else◌, ℕ, ◌*◌, ◌<◌, ◌^◌, ◌≡◌, ◌≤ℤ◌, ◌≤◌, ◌↔◌};
+ghost use Rattle.auction_model.specs.Lowered.{of_bidder};
+ghost use Rattle.auction_model.specs.Market.{number_of, uses, worth_in};
+ghost use Rattle.auction_model.specs.Prices.{sum_over, everyone};
+ghost use Rattle.cert_form.specs.CertText.{AllInRange, AreMembers};
+ghost use Rattle.cert_form.specs.Certificate.{is_member};
+ghost use Rattle.cert_laws.specs.MarketTests.{sum_holding};
+ghost use Rattle.limits.specs.declared.TheConstants.{MOST_AMOUNT, MOST_PLACED};
+ghost use Rattle.place_cert.specs.Parts.{row_value, AreRows};
+ghost use Rattle.slot_places.specs.Board.{market_of};
+ghost use Rattle.place_check.specs.Multipliers.{multiplier_of};
+
+use crate::amounts::amount;
+use choices::Choice;
+use place_cert::PlaceRow;
+use slot_places::Slots;
+
+/// One of the two multipliers of a row.
+#[derive(Clone, Copy)]
+pub(crate) enum Multiplier {
+    First,
+    Second,
+}
+
+/// Whether a bidder is among the members of a row.
+pub(crate) fn is_among(members: &[u16], j: u16) -> bool
+    ensures { result ≡ is_member members.now j }
+{
+    for member in members {
+        if *member == j {
+            return true;
+        }
+    }
+    false
+}
+
+/// Whether the choice uses all members.
+pub(crate) fn uses_all(choice: &Choice, members: &[u16]) -> bool
+    requires { AreMembers (length choice.now) 0 members.now }
+    ensures { IsTrue result ↔ ((j : ℕ) → IsTrue (is_member members.now j) → IsTrue (uses choice.now j)) }
+{
+    for member in members {
+        if choice.number(*member) == 0 {
+            return false;
+        }
+    }
+    true
+}
+
+/// Whether the choice uses no member.
+pub(crate) fn uses_none(choice: &Choice, members: &[u16]) -> bool
+    requires { AreMembers (length choice.now) 0 members.now }
+    ensures { IsTrue result ↔ ((j : ℕ) → IsTrue (is_member members.now j) → number_of choice.now j ≡ 0) }
+{
+    for member in members {
+        if choice.number(*member) != 0 {
+            return false;
+        }
+    }
+    true
+}
+
+/// The amount where the test passes, else 0.
+fn counted(passes: bool, amount: i128) -> i128
+    ensures { result ≡ (if passes then amount else pos 0) }
+{
+    if passes { amount } else { 0 }
+}
+
+/// What all pay together.
+pub(crate) fn total_of(payments: &[i128]) -> i128
+    requires count { length payments.now ≤ MOST_PLACED }
+    requires range { AllInRange payments.now }
+    ensures { result ≡ sum_over everyone (of_bidder payments.now) (length payments.now) }
+{
+    let mut sum = 0i128;
+    for k in 0..payments.len() {
+        sum += payments[k];
+    }
+    sum
+}
+
+/// What the members pay.
+pub(crate) fn paid_by(payments: &[i128], members: &[u16]) -> i128
+    requires count { length payments.now ≤ MOST_PLACED }
+    requires range { AllInRange payments.now }
+    ensures { result ≡ sum_over (is_member members.now) (of_bidder payments.now) (length payments.now) }
+{
+    let mut sum = 0i128;
+    for k in 0..payments.len() {
+        sum += counted(is_among(members, k as u16 + 1), payments[k]);
+    }
+    sum
+}
+
+/// What the bid that the choice gives to bidder `j` is worth, and 0 for a loser.
+pub(crate) fn won(slots: &Slots, choice: &Choice, j: u16) -> i128
+    requires numbers { length choice.now ≡ length slots.now.bidders }
+    requires bidder { (0 < j) × (j ≤ length slots.now.bidders) }
+    ensures won { result ≡ worth_in (market_of slots.now) choice.now j }
+    ensures least { pos 0 ≤ℤ result }
+    ensures most { result ≤ℤ pos MOST_AMOUNT }
+{
+    amount(slots, j, choice.number(j))
+}
+
+/// What the bids of the others count in the choice.
+pub(crate) fn won_beside(slots: &Slots, choice: &Choice, members: &[u16]) -> i128
+    requires numbers { length choice.now ≡ length slots.now.bidders }
+    ensures sum { result ≡ sum_over (λ j. not (is_member members.now j)) (worth_in (market_of slots.now) choice.now) (length slots.now.bidders) }
+    ensures least { pos 0 ≤ℤ result }
+    ensures most { result ≤ℤ pos (MOST_PLACED * MOST_AMOUNT) }
+{
+    let mut sum = 0i128;
+    for k in 0..slots.bidders() {
+        let j = k as u16 + 1;
+        sum += counted(!is_among(members, j), won(slots, choice, j));
+    }
+    sum
+}
+
+/// The sum of the multipliers of the rows that hold bidder `j`.
+pub(crate) fn sum_of(rows: &[PlaceRow], j: u16, which: Multiplier) -> i128
+    requires count { length rows.now ≤ 10 }
+    requires range { (bidders : ℕ) × AreRows bidders rows.now }
+    ensures sum { result ≡ sum_holding (map row_value rows.now) j (multiplier_of which) (length rows.now) }
+    ensures size { unsigned_abs result ≤ 10 * 2 ^ 120 }
+{
+    let mut sum = 0i128;
+    for row in rows {
+        sum += counted(is_among(row.members.items(), j), picked(row, which));
+    }
+    sum
+}
+
+/// A multiplier of a row.
+fn picked(row: &PlaceRow, which: Multiplier) -> i128
+    ensures { result ≡ multiplier_of which (row_value row.now) }
+{
+    match which {
+        Multiplier::First => row.first,
+        Multiplier::Second => row.second,
+    }
+}

@@ -1,0 +1,2 @@
+//! The printed text of a placement: where each bidder starts, what the winners pay, the value and the revenue.
+#![tactic(auto)]
