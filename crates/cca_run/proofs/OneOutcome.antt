@@ -33,13 +33,14 @@ use Rattle.weights_file.specs.WeightsForm.{WeightsSay}
 use Rattle.cca_run.proofs.OneLog.{one-award-answer}
 use Rattle.cca_run.proofs.Ones.{not_few_and_many, ones-weigh}
 use Rattle.cca_inputs.specs.Answers.{AwardAnswers, BookAnswers, CertAnswers, LogAnswers, WeightsAnswers, book_answer, cert_answer, weights_answer}
-use Rattle.cca_inputs.specs.Command.{CommandValue, win, price, check, weigh, weigh_check, auction, award, audit, make, command_of, contents_of}
+use Rattle.cca_inputs.specs.Command.{CommandValue, win, price, check, weigh, weigh_check, auction, award, audit, make, place, place_check, review, command_of, contents_of}
 use Rattle.cca_inputs.specs.Outcome.{Answer, AnswerGives, FileAnswers, InputGives, Outcome, done, stopped, stops, value}
 use Rattle.cca_inputs.specs.declared.file_text.FileText.{FileText}
 use Rattle.cca_inputs.specs.declared.price_form.PriceForm.{PriceForm}
+use Rattle.cca_inputs.specs.declared.status.CertKind.TheVariants as certs
 use Rattle.cca_inputs.specs.declared.status.FileKind.{FileKind}
-use Rattle.cca_inputs.specs.declared.status.FileKind.TheVariants.{Award, Log, Book as BookFile, Cert, Weights}
-use Rattle.limits.specs.declared.TheConstants.{AWARD_BYTES, LOG_BYTES, BOOK_BYTES, CERT_BYTES, WEIGHTS_BYTES}
+use Rattle.cca_inputs.specs.declared.status.FileKind.TheVariants.{Award, Log, Book as BookFile, Cert, Weights, Slots, Edits}
+use Rattle.limits.specs.declared.TheConstants.{AWARD_BYTES, LOG_BYTES, BOOK_BYTES, CERT_BYTES, EDITS_BYTES, SLOTS_BYTES, WEIGHTS_BYTES}
 use Rattle.cca_run.specs.Gives.{ArePriceLines, AreRounds, AuctionGives, BookOfLogGives, CertGives, CommandGives, Gives, EndGives, HasTooMany, IsPricing, IsPrinted, IsYesText, LogGives, PriceGives, RepliesGive, VerdictGives, WeightsGive, WinGives, WordsGive, book_file, cert_file, ones}
 use Rattle.cca_inputs.specs.declared.status.Status.TheVariants.{No, Limit}
 use Rattle.limits.specs.declared.LimitKind.TheVariants.{Winners}
@@ -219,7 +220,7 @@ module _ (one_book : (bytes : List ℕ) (x y : Said Book Excess) → Says IsBook
   one-judged book weights c o p m (inr x) (inl y) = absurd (not_both book (weight_of weights) c x.0 x.1 y.0 x.2)
   one-judged book weights c o p m (inr x) (inr y) =
       let is = one_verdict book (weight_of weights) c x.0 x.1 y.0 y.1 x.2 y.2 in
-      equal o p (stopped (No y.0 y.1)) (x.3 ∙ ap (λ (t : ℕ). stopped (No t x.1)) is.0 ∙ ap (λ (q : ℕ). stopped (No y.0 q)) is.1) y.3
+      equal o p (stopped (No certs.Book y.0 y.1)) (x.3 ∙ ap (λ (t : ℕ). stopped (No certs.Book t x.1)) is.0 ∙ ap (λ (q : ℕ). stopped (No certs.Book y.0 q)) is.1) y.3
 
   one-of : (command : CommandValue) (contents : FileKind → Option (List ℕ)) (o p : Outcome) → CommandGives command contents o → CommandGives command contents p → Same o p
   one-of (win name) contents o p x y = one-input BookFile BOOK_BYTES BookAnswers WinGives one-book-answer (contents BookFile) o p

@@ -1,2 +1,32 @@
 //! The edits of a book, and the reader of their file.
 #![tactic(auto)]
+
+ghost use Rattle.std.specs.Prelude.{◌≡◌};
+ghost use Rattle.edits_file.specs.declared.EditStop.TheVariants.{Memory};
+
+mod edits;
+mod read;
+
+pub use edits::Edits;
+use limits::LimitKind;
+pub use read::read_edits;
+use std::alloc::AllocError;
+
+/// Why bytes state no edits of a book.
+#[derive(Clone, Copy, Debug, PartialEq, Eq)]
+pub enum EditStop {
+    /// The byte where the first faulty line begins, counted from 0.
+    Form(u64),
+    /// There are more edits than there may be: so many, at the first line where that is so.
+    Limit(LimitKind, u64),
+    /// There was no memory.
+    Memory,
+}
+
+impl From<AllocError> for EditStop {
+    ghost from_gives = { λ _ stop. stop ≡ Memory };
+
+    fn from(_error: AllocError) -> EditStop {
+        EditStop::Memory
+    }
+}

@@ -1,2 +1,7 @@
 //! The printed text of a placement: where each bidder starts, what the winners pay, the value and the revenue.
 #![tactic(auto)]
+
+mod lines;
+mod text;
+
+pub use text::place_text;

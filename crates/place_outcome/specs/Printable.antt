@@ -1,0 +1,22 @@
+-- The certificates of a placement whose outcome can be printed: words of private contracts.
+use Rattle.std.specs.Prelude.{◌≡◌, ℕ, ◌<◌, ◌≤◌, length, pos, ◌≤ℤ◌}
+use Rattle.std.specs.List.{AllByRecursion}
+use Rattle.auction_model.specs.Lowered.{of_bidder}
+use Rattle.auction_model.specs.Market.{number_of, value_of}
+use Rattle.place_cert.specs.declared.certificate.PlaceCertificate.{PlaceCertificate}
+use Rattle.slot_places.specs.Board.{market_of}
+use Rattle.slot_places.specs.Slots.{SlotList, bids_of}
+
+-- the number of a bidder
+abbrev pub IsBidder : SlotList → ℕ → Type 0
+IsBidder slots j = (0 < j) × (j ≤ length slots.bidders)
+
+-- it is one of these slots; its order and its choice name bidders and bids that there are; the value is that of the choice, and no
+-- payment is below 0
+pub record CanPrint (slots : SlotList) (c : PlaceCertificate) : Type 0 where
+  pub shape : length c.choice ≡ length slots.bidders
+  pub order : AllByRecursion (IsBidder slots) c.order
+  pub known : (j : ℕ) → 0 < j → j ≤ length slots.bidders → number_of c.choice j ≤ length (bids_of slots j)
+  pub value : value_of (market_of slots) c.choice ≡ c.value
+  pub den_positive : pos 1 ≤ℤ c.den
+  pub not_negative : (j : ℕ) → 0 < j → j ≤ length slots.bidders → pos 0 ≤ℤ of_bidder c.pay j
