@@ -176,7 +176,7 @@ fn win_stands_each_fault(rt: HostRuntime) -> Result<(), Fail> {
     };
     makes_loads(&rt, alloc, WIN, held, 3)?;
     loads_fail(&rt, alloc, WIN, held, FileKind::Book, BOOK_FAULT, 1, 4)?;
-    puts_fail(&rt, alloc, WIN, held, 8)
+    puts_fail(&rt, alloc, WIN, held, 9)
 }
 
 #[test]
@@ -220,10 +220,10 @@ fn auction_stands_each_fault(rt: HostRuntime) -> Result<(), Fail> {
         third: None,
     };
     makes_loads(&rt, alloc, AUCTION, held, 7)?;
-    loads_fail(&rt, alloc, AUCTION, held, FileKind::Award, AWARD_FAULT, 1, 4)?;
-    loads_fail(&rt, alloc, AUCTION, held, FileKind::Log, LOG_FAULT, 4, 8)?;
+    loads_fail(&rt, alloc, AUCTION, held, FileKind::Award, AWARD_FAULT, 1, 5)?;
+    loads_fail(&rt, alloc, AUCTION, held, FileKind::Log, LOG_FAULT, 5, 8)?;
     appends_fail(&rt, alloc, AUCTION, held, FileKind::Book, "cca: write fault book\n", LOWERED_BOOK.as_bytes())?;
-    puts_fail(&rt, alloc, AUCTION, held, 20)
+    puts_fail(&rt, alloc, AUCTION, held, 19)
 }
 
 #[test]
@@ -238,16 +238,17 @@ fn award_and_audit_stand_each_fault(rt: HostRuntime) -> Result<(), Fail> {
     };
     let clean = run_failing(alloc, AWARD, held, CLEAN)?;
     let cert = clean.third.as_deref().unwrap_or(b"");
-    loads_fail(&rt, alloc, AWARD, held, FileKind::Award, AWARD_FAULT, 1, 4)?;
-    loads_fail(&rt, alloc, AWARD, held, FileKind::Log, LOG_FAULT, 4, 8)?;
+    loads_fail(&rt, alloc, AWARD, held, FileKind::Award, AWARD_FAULT, 1, 5)?;
+    loads_fail(&rt, alloc, AWARD, held, FileKind::Log, LOG_FAULT, 5, 8)?;
     appends_fail(&rt, alloc, AWARD, held, FileKind::Cert, "cca: write fault cert\n", cert)?;
     puts_fail(&rt, alloc, AWARD, held, 20)?;
     let tested = Held {
         third: Some(cert),
         ..held
     };
-    loads_fail(&rt, alloc, AUDIT, tested, FileKind::Award, AWARD_FAULT, 1, 4)?;
-    loads_fail(&rt, alloc, AUDIT, tested, FileKind::Log, LOG_FAULT, 4, 8)?;
-    loads_fail(&rt, alloc, AUDIT, tested, FileKind::Cert, CERT_FAULT, 8, 10)?;
+    loads_fail(&rt, alloc, AUDIT, tested, FileKind::Award, AWARD_FAULT, 1, 5)?;
+    loads_fail(&rt, alloc, AUDIT, tested, FileKind::Log, LOG_FAULT, 5, 8)?;
+    makes_loads(&rt, alloc, AUDIT, tested, 11)?;
+    loads_fail(&rt, alloc, AUDIT, tested, FileKind::Cert, CERT_FAULT, 8, 12)?;
     puts_fail(&rt, alloc, AUDIT, tested, 21)
 }
