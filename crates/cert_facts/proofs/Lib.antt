@@ -1,0 +1,4 @@
+pub mod Ranges
+pub mod Known
+mod PartLaws
+pub mod FactLaws
