@@ -1,17 +1,13 @@
 // The lines of the bidders and of the winners.
-ghost use Rattle.std.specs.Prelude.{◌≡◌, ◌<◌, ◌≤◌, ◌+◌, ◌*◌, ◌-◌, ◌^◌, ◌++◌, OnOk, List, ℕ, drop, length};
+ghost use Rattle.std.specs.Prelude.{◌≡◌, ◌<◌, ◌+◌, ◌*◌, ◌^◌, ◌++◌, OnOk, List, ℕ, length};
 ghost use Rattle.std.specs.List.{AllByRecursion};
-ghost use Rattle.auction_model.specs.Lowered.{of_bidder};
 ghost use Rattle.auction_model.specs.Market.{number_of};
-ghost use Rattle.cert_laws.specs.MarketTests.{vickrey_in};
 ghost use Rattle.cert_laws.specs.Sound.{cert_point};
 ghost use Rattle.place_cert.specs.CertValues.{place_cert_value};
 ghost use Rattle.place_laws.specs.PlaceSound.{prices_in};
-ghost use Rattle.print_form.specs.Fractions.{IsFractionText};
 ghost use Rattle.slot_places.specs.Board.{market_of};
-ghost use Rattle.slot_places.specs.Slots.{bid_of, bidder_of};
-ghost use Rattle.place_outcome.specs.PlaceText.{ArePricedLines, placed_line, placed_lines, priced_line};
-ghost use Rattle.place_outcome.specs.Printable.{CanPrint, IsBidder};
+ghost use Rattle.place_outcome.specs.PlaceText.{ArePricedLines, placed_line, placed_lines};
+ghost use Rattle.place_outcome.specs.Printable.{CanPrint, IsBidder, IsLineOf, IsRestOf};
 
 use outcome::{Fraction, add_fraction};
 use place_cert::PlaceCertificate;
@@ -53,28 +49,43 @@ fn add_placed_line(text: &mut Text, slots: &Slots, start: u64, j: u16) -> Result
     text.push(b'\n')
 }
 
-/// Adds the lines of the winners after bidder `before`.
+/// Adds the lines of the winners among bidders with these numbers in the choice, so many others being passed.
 pub(crate) fn add_winners(
     text: &mut Text,
     slots: &Slots,
     cert: &PlaceCertificate,
     before: u16,
+    numbers: &[u16],
 ) -> Result<(), AllocError>
     requires can { CanPrint slots.now cert.now }
-    requires bidder { before ≤ length slots.now.bidders }
-    ensures { OnOk result ((lines : List ℕ) × ArePricedLines slots.now (prices_in (market_of slots.now) (place_cert_value cert.now).cert) (cert_point (place_cert_value cert.now).cert) before (drop before cert.now.choice) lines × (text.new ≡ text.old ++ lines)) }
-    measure { length slots.now.bidders - before }
+    requires few { length slots.now.bidders < 2 ^ 15 }
+    requires rest { IsRestOf cert.now.choice before numbers.now }
+    ensures { OnOk result ((lines : List ℕ) × ArePricedLines slots.now (prices_in (market_of slots.now) (place_cert_value cert.now).cert) (cert_point (place_cert_value cert.now).cert) before numbers.now lines × (text.new ≡ text.old ++ lines)) }
 {
-    let _kept = slots.bidders();
-    if before as usize >= slots.bidders() {
+    match numbers {
+        [] => Ok(()),
+        [_, rest @ ..] => {
+            add_line_of(text, slots, cert, before + 1)?;
+            add_winners(text, slots, cert, before + 1, rest)
+        }
+    }
+}
+
+// Adds the line of bidder `j`, where it wins.
+fn add_line_of(
+    text: &mut Text,
+    slots: &Slots,
+    cert: &PlaceCertificate,
+    j: u16,
+) -> Result<(), AllocError>
+    requires can { CanPrint slots.now cert.now }
+    requires bidder { IsBidder slots.now j }
+    ensures { OnOk result ((line : List ℕ) × IsLineOf slots.now (prices_in (market_of slots.now) (place_cert_value cert.now).cert) (cert_point (place_cert_value cert.now).cert) j (number_of cert.now.choice j) line × (text.new ≡ text.old ++ line)) }
+{
+    if cert.choice.number(j) == 0 {
         return Ok(());
     }
-    let j = before + 1;
-    if cert.choice.number(j) == 0 {
-        return add_winners(text, slots, cert, j);
-    }
-    add_winner(text, slots, cert, j)?;
-    add_winners(text, slots, cert, j)
+    add_winner(text, slots, cert, j)
 }
 
 // Adds the line of winner `j`.
@@ -82,8 +93,7 @@ fn add_winner(text: &mut Text, slots: &Slots, cert: &PlaceCertificate, j: u16) -
     requires can { CanPrint slots.now cert.now }
     requires bidder { IsBidder slots.now j }
     requires wins { 0 < number_of cert.now.choice j }
-    ensures { OnOk result ((pays : List ℕ) × IsFractionText (of_bidder cert.now.pay j) cert.now.den pays
-        × (text.new ≡ text.old ++ priced_line (bidder_of slots.now j).name (bid_of slots.now j (number_of cert.now.choice j)) (vickrey_in (market_of slots.now) (place_cert_value cert.now).cert j) pays)) }
+    ensures { OnOk result ((line : List ℕ) × IsLineOf slots.now (prices_in (market_of slots.now) (place_cert_value cert.now).cert) (cert_point (place_cert_value cert.now).cert) j (number_of cert.now.choice j) line × (text.new ≡ text.old ++ line)) }
 {
     let place = slots.place(j, cert.choice.number(j));
     let paid = cert.pay.items()[j as usize - 1];

@@ -40,7 +40,7 @@ fn printed(alloc: Global, slots: &Slots, cert: &PlaceCertificate) -> Result<Text
     let mut text = Text::new(alloc);
     let _bidders = slots.bidders();
     add_placed(&mut text, slots, 1, cert.order.items())?;
-    add_winners(&mut text, slots, cert, 0)?;
+    add_winners(&mut text, slots, cert, 0, cert.choice.numbers())?;
     add_value(&mut text, cert.value)?;
     add_revenue(&mut text, slots, cert)?;
     Ok(text)

@@ -12,6 +12,19 @@ pub struct PlaceCertInput<'a> {
     pub slots: &'a Slots,
 }
 
+impl<'a> PlaceCertInput<'a> {
+    ghost use Rattle.std.specs.Prelude.{◌≡◌, ◌≤◌, length};
+    ghost use Rattle.limits.specs.declared.TheConstants.{MOST_PLACED};
+
+    // How many bidders the placement has.
+    fn bidders(&self) -> u16
+        ensures count { result ≡ length self.now.slots.now.bidders }
+        ensures few { result ≤ MOST_PLACED }
+    {
+        self.slots.bidders() as u16
+    }
+}
+
 impl<'a> Input for PlaceCertInput<'a> {
     ghost use Rattle.std.specs.Prelude.{◌≡◌, length};
     ghost use Rattle.limits.specs.declared.TheConstants.{CERT_BYTES};
@@ -39,7 +52,7 @@ impl<'a> Input for PlaceCertInput<'a> {
     }
 
     fn read(&self, alloc: Global, bytes: &[u8]) -> Result<PlaceCertificate, Status> {
-        match read_places(alloc, bytes, self.slots.bidders() as u16) {
+        match read_places(alloc, bytes, self.bidders()) {
             Ok(cert) => Ok(cert),
             Err(stop) => Err(Status::from(stop)),
         }
