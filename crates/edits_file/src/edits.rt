@@ -31,11 +31,11 @@ impl Edits {
     }
 
     /// Appends one edit. For want of memory the list stays as it is.
-    pub fn push(&mut self, item: Edit) -> Result<(), AllocError>
-        ensures pushed { OnOk result (self.new ≡ self.old ++ item ∷ []) }
+    pub fn push(&mut self, edit: Edit) -> Result<(), AllocError>
+        ensures pushed { OnOk result (self.new ≡ self.old ++ edit ∷ []) }
         ensures unchanged { OnErr result (self.new ≡ self.old) }
     {
-        self.edits.push(item)?;
+        self.edits.push(edit)?;
         Ok(())
     }
 

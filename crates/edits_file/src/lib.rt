@@ -5,10 +5,17 @@ ghost use Rattle.std.specs.Prelude.{◌≡◌};
 ghost use Rattle.edits_file.specs.declared.EditStop.TheVariants.{Memory};
 
 mod edits;
+mod fields;
+mod laws;
+mod line;
 mod read;
+mod stop;
+#[cfg(test)]
+mod tests;
 
 pub use edits::Edits;
-use limits::LimitKind;
+pub use laws::one_edits;
+pub use limits::LimitKind;
 pub use read::read_edits;
 use std::alloc::AllocError;
 
@@ -17,7 +24,7 @@ use std::alloc::AllocError;
 pub enum EditStop {
     /// The byte where the first faulty line begins, counted from 0.
     Form(u64),
-    /// There are more edits than there may be: so many, at the first line where that is so.
+    /// A quantity that exceeds its limit, at the first line where one does, with its count.
     Limit(LimitKind, u64),
     /// There was no memory.
     Memory,
