@@ -10,7 +10,7 @@ use Rattle.auction_model.specs.Book.{Book, bids_of, net_of, market_of}
 use Rattle.auction_model.specs.Prices.{Point, AreVickreyPrices, AreWeights, IsCoreOutcome, SamePoint, weight_of}
 use Rattle.auction_model.specs.PricingRun.{Turn, IsPricingRun}
 use Rattle.book_form.specs.BookForm.{IsBook}
-use Rattle.book_form.specs.BookLines.{Excess, lines}
+use Rattle.book_form.specs.BookLines.{Excess, IsBookWithinLimits, lines}
 use Rattle.print_form.specs.WinText.{win_text}
 use Rattle.bid_book.proofs.Within.{kept}
 use Rattle.cert_form.specs.Certificate.{CertValue}
@@ -30,7 +30,9 @@ use Rattle.auction_rules.specs.Terms.{Terms}
 use Rattle.auction_rules.specs.declared.Event.{Event}
 use Rattle.log_replay.specs.declared.results.ReplayStop.{ReplayStop}
 use Rattle.weights_file.specs.WeightsForm.{WeightsSay}
-use Rattle.edits_file.specs.EditsForm.{EditsSay, NamedEdit}
+use Rattle.edits_file.specs.EditsForm.{AreNamedEdits, EditsSay, NamedEdit, add, raise, remove, edits_of}
+use Rattle.review.specs.Edits.{edit_lots}
+use Rattle.std.specs.List.{AllByRecursion}
 use Rattle.review.specs.declared.edit.Edit.{Edit}
 use Rattle.review_text.specs.ReviewText.{IsReviewText}
 use Rattle.cca_run.proofs.Same.{Same, both, equal, one-answer, one-input, printed-same}
@@ -61,6 +63,13 @@ one-ended : (records : ℕ) (end : Result Book ReplayStop) (follows : Book → O
 one-ended records (Ok b) follows o p same x y = same b refl x y
 one-ended records (Err stop) follows o p same x y = equal o p _ x y
 
+-- edits by name have as many categories by number
+lots-of : (book : Book) (categories : ℕ) (named : List NamedEdit) → AreNamedEdits categories named → AllByRecursion (λ e. length (edit_lots e) ≡ categories) (edits_of book named)
+lots-of book categories [] all = tt
+lots-of book categories (add name lots amount ∷ named) all = (all.0.0.count, lots-of book categories named all.1)
+lots-of book categories (raise name lots amount ∷ named) all = (all.0.0.count, lots-of book categories named all.1)
+lots-of book categories (remove name lots ∷ named) all = (all.0.count, lots-of book categories named all.1)
+
 -- what the laws of the crates below say
 module _ (one_book : (bytes : List ℕ) (x y : Said Book Excess) → Says IsBook lines bytes x → Says IsBook lines bytes y → x ≡ y)
     (lawful_log : (terms : Terms) (rows : List (List (List ℕ))) (events : List Event) (book : Book) → IsAward terms → AreLog terms rows events → end_of terms (reverse events) ≡ Ok book → IsMarket (market_of book))
@@ -87,7 +96,7 @@ module _ (one_book : (bytes : List ℕ) (x y : Said Book Excess) → Says IsBook
     (one_placed : (slots cert : List ℕ) (rounds : Bool) (contents : FileKind → Option (List ℕ)) (o p : Outcome) → CommandGives (place slots cert rounds) contents o → CommandGives (place slots cert rounds) contents p → Same o p)
     (one_tested : (slots cert : List ℕ) (contents : FileKind → Option (List ℕ)) (o p : Outcome) → CommandGives (place_check slots cert) contents o → CommandGives (place_check slots cert) contents p → Same o p)
     (one_edits : (categories : ℕ) (bytes : List ℕ) (x y : Said (List NamedEdit) Excess) → EditsSay categories bytes x → EditsSay categories bytes y → x ≡ y)
-    (one_review : (book : Book) (edits : List Edit) (t u : List ℕ) → IsBook book → IsReviewText book edits t → IsReviewText book edits u → t ≡ u) where
+    (one_review : (book : Book) (edits : List Edit) (t u : List ℕ) → IsBookWithinLimits book → AllByRecursion (λ e. length (edit_lots e) ≡ length book.supply) edits → IsReviewText book edits t → IsReviewText book edits u → t ≡ u) where
   one-book-answer : (bytes : List ℕ) (x y : Answer Book) → BookAnswers bytes x → BookAnswers bytes y → x ≡ y
   one-book-answer bytes x y a b = a.2 ∙ ap book_answer (one_book bytes a.0 b.0 a.1 b.1) ∙ sym b.2
 
@@ -96,6 +105,24 @@ module _ (one_book : (bytes : List ℕ) (x y : Said Book Excess) → Says IsBook
 
   one-edits-answer : (book : Book) (bytes : List ℕ) (x y : Answer (List Edit)) → EditsAnswers book bytes x → EditsAnswers book bytes y → x ≡ y
   one-edits-answer book bytes x y a b = a.2 ∙ ap (edits_answer book) (one_edits (length book.supply) bytes a.0 b.0 a.1 b.1) ∙ sym b.2
+
+  -- edits that bytes state have as many categories as the book
+  lots-in : (book : Book) (bytes : List ℕ) (edits : List Edit) → EditsAnswers book bytes (value edits) → AllByRecursion (λ e. length (edit_lots e) ≡ length book.supply) edits
+  lots-in book bytes edits (said, says, is) = by said says is
+    where
+      by : (said : Said (List NamedEdit) Excess) → EditsSay (length book.supply) bytes said → value edits ≡ edits_answer book said → AllByRecursion (λ e. length (edit_lots e) ≡ length book.supply) edits
+      by (stated named) says is = let same : edits_of book named ≡ edits = cc in subst (λ (l : List Edit). AllByRecursion (λ e. length (edit_lots e) ≡ length book.supply) l) same (lots-of book (length book.supply) named says.valid)
+      by (faulty place) says is = absurd cc
+      by (beyond e) says is = absurd cc
+
+  -- a book that bytes state is within the limits
+  limits-of : (bytes : List ℕ) (book : Book) → BookAnswers bytes (value book) → IsBookWithinLimits book
+  limits-of bytes book (said, says, is) = by said says is
+    where
+      by : (said : Said Book Excess) → Says IsBook lines bytes said → value book ≡ book_answer said → IsBookWithinLimits book
+      by (stated b) says is = let same : b ≡ book = cc in subst IsBookWithinLimits same (record { form = says.valid; limits = says.within })
+      by (faulty place) says is = absurd cc
+      by (beyond e) says is = absurd cc
 
   -- a book that bytes state keeps the rules of its form
   form-of : (bytes : List ℕ) (book : Book) → BookAnswers bytes (value book) → IsBook book
@@ -234,7 +261,7 @@ module _ (one_book : (bytes : List ℕ) (x y : Said Book Excess) → Says IsBook
   one-of (place_check slots cert) contents o p x y = one_tested slots cert contents o p x y
   one-of (review name edits) contents o p x y = one-input BookFile BOOK_BYTES BookAnswers (λ b. EditsGive b (contents Edits) (ReviewGives b)) one-book-answer (contents BookFile) o p
       (λ book bytes says x y. one-input Edits EDITS_BYTES (EditsAnswers book) (ReviewGives book) (one-edits-answer book) (contents Edits) o p
-      (λ changes of says_it a b. both o p (done a.0 []) (done b.0 []) a.2 b.2 (printed-same a.0 b.0 [] [] (one_review book changes a.0 b.0 (form-of bytes book says) a.1 b.1))) x y) x y
+      (λ changes of says_it a b. both o p (done a.0 []) (done b.0 []) a.2 b.2 (printed-same a.0 b.0 [] [] (one_review book changes a.0 b.0 (limits-of bytes book says) (lots-in book of changes says_it) a.1 b.1))) x y) x y
 
   one-words : (command : Option CommandValue) (file : List ℕ → Option (List ℕ)) (o p : Outcome) → WordsGive command file o → WordsGive command file p → Same o p
   one-words None file o p x y = equal o p _ x y
