@@ -19,6 +19,7 @@ IsBidder slots j = (0 < j) × (j ≤ length slots.bidders)
 pub record CanPrint (slots : SlotList) (c : PlaceCertificate) : Type 0 where
   pub shape : length c.choice ≡ length slots.bidders
   pub order : AllByRecursion (IsBidder slots) c.order
+  pub count : length c.order ≡ length slots.bidders
   pub known : (j : ℕ) → 0 < j → j ≤ length slots.bidders → number_of c.choice j ≤ length (bids_of slots j)
   pub value : value_of (market_of slots) c.choice ≡ c.value
   pub den_positive : pos 1 ≤ℤ c.den
