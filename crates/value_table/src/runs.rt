@@ -1,5 +1,6 @@
 // Counting one bid in a line, run by run. In one category, block `q` of a line has the places with `q` lots of that category
-// left, and a bid of `count` lots raises block `q` from block `q - count` of the line below.
+// left, and a bid of `count` lots raises block `q` from block `q - count` of the line below. A block is left out where its
+// corners show that the bid changes nothing in it.
 ghost use Rattle.std.specs.Prelude.{◌≡◌, ℕ, ◌-◌, ◌≤◌, ◌<◌, ◌↔◌, IsTrue, length, slice_index_or, pos, ◌+ℤ◌, ◌≤ℤ◌, unsigned_abs, map};
 ghost use Rattle.auction_model.specs.Package.{is_within};
 ghost use Rattle.auction_model.specs.Place.{states_of, widths_of};
@@ -71,8 +72,8 @@ fn raise_two<A: Amount>(
     }
 }
 
-/// Whether the lowest place of a block with a bid's lots, `first`, already has at least the bid's worth with the highest place that
-/// the bid leaves. Where no line falls the bid then changes nothing in the block.
+/// Whether the lowest entry of a block that a bid may raise, at the place `first` of its lots, is at least the worth with the highest
+/// entry of the block below that it may be raised from. Where neither line falls the bid then changes nothing in the block.
 fn is_reached<A: Amount>(first: usize, line: &[A], below: &[A], worth: A) -> bool
     requires places { length below.now ≡ length line.now }
     requires first { first < length line.now }
