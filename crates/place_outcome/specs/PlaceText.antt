@@ -11,7 +11,7 @@ use Rattle.slot_places.specs.Slots.{SlotBid, SlotList, bid_of, bidder_of, width_
 
 -- the line of bidder j that is placed from this slot on
 abbrev pub placed_line : SlotList → ℕ → ℕ → List ℕ
-placed_line slots start j = codes "placed " ++ (bidder_of slots j).name ++ 32 ∷ decimal start ++ 32 ∷ decimal (width_of slots j) ++ codes "\n"
+placed_line slots start j = codes "placed " ++ (bidder_of slots j).name ++ (32 ∷ decimal start) ++ (32 ∷ decimal (width_of slots j)) ++ codes "\n"
 
 -- the lines of bidders that are laid side by side in this order from a slot on
 abbrev pub placed_lines : SlotList → ℕ → List ℕ → List ℕ
@@ -21,7 +21,7 @@ placed_lines slots start (j ∷ order) = placed_line slots start j ++ placed_lin
 -- the line of a winner: its name, the start and the amount of its bid, its Vickrey price and what it pays
 abbrev pub priced_line : List ℕ → SlotBid → ℤ → List ℕ → List ℕ
 priced_line name bid vickrey pays =
-    codes "winner " ++ name ++ 32 ∷ decimal bid.start ++ codes " bid " ++ decimal bid.amount ++ codes " vickrey " ++ signed_decimal vickrey ++ codes " pays " ++ pays ++ codes "\n"
+    codes "winner " ++ name ++ (32 ∷ decimal bid.start) ++ codes " bid " ++ decimal bid.amount ++ codes " vickrey " ++ signed_decimal vickrey ++ codes " pays " ++ pays ++ codes "\n"
 
 -- the lines of the winners after bidder k; v are the Vickrey prices
 abbrev pub ArePricedLines : SlotList → (ℕ → ℤ) → Point → ℕ → List ℕ → List ℕ → Type 0

@@ -1,8 +1,10 @@
 // The lines of the bidders and of the winners.
 ghost use Rattle.std.specs.Prelude.{◌≡◌, ◌<◌, ◌+◌, ◌*◌, ◌^◌, ◌++◌, OnOk, List, ℕ, length};
 ghost use Rattle.std.specs.List.{AllByRecursion};
+ghost use Rattle.auction_model.specs.Lowered.{of_bidder};
 ghost use Rattle.auction_model.specs.Market.{number_of};
 ghost use Rattle.cert_laws.specs.Sound.{cert_point};
+ghost use Rattle.outcome.specs.Fractions.{IsFractionOf};
 ghost use Rattle.place_cert.specs.CertValues.{place_cert_value};
 ghost use Rattle.place_laws.specs.PlaceSound.{prices_in};
 ghost use Rattle.slot_places.specs.Board.{market_of};
@@ -89,14 +91,18 @@ fn add_line_of(
 }
 
 // Adds the line of winner `j`.
-fn add_winner(text: &mut Text, slots: &Slots, cert: &PlaceCertificate, j: u16) -> Result<(), AllocError>
+fn add_winner(
+    text: &mut Text,
+    slots: &Slots,
+    cert: &PlaceCertificate,
+    j: u16,
+) -> Result<(), AllocError>
     requires can { CanPrint slots.now cert.now }
     requires bidder { IsBidder slots.now j }
     requires wins { 0 < number_of cert.now.choice j }
     ensures { OnOk result ((line : List ℕ) × IsLineOf slots.now (prices_in (market_of slots.now) (place_cert_value cert.now).cert) (cert_point (place_cert_value cert.now).cert) j (number_of cert.now.choice j) line × (text.new ≡ text.old ++ line)) }
 {
     let place = slots.place(j, cert.choice.number(j));
-    let paid = cert.pay.items()[j as usize - 1];
     text.add(b"winner ")?;
     text.add(slots.name(j).as_bytes())?;
     add_number(text, place.start as u64)?;
@@ -105,7 +111,18 @@ fn add_winner(text: &mut Text, slots: &Slots, cert: &PlaceCertificate, j: u16) -
     text.add(b" vickrey ")?;
     add_signed(text, vickrey(slots, cert, j))?;
     text.add(b" pays ")?;
-    add_fraction(text, Fraction::new(paid, cert.den))?;
+    add_fraction(text, payment(slots, cert, j))?;
     text.push(b'\n')?;
     Ok(())
+}
+
+// What winner `j` pays.
+fn payment(slots: &Slots, cert: &PlaceCertificate, j: u16) -> Fraction
+    requires can { CanPrint slots.now cert.now }
+    requires bidder { IsBidder slots.now j }
+    ensures { IsFractionOf (of_bidder cert.now.pay j) cert.now.den result }
+{
+    let _bidders = slots.bidders();
+    let paid = cert.pay.items()[j as usize - 1];
+    Fraction::new(paid, cert.den)
 }
