@@ -1,5 +1,5 @@
 // The facts that a certificate shows.
-ghost use Rattle.std.specs.Prelude.{◌≡◌, ◌≤◌, ◌^◌, IfOk, map};
+ghost use Rattle.std.specs.Prelude.{◌≡◌, IfOk, map};
 ghost use Rattle.cert_facts.specs.Facts.{AreFacts, HasFacts, single_of};
 ghost use Rattle.cert_facts.specs.Parts.{IsPartOf};
 ghost use Rattle.cert_laws.specs.Tests.{vickrey_of};
