@@ -12,10 +12,10 @@ use std::alloc::{AllocError, Global};
 use text_lines::{field_len, read_at_most};
 
 /// The greatest count of lots that a line may state.
-const MOST_COUNT: u64 = 65_535;
+const MOST_STATED_COUNT: u64 = 65_535;
 
 /// The greatest amount that a line may state: 10^18.
-const MOST_AMOUNT: u64 = 1_000_000_000_000_000_000;
+const MOST_STATED_AMOUNT: u64 = 1_000_000_000_000_000_000;
 
 /// The bidder, the package and the amount that a line states behind its word. Bidder 0 is one that the book doesn't have.
 pub fn read_bid(
@@ -28,7 +28,7 @@ pub fn read_bid(
     ensures not_full { result ≢ Err LineStop.Full }
 {
     let (bidder, package, rest) = read_head(alloc, book, fields)?;
-    let Some(amount) = last_number(rest, MOST_AMOUNT) else {
+    let Some(amount) = last_number(rest, MOST_STATED_AMOUNT) else {
         return Err(LineStop::Form);
     };
     Ok((bidder, package, amount))
@@ -107,7 +107,7 @@ fn read_counts<'a>(
     let mut counts = Vec::with_capacity(alloc, categories)?;
     let mut rest = text;
     for _category in 0..categories {
-        let Some((count, more)) = first_number(rest, MOST_COUNT) else {
+        let Some((count, more)) = first_number(rest, MOST_STATED_COUNT) else {
             return Err(LineStop::Form);
         };
         counts.push(count as u16)?;

@@ -14,7 +14,7 @@ mod stop;
 mod tests;
 
 pub use edits::Edits;
-pub use laws::one_edits;
+pub use laws::{edit_counts, one_edits};
 pub use limits::LimitKind;
 pub use read::read_edits;
 use std::alloc::AllocError;

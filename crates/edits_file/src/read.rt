@@ -1,5 +1,5 @@
 // The reader of a file of edits.
-ghost use Rattle.std.specs.Prelude.{Err, IfOk, List, None, Some, length, ℕ, ◌+◌, ◌≡◌, ◌≢◌};
+ghost use Rattle.std.specs.Prelude.{Err, IfOk, IsTrue, List, None, Some, length, ℕ, ◌+◌, ◌↔◌, ◌≡◌, ◌≢◌, ◌≤◌};
 ghost use Rattle.std.specs.List.{AllByRecursion};
 ghost use Rattle.limits.specs.declared.LimitKind.TheVariants.{Records};
 ghost use Rattle.limits.specs.declared.TheConstants.{MOST_EDITS};
@@ -94,9 +94,16 @@ fn take_listed(
         return Ok(Stage::Ended(edits));
     }
     let edit = read_edit(alloc, book, line)?;
-    if edits.items().len() as u64 >= MOST_EDITS {
+    if is_full(&edits) {
         return Err(LineStop::Full);
     }
     edits.push(edit)?;
     Ok(Stage::Listing(edits))
+}
+
+/// Whether there are as many edits as there may be.
+fn is_full(edits: &Edits) -> bool
+    ensures { IsTrue result ↔ (MOST_EDITS ≤ length edits.now) }
+{
+    edits.items().len() as u64 >= MOST_EDITS
 }

@@ -1,7 +1,5 @@
 -- What the lines of edits add to a text.
-use Rattle.std.proofs.Common.{◌≡◌, ◌≢◌, ℕ, suc, ◌+◌, ◌≤◌, ◌<◌, List, [], ◌∷◌, ◌++◌, length, get_or, drop, refl, sym, ap, subst, ◌∙◌, arith, append_assoc, drop-cons}
-use Rattle.std.specs.Prelude.{codes}
-use Rattle.std.specs.Fmt.{decimal}
+use Rattle.std.proofs.Common.{◌≡◌, ℕ, suc, ◌+◌, ◌≤◌, ◌<◌, List, [], ◌∷◌, ◌++◌, length, get_or, drop, refl, sym, ap, subst, ◌∙◌, arith, append_assoc, drop-cons}
 use Rattle.std.proofs.lemmas.List.{append-nil, drop_all}
 use Rattle.auction_model.specs.Book.{Book, market_of}
 use Rattle.auction_model.specs.Greatest.{IsWinning}
@@ -11,37 +9,9 @@ use Rattle.review.specs.declared.edit.Edit.{Edit}
 use Rattle.review.specs.declared.edit.Edit.TheVariants.{Add, Raise, Remove}
 use Rattle.review.specs.declared.edit.EditReply.{EditReply}
 use Rattle.review.specs.declared.edit.EditReply.TheVariants as reply
-use Rattle.review_text.specs.ReviewText.{AreEditLines, IsReplyLine, IsReviewText, IsStateLine, behind, behind_all, behind_reply, refusal_text}
+use Rattle.review_text.specs.ReviewText.{AreEditLines, IsReplyLine, IsReviewText, IsStateLine, behind, behind_all, behind_reply}
 
--- the line of a refusal
-pub refused_line : (r : EditReply) (n : ℕ) (book : Book) (line : List ℕ) → r ≢ reply.Ok → line ≡ decimal n ++ 32 ∷ refusal_text r ++ codes "\n" → IsReplyLine r n book line
-refused_line reply.Ok n book line other is = absurd (other refl)
-refused_line reply.Unknown n book line other is = is
-refused_line (reply.Supply category) n book line other is = is
-refused_line reply.Empty n book line other is = is
-refused_line (reply.Present amount) n book line other is = is
-refused_line reply.Absent n book line other is = is
-refused_line (reply.NotHigher amount) n book line other is = is
-refused_line (reply.BelowReserve amount) n book line other is = is
-refused_line (reply.AmountTop amount) n book line other is = is
-refused_line (reply.Full count) n book line other is = is
-refused_line reply.Memory n book line other is = is
-
--- a refusal changes nothing
-pub refused_book : (r : EditReply) (book : Book) (e : Edit) → r ≢ reply.Ok → behind_reply r book e ≡ book
-refused_book reply.Ok book e other = absurd (other refl)
-refused_book reply.Unknown book e other = refl
-refused_book (reply.Supply category) book e other = refl
-refused_book reply.Empty book e other = refl
-refused_book (reply.Present amount) book e other = refl
-refused_book reply.Absent book e other = refl
-refused_book (reply.NotHigher amount) book e other = refl
-refused_book (reply.BelowReserve amount) book e other = refl
-refused_book (reply.AmountTop amount) book e other = refl
-refused_book (reply.Full count) book e other = refl
-refused_book reply.Memory book e other = refl
-
--- an edit has the supply that the book had
+-- the book behind an edit has the supply of the book before it
 pub behind_supply : (book : Book) (e : Edit) → (behind book e).supply ≡ book.supply
 behind_supply book e = by_reply (edit_reply book e) e
   where
