@@ -31,6 +31,13 @@ def timed(words, may_fail=False):
     return 1000 * (after.ru_utime + after.ru_stime - before.ru_utime - before.ru_stime), text
 
 
+def memory_of(words):
+    """The most memory that a run keeps at one time, in megabytes."""
+    made = os.posix_spawn(words[0], words, os.environ, file_actions=[(os.POSIX_SPAWN_OPEN, 1, os.devnull, os.O_WRONLY, 0)])
+    _, _, spent = os.wait4(made, 0)
+    return spent.ru_maxrss / 1024
+
+
 def price(book, cert, *flags):
     """The CPU time of `cca price` with a fresh certificate file, and what it prints."""
     if os.path.exists(cert):

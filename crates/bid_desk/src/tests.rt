@@ -24,11 +24,21 @@ fn has_categories(event: &Event, categories: usize) -> bool
     }
 }
 
-/// The reply to a line.
-fn take(rt: &impl Abort, alloc: Global, desk: &mut Desk, event: &Event) -> Reply {
+/// The reply to a line that is handed in once.
+fn take_once(rt: &impl Abort, alloc: Global, desk: &mut Desk, event: &Event) -> Reply {
     let categories = desk.award().supply().categories();
     assert!(rt; has_categories(event, categories));
     desk.take(alloc, event)
+}
+
+/// The reply to a line. One that is answered with want of memory is handed in once more, so the replies are those of a desk that never had to
+/// refuse it.
+fn take(rt: &impl Abort, alloc: Global, desk: &mut Desk, event: &Event) -> Reply {
+    let reply = take_once(rt, alloc, desk, event);
+    if reply == Reply::Memory {
+        return take_once(rt, alloc, desk, event);
+    }
+    reply
 }
 
 /// The replies to the lines of a log, and after each close the stage, the round and the prices; then the book, where there is one.

@@ -1,5 +1,5 @@
 -- What the stops of the readers say of the bytes.
-use Rattle.std.proofs.Common.{inl, inr, ◌≡◌, ◌⊎◌, ℕ, List, refl, sym, ap}
+use Rattle.std.proofs.Common.{inl, inr, ◌≡◌, ◌⊎◌, ℕ, List, length, refl, sym, ap}
 use Rattle.line_text.specs.LineText.{faulty, beyond, Says}
 use Rattle.auction_model.specs.Book.{Book as BookValue}
 use Rattle.book_form.specs.BookForm.{IsBook}
@@ -21,10 +21,17 @@ use Rattle.award_file.specs.declared.read.AwardStop.TheVariants as award
 use Rattle.log_file.specs.LogReading as log_reading
 use Rattle.log_file.specs.declared.LogStop.{LogStop}
 use Rattle.log_file.specs.declared.LogStop.TheVariants as log
-use Rattle.cca_inputs.specs.Answers.{AwardAnswers, BookAnswers, CertAnswers, LogAnswers, WeightsAnswers, award_answer}
+use Rattle.slot_places.specs.SlotForm.{IsSlotText, slot_lines}
+use Rattle.slot_places.specs.declared.SlotStop.{SlotStop}
+use Rattle.slot_places.specs.declared.SlotStop.TheVariants as slots
+use Rattle.place_cert.specs.CertValues.{PlaceStopsAt}
+use Rattle.edits_file.specs.EditsForm.{EditsSay}
+use Rattle.edits_file.specs.declared.EditStop.{EditStop}
+use Rattle.edits_file.specs.declared.EditStop.TheVariants as edits
+use Rattle.cca_inputs.specs.Answers.{AwardAnswers, BookAnswers, CertAnswers, EditsAnswers, LogAnswers, PlaceCertAnswers, SlotsAnswers, WeightsAnswers, award_answer}
 use Rattle.cca_inputs.specs.Outcome.{stops}
 use Rattle.cca_inputs.specs.Statuses.{IsStop}
-use Rattle.cca_inputs.specs.Stops.{award_status, book_status, cert_status, log_status, weight_status}
+use Rattle.cca_inputs.specs.Stops.{award_status, book_status, cert_status, edit_status, log_status, slot_status, weight_status}
 use Rattle.cca_inputs.specs.declared.status.Status.TheVariants.{Memory}
 
 -- the stop of a book is want of memory, or what its bytes answer
@@ -63,3 +70,28 @@ pub weights-stop : (b : BookValue) (bytes : List ℕ) (stop : WeightStop) → ((
     → (weight_status stop ≡ Memory) ⊎ (IsStop (weight_status stop) × WeightsAnswers b bytes (stops (weight_status stop)))
 weights-stop b bytes (weights.Form place) form = inr (tt, (faulty place, form place refl, refl))
 weights-stop b bytes weights.Memory form = inl refl
+
+-- the stop of slots is want of memory, or what their bytes answer
+pub slots-stop : (bytes : List ℕ) (stop : SlotStop)
+    → ((place : ℕ) → stop ≡ slots.Form place → Says IsSlotText slot_lines bytes (faulty place))
+    → ((kind : LimitKind) (count : ℕ) → stop ≡ slots.Limit kind count → Says IsSlotText slot_lines bytes (beyond (kind, count)))
+    → (slot_status stop ≡ Memory) ⊎ (IsStop (slot_status stop) × SlotsAnswers bytes (stops (slot_status stop)))
+slots-stop bytes (slots.Form place) form limit = inr (tt, (faulty place, form place refl, refl))
+slots-stop bytes (slots.Limit kind count) form limit = inr (tt, (beyond (kind, count), limit kind count refl, refl))
+slots-stop bytes slots.Memory form limit = inl refl
+
+-- the stop of a certificate of a placement is want of memory, or what its bytes answer
+pub place-stop : (bidders : ℕ) (bytes : List ℕ) (stop : CertStop) → PlaceStopsAt bidders bytes stop
+    → (cert_status stop ≡ Memory) ⊎ (IsStop (cert_status stop) × PlaceCertAnswers bidders bytes (stops (cert_status stop)))
+place-stop bidders bytes (cert.Form place) says = inr (tt, (faulty place, says, refl))
+place-stop bidders bytes (cert.Range place) says = inr (tt, (beyond place, says, refl))
+place-stop bidders bytes cert.Memory says = inl refl
+
+-- the stop of edits is want of memory, or what their bytes answer
+pub edits-stop : (b : BookValue) (bytes : List ℕ) (stop : EditStop)
+    → ((place : ℕ) → stop ≡ edits.Form place → EditsSay (length b.supply) bytes (faulty place))
+    → ((kind : LimitKind) (count : ℕ) → stop ≡ edits.Limit kind count → EditsSay (length b.supply) bytes (beyond (kind, count)))
+    → (edit_status stop ≡ Memory) ⊎ (IsStop (edit_status stop) × EditsAnswers b bytes (stops (edit_status stop)))
+edits-stop b bytes (edits.Form place) form limit = inr (tt, (faulty place, form place refl, refl))
+edits-stop b bytes (edits.Limit kind count) form limit = inr (tt, (beyond (kind, count), limit kind count refl, refl))
+edits-stop b bytes edits.Memory form limit = inl refl

@@ -1,5 +1,5 @@
 -- What the bytes of each input say.
-use Rattle.std.specs.Prelude.{◌≡◌, ◌⊎◌, ℕ, suc, List}
+use Rattle.std.specs.Prelude.{◌≡◌, ◌⊎◌, ℕ, suc, List, length}
 use Rattle.limits.specs.declared.LimitKind.TheVariants.{Records}
 use Rattle.limits.specs.declared.TheConstants.{MOST_RECORDS}
 use Rattle.line_text.specs.LineText.{Said, stated, faulty, beyond, Says}
@@ -15,8 +15,14 @@ use Rattle.cert_form.specs.Certificate.{CertValue}
 use Rattle.cert_form.specs.Says.{CertSays}
 use Rattle.cert_laws.specs.Tests.{bidders_of, states}
 use Rattle.weights_file.specs.WeightsForm.{WeightsSay}
+use Rattle.slot_places.specs.SlotForm.{IsSlotText, slot_lines}
+use Rattle.slot_places.specs.Slots.{SlotList}
+use Rattle.cert_form.specs.PlaceCert.{PlaceCertValue}
+use Rattle.place_cert.specs.PlaceSays.{PlaceCertSays}
+use Rattle.edits_file.specs.EditsForm.{EditsSay, NamedEdit, edits_of}
+use Rattle.review.specs.declared.edit.Edit.{Edit}
 use Rattle.cca_inputs.specs.Outcome.{Answer, value, stops}
-use Rattle.cca_inputs.specs.declared.status.FileKind.TheVariants.{Award, Log, Book, Cert, Weights}
+use Rattle.cca_inputs.specs.declared.status.FileKind.TheVariants.{Award, Log, Book, Cert, Weights, Slots, Edits}
 use Rattle.cca_inputs.specs.declared.status.Status.TheVariants.{Refused, Limit}
 
 -- a faulty line refuses the file, and a quantity above its limit is told
@@ -75,3 +81,33 @@ RecordsAnswer terms rows (stops status) =
 -- what the bytes of a log of this award say
 abbrev pub LogAnswers : Terms → List ℕ → Answer (List Event) → Type 0
 LogAnswers terms bytes answer = RecordsAnswer terms (log_records bytes) answer
+
+-- a faulty line refuses the file, and a quantity above its limit is told
+abbrev pub slots_answer : Said SlotList Excess → Answer SlotList
+slots_answer (stated slots) = value slots
+slots_answer (faulty place) = stops (Refused Slots place 0)
+slots_answer (beyond excess) = stops (Limit excess.0 excess.1)
+
+-- what the bytes of slots say
+abbrev pub SlotsAnswers : List ℕ → Answer SlotList → Type 0
+SlotsAnswers bytes answer = (said : Said SlotList Excess) × Says IsSlotText slot_lines bytes said × (answer ≡ slots_answer said)
+
+-- a number out of range refuses the file as a faulty line does
+abbrev pub place_cert_answer : Said PlaceCertValue ℕ → Answer PlaceCertValue
+place_cert_answer (stated c) = value c
+place_cert_answer (faulty place) = stops (Refused Cert place 0)
+place_cert_answer (beyond place) = stops (Refused Cert place 0)
+
+-- what the bytes of a certificate of a placement of so many bidders say
+abbrev pub PlaceCertAnswers : ℕ → List ℕ → Answer PlaceCertValue → Type 0
+PlaceCertAnswers bidders bytes answer = (said : Said PlaceCertValue ℕ) × PlaceCertSays bidders bytes said × (answer ≡ place_cert_answer said)
+
+-- the edits that a text states are those of the book; a faulty line refuses the file, and too many are told
+abbrev pub edits_answer : BookValue → Said (List NamedEdit) Excess → Answer (List Edit)
+edits_answer book (stated edits) = value (edits_of book edits)
+edits_answer book (faulty place) = stops (Refused Edits place 0)
+edits_answer book (beyond excess) = stops (Limit excess.0 excess.1)
+
+-- what the bytes of edits of this book say
+abbrev pub EditsAnswers : BookValue → List ℕ → Answer (List Edit) → Type 0
+EditsAnswers book bytes answer = (said : Said (List NamedEdit) Excess) × EditsSay (length book.supply) bytes said × (answer ≡ edits_answer book said)

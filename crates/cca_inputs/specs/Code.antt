@@ -5,7 +5,7 @@ use Rattle.cca_inputs.specs.declared.status.Status.TheVariants.{Done, No, Words,
 
 abbrev pub code_of : Status → ℕ
 code_of Done = 0
-code_of (No test place) = 1
+code_of (No kind test place) = 1
 code_of Words = 2
 code_of (Refused file place entry) = 3
 code_of (ReadFault file) = 4

@@ -5,7 +5,7 @@ use Rattle.std.specs.Str.{bytes_eq}
 use Rattle.std.specs.Str.Parse.{digits_value}
 use Rattle.cca_inputs.specs.declared.price_form.PriceForm.{PriceForm}
 use Rattle.cca_inputs.specs.declared.status.FileKind.{FileKind}
-use Rattle.cca_inputs.specs.declared.status.FileKind.TheVariants.{Award, Log, Book, Cert, Weights, Out}
+use Rattle.cca_inputs.specs.declared.status.FileKind.TheVariants.{Award, Log, Book, Cert, Weights, Slots, Edits, Out}
 
 -- what is to be done, with the names of its files
 pub data CommandValue : Type 0 where
@@ -27,6 +27,12 @@ pub data CommandValue : Type 0 where
   audit : List ℕ → List ℕ → List ℕ → CommandValue
   -- the auction that is made from a number: its award and its log
   make : ℕ → List ℕ → List ℕ → CommandValue
+  -- the prices of a placement in a band, with the turns or without, and their certificate
+  place : List ℕ → List ℕ → Bool → CommandValue
+  -- the test of a certificate of a placement
+  place_check : List ℕ → List ℕ → CommandValue
+  -- what a book gives as it is edited
+  review : List ℕ → List ℕ → CommandValue
 
 -- what a command does with a file
 pub data Use : Type 0 where
@@ -56,6 +62,9 @@ files_of (auction terms log book) = reading Award terms ∷ reading Log log ∷ 
 files_of (award terms log cert form) = reading Award terms ∷ reading Log log ∷ appending Cert cert ∷ []
 files_of (audit terms log cert) = reading Award terms ∷ reading Log log ∷ reading Cert cert ∷ []
 files_of (make number terms log) = appending Award terms ∷ appending Log log ∷ []
+files_of (place slots cert rounds) = reading Slots slots ∷ appending Cert cert ∷ []
+files_of (place_check slots cert) = reading Slots slots ∷ reading Cert cert ∷ []
+files_of (review book edits) = reading Book book ∷ reading Edits edits ∷ []
 
 -- not empty, and not beginning with '-'
 abbrev pub is_file_word : List ℕ → Bool
@@ -167,6 +176,32 @@ make_words (n ∷ f ∷ []) = None
 make_words (n ∷ f ∷ g ∷ []) = if are_file_words (f ∷ g ∷ []) then option_map (λ number. make number f g) (number_said n) else None
 make_words (n ∷ f ∷ g ∷ h ∷ rest) = None
 
+-- whether the words behind the files ask for the turns
+abbrev pub rounds_asked : List (List ℕ) → Option Bool
+rounds_asked [] = Some false
+rounds_asked (f ∷ []) = if bytes_eq f (codes "--rounds") then Some true else None
+rounds_asked (f ∷ g ∷ rest) = None
+
+-- the words behind `place`
+abbrev pub place_words : List (List ℕ) → Option CommandValue
+place_words [] = None
+place_words (f ∷ []) = None
+place_words (f ∷ g ∷ flags) = if are_file_words (f ∷ g ∷ []) then option_map (place f g) (rounds_asked flags) else None
+
+-- the words behind `place-check`
+abbrev pub place_check_words : List (List ℕ) → Option CommandValue
+place_check_words [] = None
+place_check_words (f ∷ []) = None
+place_check_words (f ∷ g ∷ []) = if are_file_words (f ∷ g ∷ []) then Some (place_check f g) else None
+place_check_words (f ∷ g ∷ h ∷ rest) = None
+
+-- the words behind `review`
+abbrev pub review_words : List (List ℕ) → Option CommandValue
+review_words [] = None
+review_words (f ∷ []) = None
+review_words (f ∷ g ∷ []) = if are_file_words (f ∷ g ∷ []) then Some (review f g) else None
+review_words (f ∷ g ∷ h ∷ rest) = None
+
 -- the command that the words say, if they are of the plain form
 abbrev pub command_of : List (List ℕ) → Option CommandValue
 command_of [] = None
@@ -180,6 +215,9 @@ command_of (w ∷ rest) =
     else if bytes_eq w (codes "award") then award_words rest
     else if bytes_eq w (codes "audit") then audit_words rest
     else if bytes_eq w (codes "make") then make_words rest
+    else if bytes_eq w (codes "place") then place_words rest
+    else if bytes_eq w (codes "place-check") then place_check_words rest
+    else if bytes_eq w (codes "review") then review_words rest
     else None
 
 -- the number of a kind
@@ -189,7 +227,9 @@ kind_number Log = 1
 kind_number Book = 2
 kind_number Cert = 3
 kind_number Weights = 4
-kind_number Out = 5
+kind_number Slots = 5
+kind_number Edits = 6
+kind_number Out = 7
 
 abbrev pub is_kind : FileKind → FileKind → Bool
 is_kind kind other = kind_number kind == kind_number other

@@ -1,12 +1,12 @@
 -- What the statuses say of the way of a run.
-use Rattle.cca_inputs.specs.declared.status.FileKind.TheVariants.{Award, Log, Book, Cert, Weights, Out}
+use Rattle.cca_inputs.specs.declared.status.FileKind.TheVariants.{Award, Log, Book, Cert, Weights, Slots, Edits, Out}
 use Rattle.cca_inputs.specs.declared.status.Status.{Status}
 use Rattle.cca_inputs.specs.declared.status.Status.TheVariants.{Done, No, Words, Refused, ReadFault, WriteFault, Memory, Limit}
 
 -- a status that no fault and no want of memory put in the place of another
 abbrev pub IsDecided : Status → Type 0
 IsDecided Done = Unit {0}
-IsDecided (No test place) = Unit {0}
+IsDecided (No kind test place) = Unit {0}
 IsDecided Words = Unit {0}
 IsDecided (Refused file place entry) = Unit {0}
 IsDecided (ReadFault file) = ⊥
@@ -17,7 +17,7 @@ IsDecided (Limit which count) = Unit {0}
 -- a stop that the bytes of the files give
 abbrev pub IsStop : Status → Type 0
 IsStop Done = ⊥
-IsStop (No test place) = Unit {0}
+IsStop (No kind test place) = Unit {0}
 IsStop Words = ⊥
 IsStop (Refused file place entry) = Unit {0}
 IsStop (ReadFault file) = ⊥
@@ -28,7 +28,7 @@ IsStop (Limit which count) = Unit {0}
 -- a status that a fault of a file or want of memory put in the place of another; its line is printed
 abbrev pub IsHindered : Status → Type 0
 IsHindered Done = ⊥
-IsHindered (No test place) = ⊥
+IsHindered (No kind test place) = ⊥
 IsHindered Words = ⊥
 IsHindered (Refused file place entry) = ⊥
 IsHindered (ReadFault file) = Unit {0}
@@ -37,6 +37,8 @@ IsHindered (WriteFault Log) = Unit {0}
 IsHindered (WriteFault Book) = Unit {0}
 IsHindered (WriteFault Cert) = Unit {0}
 IsHindered (WriteFault Weights) = Unit {0}
+IsHindered (WriteFault Slots) = Unit {0}
+IsHindered (WriteFault Edits) = Unit {0}
 IsHindered (WriteFault Out) = ⊥
 IsHindered Memory = Unit {0}
 IsHindered (Limit which count) = ⊥
@@ -44,7 +46,7 @@ IsHindered (Limit which count) = ⊥
 -- a status after which all files are as they were
 abbrev pub KeepsAll : Status → Type 0
 KeepsAll Done = ⊥
-KeepsAll (No test place) = Unit {0}
+KeepsAll (No kind test place) = Unit {0}
 KeepsAll Words = Unit {0}
 KeepsAll (Refused file place entry) = Unit {0}
 KeepsAll (ReadFault file) = Unit {0}

@@ -13,8 +13,12 @@ use Rattle.log_file.specs.declared.LogStop.{LogStop}
 use Rattle.log_file.specs.declared.LogStop.TheVariants as log
 use Rattle.weights_file.specs.declared.WeightStop.{WeightStop}
 use Rattle.weights_file.specs.declared.WeightStop.TheVariants as weights
+use Rattle.slot_places.specs.declared.SlotStop.{SlotStop}
+use Rattle.slot_places.specs.declared.SlotStop.TheVariants as slots
+use Rattle.edits_file.specs.declared.EditStop.{EditStop}
+use Rattle.edits_file.specs.declared.EditStop.TheVariants as edits
 use Rattle.cca_inputs.specs.declared.status.FileKind.{FileKind}
-use Rattle.cca_inputs.specs.declared.status.FileKind.TheVariants.{Award, Log, Book, Cert, Weights}
+use Rattle.cca_inputs.specs.declared.status.FileKind.TheVariants.{Award, Log, Book, Cert, Weights, Slots, Edits}
 use Rattle.cca_inputs.specs.declared.status.Status.{Status}
 use Rattle.cca_inputs.specs.declared.status.Status.TheVariants.{Refused, ReadFault, Memory, Limit}
 
@@ -50,3 +54,13 @@ log_status log.Memory = Memory
 abbrev pub weight_status : WeightStop → Status
 weight_status (weights.Form place) = Refused Weights place 0
 weight_status weights.Memory = Memory
+
+abbrev pub slot_status : SlotStop → Status
+slot_status (slots.Form place) = Refused Slots place 0
+slot_status (slots.Limit which count) = Limit which count
+slot_status slots.Memory = Memory
+
+abbrev pub edit_status : EditStop → Status
+edit_status (edits.Form place) = Refused Edits place 0
+edit_status (edits.Limit which count) = Limit which count
+edit_status edits.Memory = Memory

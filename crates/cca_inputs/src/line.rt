@@ -1,9 +1,9 @@
 // The lines of the statuses, put together without memory.
 ghost use Rattle.std.specs.Prelude.{◌≡◌, ◌≤◌, ◌+◌, ◌∷◌, ◌++◌, length, codes};
 ghost use Rattle.std.specs.Fmt.{decimal};
-ghost use Rattle.cca_inputs.specs.StatusLine.{status_line, file_text, limit_text, entry_text};
+ghost use Rattle.cca_inputs.specs.StatusLine.{status_line, file_text, limit_text, entry_text, test_text};
 
-use crate::{FileKind, Status};
+use crate::{CertKind, FileKind, Status};
 use arrayvec::ArrayVec;
 use itoa::Buffer;
 use limits::LimitKind;
@@ -24,6 +24,8 @@ fn file_name(file: FileKind) -> &'static [u8]
         FileKind::Book => b"book",
         FileKind::Cert => b"cert",
         FileKind::Weights => b"weights",
+        FileKind::Slots => b"slots",
+        FileKind::Edits => b"edits",
         FileKind::Out => b"out",
     }
 }
@@ -112,11 +114,23 @@ fn limit_line(which: LimitKind, count: u64) -> Line
     line
 }
 
-fn no_line(test: u8, place: u64) -> Line
-    ensures { result.items ≡ codes "no C" ++ decimal test ++ 32 ∷ decimal place ++ codes "\n" }
+// The letter of the tests of a certificate.
+fn test_letter(of: CertKind) -> &'static [u8]
+    ensures text { result.now ≡ test_text of }
+    ensures short { length result.now ≤ 1 }
+{
+    match of {
+        CertKind::Book => b"C",
+        CertKind::Placement => b"P",
+    }
+}
+
+fn no_line(of: CertKind, test: u8, place: u64) -> Line
+    ensures { result.items ≡ codes "no " ++ test_text of ++ decimal test ++ 32 ∷ decimal place ++ codes "\n" }
 {
     let mut line = ArrayVec::new();
-    add(&mut line, b"no C");
+    add(&mut line, b"no ");
+    add(&mut line, test_letter(of));
     add_number(&mut line, test as u64);
     add(&mut line, b" ");
     add_number(&mut line, place);
@@ -139,7 +153,7 @@ pub fn line_of(status: Status) -> Line
 {
     match status {
         Status::Done => ArrayVec::new(),
-        Status::No { test, place } => no_line(test, place),
+        Status::No { of, test, place } => no_line(of, test, place),
         Status::Words => plain_line(b"cca: words\n"),
         Status::Refused { file, place, entry } => refused_line(file, place, entry),
         Status::ReadFault { file } => fault_line(b"cca: read fault ", file),

@@ -17,8 +17,21 @@ pub enum FileKind {
     Cert,
     /// The weights of the bidders of a book.
     Weights,
+    /// The bidders of a band with their bids.
+    Slots,
+    /// Changes of a book.
+    Edits,
     /// The standard output.
     Out,
+}
+
+/// Of what a certificate shows the prices. It names the tests that are made of it.
+#[derive(Clone, Copy, Debug, PartialEq, Eq)]
+pub enum CertKind {
+    /// Of a book: its tests are printed with a `C`.
+    Book,
+    /// Of a placement in a band: its tests are printed with a `P`.
+    Placement,
 }
 
 /// How a run ends.
@@ -28,12 +41,13 @@ pub enum Status {
     Done,
     /// A certificate fails this test at this place, the first that fails.
     No {
+        of: CertKind,
         test: u8,
         place: u64,
     },
     /// The words aren't of the plain form.
     Words,
-    /// A file isn't of its form, or a log isn't complete. For a book, a certificate and weights the place is the byte where the first faulty line
+    /// A file isn't of its form, or a log isn't complete. For a book, a certificate, weights, slots and edits the place is the byte where the first faulty line
     /// begins, and for a log the number of the first faulty record, or of the one that would follow. For an award the place is the number
     /// of the field whose rule is broken first, with that of its table as the entry, or 0 where it isn't TOML.
     Refused {

@@ -1,6 +1,6 @@
 // The statuses of the stops of the readers.
 ghost use Rattle.std.specs.Prelude.{◌≡◌, ◌<◌, ◌^◌};
-ghost use Rattle.cca_inputs.specs.Stops.{award_status, book_status, cert_status, log_status, read_status, weight_status};
+ghost use Rattle.cca_inputs.specs.Stops.{award_status, book_status, cert_status, edit_status, log_status, read_status, slot_status, weight_status};
 ghost use Rattle.cca_inputs.specs.declared.status.Status.TheVariants.{Memory};
 
 use crate::{FileKind, Status};
@@ -8,8 +8,10 @@ use award_file::AwardStop;
 use bid_book::BookStop;
 use cca_base::ReadStop;
 use cert_text::CertStop;
+use edits_file::EditStop;
 use limits::LimitKind;
 use log_file::LogStop;
+use slot_places::SlotStop;
 use std::alloc::{AllocError, AllocFailed};
 use weights_file::WeightStop;
 
@@ -106,6 +108,30 @@ impl From<WeightStop> for Status {
         match stop {
             WeightStop::Form(place) => refused(FileKind::Weights, place),
             WeightStop::Memory => Status::Memory,
+        }
+    }
+}
+
+impl From<SlotStop> for Status {
+    ghost from_gives = { λ stop status. status ≡ slot_status stop };
+
+    fn from(stop: SlotStop) -> Status {
+        match stop {
+            SlotStop::Form(place) => refused(FileKind::Slots, place),
+            SlotStop::Limit(which, count) => Status::Limit { which, count },
+            SlotStop::Memory => Status::Memory,
+        }
+    }
+}
+
+impl From<EditStop> for Status {
+    ghost from_gives = { λ stop status. status ≡ edit_status stop };
+
+    fn from(stop: EditStop) -> Status {
+        match stop {
+            EditStop::Form(place) => refused(FileKind::Edits, place),
+            EditStop::Limit(which, count) => Status::Limit { which, count },
+            EditStop::Memory => Status::Memory,
         }
     }
 }

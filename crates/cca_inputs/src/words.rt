@@ -1,6 +1,7 @@
 // The plain form of the words.
-ghost use Rattle.std.specs.Prelude.{◌≡◌, map, string_bytes, option_map, Some, None, IfSome};
-ghost use Rattle.cca_inputs.specs.Command.{are_file_words, auction_words, audit_words, award_words, check_words, command_of, is_among, is_file_word, make_words, number_said, output_as, price_words, weigh_check_words, weigh_words, win_words};
+ghost use Rattle.std.specs.Prelude.{◌≡◌, map, string_bytes, option_map, Some, None, IfSome, codes, true, if◌then◌else◌};
+ghost use Rattle.std.specs.Str.{bytes_eq};
+ghost use Rattle.cca_inputs.specs.Command.{are_file_words, auction_words, audit_words, award_words, check_words, command_of, is_among, is_file_word, make_words, number_said, output_as, place_check_words, place_words, price_words, review_words, rounds_asked, weigh_check_words, weigh_words, win_words};
 ghost use Rattle.cca_inputs.specs.Words.{AreAmong, command_value};
 
 use crate::price_form::asked_form;
@@ -68,6 +69,23 @@ pub enum Command<'a> {
         award: &'a str,
         log: &'a str,
     },
+    /// The bidders of a band are placed and priced; the certificate is appended, and the placement and the prices are printed, behind the
+    /// lines of the turns where they are asked for.
+    Place {
+        slots: &'a str,
+        cert: &'a str,
+        rounds: bool,
+    },
+    /// A certificate of a placement is tested.
+    PlaceCheck {
+        slots: &'a str,
+        cert: &'a str,
+    },
+    /// A book is edited; its value and its winning choice behind each edit are printed.
+    Review {
+        book: &'a str,
+        edits: &'a str,
+    },
 }
 
 impl<'a> Command<'a> {
@@ -79,6 +97,7 @@ impl<'a> Command<'a> {
             (Command::Price { cert, .. }, FileKind::Cert) => Some(cert),
             (Command::Weigh { cert, .. }, FileKind::Cert) => Some(cert),
             (Command::Award { cert, .. }, FileKind::Cert) => Some(cert),
+            (Command::Place { cert, .. }, FileKind::Cert) => Some(cert),
             (Command::Auction { book, .. }, FileKind::Book) => Some(book),
             (Command::Make { award, .. }, FileKind::Award) => Some(award),
             (Command::Make { log, .. }, FileKind::Log) => Some(log),
@@ -284,6 +303,76 @@ fn make_command(words: &[String]) -> Option<Command<'_>>
     })
 }
 
+// Whether the words behind the files ask for the lines of the turns; None where they say something else.
+fn asked_rounds(flags: &[String]) -> Option<bool>
+    ensures { result ≡ rounds_asked (map string_bytes flags.now) }
+{
+    match flags {
+        [] => Some(false),
+        [flag] => rounds_flag(flag.as_str()),
+        _ => None,
+    }
+}
+
+fn rounds_flag(flag: &str) -> Option<bool>
+    ensures { result ≡ (if bytes_eq flag.now (codes "--rounds") then Some true else None) }
+{
+    if flag != "--rounds" {
+        return None;
+    }
+    Some(true)
+}
+
+fn place_command(words: &[String]) -> Option<Command<'_>>
+    ensures among { IfSome result (λ c. AreAmong (map string_bytes words.now) (command_value c)) }
+    ensures command { option_map command_value result ≡ place_words (map string_bytes words.now) }
+{
+    let [slots, cert, flags @ ..] = words else {
+        return None;
+    };
+    if !can_be_files(&words[..2]) {
+        return None;
+    }
+    let rounds = asked_rounds(flags)?;
+    Some(Command::Place {
+        slots: slots.as_str(),
+        cert: cert.as_str(),
+        rounds,
+    })
+}
+
+fn place_check_command(words: &[String]) -> Option<Command<'_>>
+    ensures among { IfSome result (λ c. AreAmong (map string_bytes words.now) (command_value c)) }
+    ensures command { option_map command_value result ≡ place_check_words (map string_bytes words.now) }
+{
+    let [slots, cert] = words else {
+        return None;
+    };
+    if !can_be_files(words) {
+        return None;
+    }
+    Some(Command::PlaceCheck {
+        slots: slots.as_str(),
+        cert: cert.as_str(),
+    })
+}
+
+fn review_command(words: &[String]) -> Option<Command<'_>>
+    ensures among { IfSome result (λ c. AreAmong (map string_bytes words.now) (command_value c)) }
+    ensures command { option_map command_value result ≡ review_words (map string_bytes words.now) }
+{
+    let [book, edits] = words else {
+        return None;
+    };
+    if !can_be_files(words) {
+        return None;
+    }
+    Some(Command::Review {
+        book: book.as_str(),
+        edits: edits.as_str(),
+    })
+}
+
 /// The command that the words say, where they are of the plain form. It takes no memory.
 pub fn read_command(words: &[String]) -> Option<Command<'_>>
     ensures among { IfSome result (λ c. AreAmong (map string_bytes words.now) (command_value c)) }
@@ -302,6 +391,9 @@ pub fn read_command(words: &[String]) -> Option<Command<'_>>
         "award" => award_command(rest),
         "audit" => audit_command(rest),
         "make" => make_command(rest),
+        "place" => place_command(rest),
+        "place-check" => place_check_command(rest),
+        "review" => review_command(rest),
         _ => None,
     }
 }

@@ -39,7 +39,7 @@ use Rattle.cca_inputs.specs.declared.status.FileKind.TheVariants as kinds
 use Rattle.cca_inputs.specs.declared.status.Status.{Status}
 use Rattle.cca_inputs.specs.declared.status.Status.TheVariants.{Done, ReadFault}
 use Rattle.cca_run.proofs.OneLog.{one-award-answer}
-use Rattle.cca_run.proofs.OneOutcome.{one-answer}
+use Rattle.cca_run.proofs.Same.{one-answer}
 use Rattle.cca_run.specs.Gives.{ArePriceLines, ArePrinted, AwardGives, BookGives, BookOfLogGives, CertGives, EndGives, FilesGive, IsPricing, LogGives, PriceGives, VerdictGives, cert_file, ones, replay_status}
 use Rattle.cca_run.specs.Later.{HoldsCert, HoldsNothing}
 

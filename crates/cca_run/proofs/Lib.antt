@@ -6,11 +6,13 @@ mod Moved
 mod Named
 mod OneAuction
 mod OneLog
+mod OnePlacing
 mod OneOutcome
 mod Ones
 mod Priced
 mod Progress
 mod Put
+mod Same
 mod Stopped
 mod LogBooks
 mod HeadlineLaws

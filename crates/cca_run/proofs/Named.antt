@@ -5,7 +5,7 @@ use Rattle.std.specs.Option.{option_map}
 use Rattle.std.specs.List.{AllByRecursion}
 use Rattle.std.proofs.lemmas.Bool.{cases_Bool}
 use Rattle.cca_base.specs.Files.{Folder}
-use Rattle.cca_inputs.specs.Command.{CommandValue, win, price, check, weigh, weigh_check, auction, award, audit, make, FileUse, appended_files, files_of, input_as, inputs_of, is_kind, is_read, output_as, outputs_of, read_files}
+use Rattle.cca_inputs.specs.Command.{CommandValue, win, price, check, weigh, weigh_check, auction, award, audit, make, place, place_check, review, FileUse, appended_files, files_of, input_as, inputs_of, is_kind, is_read, output_as, outputs_of, read_files}
 use Rattle.cca_inputs.specs.Words.{KnowsFiles}
 use Rattle.cca_inputs.specs.declared.status.FileKind.{FileKind}
 use Rattle.cca_inputs.specs.declared.status.FileKind.TheVariants.{Out}
@@ -58,3 +58,6 @@ never-out (auction terms log book) name is = cc
 never-out (award terms log cert form) name is = cc
 never-out (audit terms log cert) name is = cc
 never-out (make number terms log) name is = cc
+never-out (place slots cert rounds) name is = cc
+never-out (place_check slots cert) name is = cc
+never-out (review book edits) name is = cc

@@ -16,7 +16,7 @@ use Rattle.cca_inputs.specs.declared.status.FileKind.{FileKind}
 use Rattle.cca_inputs.specs.declared.status.FileKind.TheVariants.{Award, Log}
 use Rattle.cca_run.specs.Gives.{AuctionGives, FilesGive, LogGives, RepliesGive, book_file}
 use Rattle.cca_run.proofs.OneLog.{one-award-answer}
-use Rattle.cca_run.proofs.OneOutcome.{one-answer}
+use Rattle.cca_run.proofs.Same.{one-answer}
 
 -- an input with one answer gives one outcome, where each of its values does
 one-given : {V : Type 0} (kind : FileKind) (most : ℕ) (says : List ℕ → Answer V → Type 0) (follows : V → Outcome → Type 0) → ((bytes : List ℕ) (a b : Answer V) → says bytes a → says bytes b → a ≡ b)

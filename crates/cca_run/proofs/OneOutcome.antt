@@ -10,7 +10,7 @@ use Rattle.auction_model.specs.Book.{Book, bids_of, net_of, market_of}
 use Rattle.auction_model.specs.Prices.{Point, AreVickreyPrices, AreWeights, IsCoreOutcome, SamePoint, weight_of}
 use Rattle.auction_model.specs.PricingRun.{Turn, IsPricingRun}
 use Rattle.book_form.specs.BookForm.{IsBook}
-use Rattle.book_form.specs.BookLines.{Excess, lines}
+use Rattle.book_form.specs.BookLines.{Excess, IsBookWithinLimits, lines}
 use Rattle.print_form.specs.WinText.{win_text}
 use Rattle.bid_book.proofs.Within.{kept}
 use Rattle.cert_form.specs.Certificate.{CertValue}
@@ -30,32 +30,26 @@ use Rattle.auction_rules.specs.Terms.{Terms}
 use Rattle.auction_rules.specs.declared.Event.{Event}
 use Rattle.log_replay.specs.declared.results.ReplayStop.{ReplayStop}
 use Rattle.weights_file.specs.WeightsForm.{WeightsSay}
+use Rattle.edits_file.specs.EditsForm.{AreNamedEdits, EditsSay, NamedEdit, add, raise, remove, edits_of}
+use Rattle.review.specs.Edits.{edit_lots}
+use Rattle.std.specs.List.{AllByRecursion}
+use Rattle.review.specs.declared.edit.Edit.{Edit}
+use Rattle.review_text.specs.ReviewText.{IsReviewText}
+use Rattle.cca_run.proofs.Same.{Same, both, equal, one-answer, one-input, printed-same}
 use Rattle.cca_run.proofs.OneLog.{one-award-answer}
 use Rattle.cca_run.proofs.Ones.{not_few_and_many, ones-weigh}
-use Rattle.cca_inputs.specs.Answers.{AwardAnswers, BookAnswers, CertAnswers, LogAnswers, WeightsAnswers, book_answer, cert_answer, weights_answer}
-use Rattle.cca_inputs.specs.Command.{CommandValue, win, price, check, weigh, weigh_check, auction, award, audit, make, command_of, contents_of}
+use Rattle.cca_inputs.specs.Answers.{AwardAnswers, BookAnswers, CertAnswers, EditsAnswers, LogAnswers, WeightsAnswers, book_answer, cert_answer, edits_answer, weights_answer}
+use Rattle.cca_inputs.specs.Command.{CommandValue, win, price, check, weigh, weigh_check, auction, award, audit, make, place, place_check, review, command_of, contents_of}
 use Rattle.cca_inputs.specs.Outcome.{Answer, AnswerGives, FileAnswers, InputGives, Outcome, done, stopped, stops, value}
 use Rattle.cca_inputs.specs.declared.file_text.FileText.{FileText}
 use Rattle.cca_inputs.specs.declared.price_form.PriceForm.{PriceForm}
+use Rattle.cca_inputs.specs.declared.status.CertKind.TheVariants as certs
 use Rattle.cca_inputs.specs.declared.status.FileKind.{FileKind}
-use Rattle.cca_inputs.specs.declared.status.FileKind.TheVariants.{Award, Log, Book as BookFile, Cert, Weights}
-use Rattle.limits.specs.declared.TheConstants.{AWARD_BYTES, LOG_BYTES, BOOK_BYTES, CERT_BYTES, WEIGHTS_BYTES}
-use Rattle.cca_run.specs.Gives.{ArePriceLines, AreRounds, AuctionGives, BookOfLogGives, CertGives, CommandGives, Gives, EndGives, HasTooMany, IsPricing, IsPrinted, IsYesText, LogGives, PriceGives, RepliesGive, VerdictGives, WeightsGive, WinGives, WordsGive, book_file, cert_file, ones}
+use Rattle.cca_inputs.specs.declared.status.FileKind.TheVariants.{Award, Log, Book as BookFile, Cert, Weights, Slots, Edits}
+use Rattle.limits.specs.declared.TheConstants.{AWARD_BYTES, LOG_BYTES, BOOK_BYTES, CERT_BYTES, EDITS_BYTES, SLOTS_BYTES, WEIGHTS_BYTES}
+use Rattle.cca_run.specs.Gives.{ArePriceLines, AreRounds, AuctionGives, BookOfLogGives, CertGives, CommandGives, EditsGive, Gives, EndGives, HasTooMany, IsPricing, IsPrinted, IsYesText, LogGives, PriceGives, RepliesGive, ReviewGives, VerdictGives, WeightsGive, WinGives, WordsGive, book_file, cert_file, ones}
 use Rattle.cca_inputs.specs.declared.status.Status.TheVariants.{No, Limit}
 use Rattle.limits.specs.declared.LimitKind.TheVariants.{Winners}
-
--- both have one status and one text
-abbrev Same : Outcome → Outcome → Type 0
-Same o p = (o.status ≡ p.status) × (o.printed ≡ p.printed)
-
-both : (o p x y : Outcome) → o ≡ x → p ≡ y → Same x y → Same o p
-both o p x y a b s = (ap (λ (z : Outcome). z.status) a ∙ s.0 ∙ sym (ap (λ (z : Outcome). z.status) b), ap (λ (z : Outcome). z.printed) a ∙ s.1 ∙ sym (ap (λ (z : Outcome). z.printed) b))
-
-equal : (o p x : Outcome) → o ≡ x → p ≡ x → Same o p
-equal o p x a b = both o p x x a b (refl, refl)
-
-printed-same : (t u : List ℕ) (a b : List FileText) → t ≡ u → Same (done t a) (done u b)
-printed-same t u a b e = (refl, e)
 
 -- what a log leads to gives one status and one text
 one-end : (records : ℕ) (replies : List ℕ) (end : Result Book ReplayStop) (o p : Outcome) → RepliesGive records replies end o → RepliesGive records replies end p → Same o p
@@ -63,36 +57,18 @@ one-end records replies (Ok book) o p x y =
     both o p (done replies (book_file x.0 ∷ [])) (done replies (book_file y.0 ∷ [])) x.2 y.2 (printed-same replies replies (book_file x.0 ∷ []) (book_file y.0 ∷ []) refl)
 one-end records replies (Err stop) o p x y = equal o p _ x y
 
--- an input has one answer
-pub one-answer : {V : Type 0} (most : ℕ) (says : List ℕ → Answer V → Type 0) (one : (bytes : List ℕ) (a b : Answer V) → says bytes a → says bytes b → a ≡ b) (bytes : List ℕ) (a b : Answer V)
-    → FileAnswers most says bytes a → FileAnswers most says bytes b → a ≡ b
-one-answer most says one bytes a b x y =
-    elim (cases_lt most (length bytes)) [
-      | inl over ↦ x.long over ∙ sym (y.long over)
-      | inr short ↦ one bytes a b (x.text short) (y.text short)
-    ]
-
--- an input gives one outcome, where each of its values does
-one-input : {V : Type 0} (kind : FileKind) (most : ℕ) (says : List ℕ → Answer V → Type 0) (follows : V → Outcome → Type 0) → ((bytes : List ℕ) (a b : Answer V) → says bytes a → says bytes b → a ≡ b)
-    → (content : Option (List ℕ)) (o p : Outcome) → ((v : V) (bytes : List ℕ) → says bytes (value v) → follows v o → follows v p → Same o p)
-    → InputGives kind most says content follows o → InputGives kind most says content follows p → Same o p
-one-input kind most says follows one None o p same x y = equal o p _ x y
-one-input {V} kind most says follows one (Some bytes) o p same x y =
-    go y.0 y.1 (subst (λ (a : Answer V). AnswerGives a follows o) (one-answer most says one bytes x.0 y.0 x.1 y.1) x.2) y.2
-  where
-    go : (a : Answer V) → FileAnswers most says bytes a → AnswerGives a follows o → AnswerGives a follows p → Same o p
-    go (value v) answers g h =
-        elim (cases_lt most (length bytes)) [
-          | inl over ↦ (let no = answers.long over in absurd cc)
-          | inr short ↦ same v bytes (answers.text short) g h
-        ]
-    go (stops s) answers g h = equal o p (stopped s) g h
-
 -- what follows for the book that a log leads to gives one status and one text, where it does so for each book
 one-ended : (records : ℕ) (end : Result Book ReplayStop) (follows : Book → Outcome → Type 0) (o p : Outcome) → ((b : Book) → end ≡ Ok b → follows b o → follows b p → Same o p)
     → EndGives records end follows o → EndGives records end follows p → Same o p
 one-ended records (Ok b) follows o p same x y = same b refl x y
 one-ended records (Err stop) follows o p same x y = equal o p _ x y
+
+-- edits by name have as many categories by number
+lots-of : (book : Book) (categories : ℕ) (named : List NamedEdit) → AreNamedEdits categories named → AllByRecursion (λ e. length (edit_lots e) ≡ categories) (edits_of book named)
+lots-of book categories [] all = tt
+lots-of book categories (add name lots amount ∷ named) all = (all.0.0.count, lots-of book categories named all.1)
+lots-of book categories (raise name lots amount ∷ named) all = (all.0.0.count, lots-of book categories named all.1)
+lots-of book categories (remove name lots ∷ named) all = (all.0.count, lots-of book categories named all.1)
 
 -- what the laws of the crates below say
 module _ (one_book : (bytes : List ℕ) (x y : Said Book Excess) → Says IsBook lines bytes x → Says IsBook lines bytes y → x ≡ y)
@@ -116,12 +92,37 @@ module _ (one_book : (bytes : List ℕ) (x y : Said Book Excess) → Says IsBook
     (one_json_rounds : (book : Book) (weights : ℕ → ℕ) (z : List ℕ) (v w : ℕ → ℤ) (p q : Point) (runs others : List Turn) (t u : List ℕ) → length z ≡ (market_of book).bidders
     → pos 1 ≤ℤ p.den → pos 1 ≤ℤ q.den → SamePoint (market_of book) p q → ((j : ℕ) → 0 < j → j ≤ (market_of book).bidders → v j ≡ w j)
     → IsMarket (market_of book) → IsPricingRun (market_of book) weights z runs → IsPricingRun (market_of book) weights z others
-    → IsOutcomeJson book z v p (Some runs) t → IsOutcomeJson book z w q (Some others) u → t ≡ u) where
+    → IsOutcomeJson book z v p (Some runs) t → IsOutcomeJson book z w q (Some others) u → t ≡ u)
+    (one_placed : (slots cert : List ℕ) (rounds : Bool) (contents : FileKind → Option (List ℕ)) (o p : Outcome) → CommandGives (place slots cert rounds) contents o → CommandGives (place slots cert rounds) contents p → Same o p)
+    (one_tested : (slots cert : List ℕ) (contents : FileKind → Option (List ℕ)) (o p : Outcome) → CommandGives (place_check slots cert) contents o → CommandGives (place_check slots cert) contents p → Same o p)
+    (one_edits : (categories : ℕ) (bytes : List ℕ) (x y : Said (List NamedEdit) Excess) → EditsSay categories bytes x → EditsSay categories bytes y → x ≡ y)
+    (one_review : (book : Book) (edits : List Edit) (t u : List ℕ) → IsBookWithinLimits book → AllByRecursion (λ e. length (edit_lots e) ≡ length book.supply) edits → IsReviewText book edits t → IsReviewText book edits u → t ≡ u) where
   one-book-answer : (bytes : List ℕ) (x y : Answer Book) → BookAnswers bytes x → BookAnswers bytes y → x ≡ y
   one-book-answer bytes x y a b = a.2 ∙ ap book_answer (one_book bytes a.0 b.0 a.1 b.1) ∙ sym b.2
 
   one-cert-answer : (book : Book) (bytes : List ℕ) (x y : Answer CertValue) → CertAnswers book bytes x → CertAnswers book bytes y → x ≡ y
   one-cert-answer book bytes x y a b = a.2 ∙ ap cert_answer (one_cert (bidders_of book) (states book) bytes a.0 b.0 a.1 b.1) ∙ sym b.2
+
+  one-edits-answer : (book : Book) (bytes : List ℕ) (x y : Answer (List Edit)) → EditsAnswers book bytes x → EditsAnswers book bytes y → x ≡ y
+  one-edits-answer book bytes x y a b = a.2 ∙ ap (edits_answer book) (one_edits (length book.supply) bytes a.0 b.0 a.1 b.1) ∙ sym b.2
+
+  -- edits that bytes state have as many categories as the book
+  lots-in : (book : Book) (bytes : List ℕ) (edits : List Edit) → EditsAnswers book bytes (value edits) → AllByRecursion (λ e. length (edit_lots e) ≡ length book.supply) edits
+  lots-in book bytes edits (said, says, is) = by said says is
+    where
+      by : (said : Said (List NamedEdit) Excess) → EditsSay (length book.supply) bytes said → value edits ≡ edits_answer book said → AllByRecursion (λ e. length (edit_lots e) ≡ length book.supply) edits
+      by (stated named) says is = let same : edits_of book named ≡ edits = cc in subst (λ (l : List Edit). AllByRecursion (λ e. length (edit_lots e) ≡ length book.supply) l) same (lots-of book (length book.supply) named says.valid)
+      by (faulty place) says is = absurd cc
+      by (beyond e) says is = absurd cc
+
+  -- a book that bytes state is within the limits
+  limits-of : (bytes : List ℕ) (book : Book) → BookAnswers bytes (value book) → IsBookWithinLimits book
+  limits-of bytes book (said, says, is) = by said says is
+    where
+      by : (said : Said Book Excess) → Says IsBook lines bytes said → value book ≡ book_answer said → IsBookWithinLimits book
+      by (stated b) says is = let same : b ≡ book = cc in subst IsBookWithinLimits same (record { form = says.valid; limits = says.within })
+      by (faulty place) says is = absurd cc
+      by (beyond e) says is = absurd cc
 
   -- a book that bytes state keeps the rules of its form
   form-of : (bytes : List ℕ) (book : Book) → BookAnswers bytes (value book) → IsBook book
@@ -219,7 +220,7 @@ module _ (one_book : (bytes : List ℕ) (x y : Said Book Excess) → Says IsBook
   one-judged book weights c o p m (inr x) (inl y) = absurd (not_both book (weight_of weights) c x.0 x.1 y.0 x.2)
   one-judged book weights c o p m (inr x) (inr y) =
       let is = one_verdict book (weight_of weights) c x.0 x.1 y.0 y.1 x.2 y.2 in
-      equal o p (stopped (No y.0 y.1)) (x.3 ∙ ap (λ (t : ℕ). stopped (No t x.1)) is.0 ∙ ap (λ (q : ℕ). stopped (No y.0 q)) is.1) y.3
+      equal o p (stopped (No certs.Book y.0 y.1)) (x.3 ∙ ap (λ (t : ℕ). stopped (No certs.Book t x.1)) is.0 ∙ ap (λ (q : ℕ). stopped (No certs.Book y.0 q)) is.1) y.3
 
   one-of : (command : CommandValue) (contents : FileKind → Option (List ℕ)) (o p : Outcome) → CommandGives command contents o → CommandGives command contents p → Same o p
   one-of (win name) contents o p x y = one-input BookFile BOOK_BYTES BookAnswers WinGives one-book-answer (contents BookFile) o p
@@ -256,6 +257,11 @@ module _ (one_book : (bytes : List ℕ) (x y : Said Book Excess) → Says IsBook
       (λ book is x y. one-input Cert CERT_BYTES (CertAnswers book) (VerdictGives book (ones book)) (one-cert-answer book) (contents Cert) o p
       (λ c with_it says_cert g h. one-judged book (ones book) c o p (lawful_log t (log_records of) events book says.1 says_it is) g h) x y) a b) x y) x y
   one-of (make number terms log) contents o p x y = equal o p _ x y
+  one-of (place slots cert rounds) contents o p x y = one_placed slots cert rounds contents o p x y
+  one-of (place_check slots cert) contents o p x y = one_tested slots cert contents o p x y
+  one-of (review name edits) contents o p x y = one-input BookFile BOOK_BYTES BookAnswers (λ b. EditsGive b (contents Edits) (ReviewGives b)) one-book-answer (contents BookFile) o p
+      (λ book bytes says x y. one-input Edits EDITS_BYTES (EditsAnswers book) (ReviewGives book) (one-edits-answer book) (contents Edits) o p
+      (λ changes of says_it a b. both o p (done a.0 []) (done b.0 []) a.2 b.2 (printed-same a.0 b.0 [] [] (one_review book changes a.0 b.0 (limits-of bytes book says) (lots-in book of changes says_it) a.1 b.1))) x y) x y
 
   one-words : (command : Option CommandValue) (file : List ℕ → Option (List ℕ)) (o p : Outcome) → WordsGive command file o → WordsGive command file p → Same o p
   one-words None file o p x y = equal o p _ x y

@@ -104,7 +104,7 @@ no-write (Some command) old new before now kinds.Out none fault = none.puts faul
 pub run-complete : (command : Option CommandValue) (old new : Folder) (before now : Output) (result : Status) → RunEnds command old new before now result → HasNoFault command old new before now
     → (result ≡ Memory) ⊎ IsDecided result
 run-complete command old new before now Done ends none = inr tt
-run-complete command old new before now (No test place) ends none = inr tt
+run-complete command old new before now (No of test place) ends none = inr tt
 run-complete command old new before now Words ends none = inr tt
 run-complete command old new before now (Refused file place entry) ends none = inr tt
 run-complete command old new before now (ReadFault kind) ends none = absurd (no-read command old new before now kind none (ends.read_fault kind refl))

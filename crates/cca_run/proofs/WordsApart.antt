@@ -4,7 +4,7 @@ use Rattle.std.specs.Prelude.{◌&&◌, ◌||◌, not, codes, if◌then◌else�
 use Rattle.std.specs.Option.{option_map}
 use Rattle.std.specs.Str.{bytes_eq}
 use Rattle.std.proofs.lemmas.Slice.Eq.{bytes_eq-Decides}
-use Rattle.cca_inputs.specs.Command.{CommandValue, win, price, check, weigh, weigh_check, auction, award, audit, make, are_file_words, auction_words, audit_words, award_words, check_words, command_of, form_asked, is_among, is_file_word, make_words, number_said, price_words, weigh_check_words, weigh_words, win_words}
+use Rattle.cca_inputs.specs.Command.{CommandValue, win, price, check, weigh, weigh_check, auction, award, audit, make, place, place_check, review, are_file_words, auction_words, audit_words, award_words, check_words, command_of, form_asked, is_among, is_file_word, make_words, number_said, place_check_words, place_words, price_words, review_words, rounds_asked, weigh_check_words, weigh_words, win_words}
 use Rattle.cca_inputs.specs.declared.price_form.PriceForm.{PriceForm}
 
 -- one of two was chosen
@@ -119,6 +119,39 @@ module _ (terms log cert : List ℕ) (form : PriceForm) where
       ]
   never-make (n ∷ f ∷ g ∷ h ∷ rest) is = cc
 
+  mapped-place : (f g : List ℕ) (asked : Option Bool) → option_map (place f g) asked ≡ Some (award terms log cert form) → ⊥
+  mapped-place f g None is = cc
+  mapped-place f g (Some x) is = cc
+
+  never-place : (rest : List (List ℕ)) → place_words rest ≡ Some (award terms log cert form) → ⊥
+  never-place [] is = cc
+  never-place (f ∷ []) is = cc
+  never-place (f ∷ g ∷ flags) is =
+      elim (chosen (are_file_words (f ∷ g ∷ [])) (option_map (place f g) (rounds_asked flags)) None (award terms log cert form) is) [
+        | inl e ↦ mapped-place f g (rounds_asked flags) e.1
+        | inr e ↦ cc
+      ]
+
+  never-place_check : (rest : List (List ℕ)) → place_check_words rest ≡ Some (award terms log cert form) → ⊥
+  never-place_check [] is = cc
+  never-place_check (f ∷ []) is = cc
+  never-place_check (f ∷ g ∷ []) is =
+      elim (chosen (are_file_words (f ∷ g ∷ [])) (Some (place_check f g)) None (award terms log cert form) is) [
+        | inl e ↦ (let no = e.1 in cc)
+        | inr e ↦ cc
+      ]
+  never-place_check (f ∷ g ∷ h ∷ rest) is = cc
+
+  never-review : (rest : List (List ℕ)) → review_words rest ≡ Some (award terms log cert form) → ⊥
+  never-review [] is = cc
+  never-review (f ∷ []) is = cc
+  never-review (f ∷ g ∷ []) is =
+      elim (chosen (are_file_words (f ∷ g ∷ [])) (Some (review f g)) None (award terms log cert form) is) [
+        | inl e ↦ (let no = e.1 in cc)
+        | inr e ↦ cc
+      ]
+  never-review (f ∷ g ∷ h ∷ rest) is = cc
+
   -- the three files
   record AreFiles (f g h : List ℕ) : Type 0 where
     first : f ≡ terms
@@ -144,8 +177,17 @@ module _ (terms log cert : List ℕ) (form : PriceForm) where
 
   module _ (w : List ℕ) (rest : List (List ℕ)) where
     -- what is asked of the words where no earlier first word was found
+    abbrev of-review : Option CommandValue
+    of-review = if bytes_eq w (codes "review") then review_words rest else None
+
+    abbrev of-place_check : Option CommandValue
+    of-place_check = if bytes_eq w (codes "place-check") then place_check_words rest else of-review
+
+    abbrev of-place : Option CommandValue
+    of-place = if bytes_eq w (codes "place") then place_words rest else of-place_check
+
     abbrev of-make : Option CommandValue
-    of-make = if bytes_eq w (codes "make") then make_words rest else None
+    of-make = if bytes_eq w (codes "make") then make_words rest else of-place
 
     abbrev of-audit : Option CommandValue
     of-audit = if bytes_eq w (codes "audit") then audit_words rest else of-make
@@ -168,11 +210,32 @@ module _ (terms log cert : List ℕ) (form : PriceForm) where
     abbrev of-price : Option CommandValue
     of-price = if bytes_eq w (codes "price") then price_words rest else of-check
 
+    from-review : of-review ≡ Some (award terms log cert form) → Files
+    from-review is =
+        elim (chosen (bytes_eq w (codes "review")) (review_words rest) None (award terms log cert form) is) [
+          | inl e ↦ absurd (never-review rest e.1)
+          | inr e ↦ absurd cc
+        ]
+
+    from-place_check : of-place_check ≡ Some (award terms log cert form) → Files
+    from-place_check is =
+        elim (chosen (bytes_eq w (codes "place-check")) (place_check_words rest) of-review (award terms log cert form) is) [
+          | inl e ↦ absurd (never-place_check rest e.1)
+          | inr e ↦ from-review e
+        ]
+
+    from-place : of-place ≡ Some (award terms log cert form) → Files
+    from-place is =
+        elim (chosen (bytes_eq w (codes "place")) (place_words rest) of-place_check (award terms log cert form) is) [
+          | inl e ↦ absurd (never-place rest e.1)
+          | inr e ↦ from-place_check e
+        ]
+
     from-make : of-make ≡ Some (award terms log cert form) → Files
     from-make is =
-        elim (chosen (bytes_eq w (codes "make")) (make_words rest) None (award terms log cert form) is) [
+        elim (chosen (bytes_eq w (codes "make")) (make_words rest) of-place (award terms log cert form) is) [
           | inl e ↦ absurd (never-make rest e.1)
-          | inr e ↦ absurd cc
+          | inr e ↦ from-place e
         ]
 
     from-audit : of-audit ≡ Some (award terms log cert form) → Files

@@ -26,19 +26,32 @@ use Rattle.cert_laws.specs.Sound.{IsSound, cert_point, cert_prices}
 use Rattle.cert_laws.specs.Tests.{FailsFirst, Holds, bidders_of, states}
 use Rattle.core_price.specs.Weights.{FewWin, ManyWin}
 use Rattle.limits.specs.declared.LimitKind.TheVariants.{Rounds, Price, Winners}
-use Rattle.limits.specs.declared.TheConstants.{AWARD_BYTES, LOG_BYTES, BOOK_BYTES, CERT_BYTES, WEIGHTS_BYTES}
+use Rattle.limits.specs.declared.TheConstants.{AWARD_BYTES, LOG_BYTES, BOOK_BYTES, CERT_BYTES, EDITS_BYTES, SLOTS_BYTES, WEIGHTS_BYTES}
 use Rattle.print_form.specs.Json.{IsOutcomeJson}
 use Rattle.print_form.specs.Prices.{IsPriceText}
 use Rattle.print_form.specs.Turns.{AreTurnLines}
 use Rattle.row_laws.specs.Turns.{IsLastPoint}
+use Rattle.auction_model.specs.Prices.{alike}
+use Rattle.cert_form.specs.PlaceCert.{PlaceCertValue}
+use Rattle.place_cert.specs.PlaceSays.{place_text}
+use Rattle.place_cert.specs.PlaceText.{IsPlaceCertificate}
+use Rattle.place_laws.specs.PlacePriced.{IsPricedPlaceCert}
+use Rattle.place_laws.specs.PlaceSound.{IsPlaceSound, prices_in}
+use Rattle.place_laws.specs.PlaceTests as places
+use Rattle.place_outcome.specs.PlaceText.{IsPlaceText}
+use Rattle.review.specs.declared.edit.Edit.{Edit}
+use Rattle.review_text.specs.ReviewText.{IsReviewText}
+use Rattle.slot_places.specs.Board as board
+use Rattle.slot_places.specs.Slots.{SlotList}
 use Rattle.row_laws.specs.Winners.{winners_in}
-use Rattle.cca_inputs.specs.Answers.{AwardAnswers, BookAnswers, CertAnswers, LogAnswers, WeightsAnswers}
-use Rattle.cca_inputs.specs.Command.{CommandValue, win, price, check, weigh, weigh_check, auction, award, audit, make, command_of, contents_of}
+use Rattle.cca_inputs.specs.Answers.{AwardAnswers, BookAnswers, CertAnswers, EditsAnswers, LogAnswers, PlaceCertAnswers, SlotsAnswers, WeightsAnswers}
+use Rattle.cca_inputs.specs.Command.{CommandValue, win, price, check, weigh, weigh_check, auction, award, audit, make, place, place_check, review, command_of, contents_of}
 use Rattle.cca_inputs.specs.Outcome.{InputGives, Outcome, done, stopped, stopped_after}
 use Rattle.cca_inputs.specs.declared.file_text.FileText.{FileText}
 use Rattle.cca_inputs.specs.declared.price_form.PriceForm.{PriceForm}
+use Rattle.cca_inputs.specs.declared.status.CertKind.TheVariants as certs
 use Rattle.cca_inputs.specs.declared.status.FileKind.{FileKind}
-use Rattle.cca_inputs.specs.declared.status.FileKind.TheVariants.{Award, Log, Book, Cert, Weights}
+use Rattle.cca_inputs.specs.declared.status.FileKind.TheVariants.{Award, Log, Book, Cert, Weights, Slots, Edits}
 use Rattle.cca_inputs.specs.declared.status.Status.{Status}
 use Rattle.cca_inputs.specs.declared.status.Status.TheVariants.{No, Words, Refused, Limit}
 
@@ -116,7 +129,7 @@ IsYesText book c text = (prices : List ℕ) × IsPriceText book c.choice (cert_p
 abbrev pub VerdictGives : BookValue → List ℕ → CertValue → Outcome → Type 0
 VerdictGives book weights c outcome =
     (Holds book (weight_of weights) c × IsSound book (weight_of weights) c × ((text : List ℕ) × IsYesText book c text × (outcome ≡ done text [])))
-    ⊎ ((test place : ℕ) × FailsFirst book (weight_of weights) c test place × (outcome ≡ stopped (No test place)))
+    ⊎ ((test place : ℕ) × FailsFirst book (weight_of weights) c test place × (outcome ≡ stopped (No certs.Book test place)))
 
 -- a text that is appended to the book's file
 abbrev pub book_file : List ℕ → FileText
@@ -181,6 +194,55 @@ abbrev pub MakeGives : ℕ → Outcome → Type 0
 MakeGives number outcome =
     outcome ≡ done (made_line number made_bidders (length (made_log number))) (award_file made_award_text ∷ log_file (log_text (made_log number)) ∷ [])
 
+-- the lines of the turns, where they are asked for, and then the placement and the prices that a certificate shows
+pub record ArePlacedLines (slots : SlotList) (rounds : Bool) (p : PlaceCertValue) (turns : List Turn) (text : List ℕ) : Type 0 where
+  pub lines : List ℕ
+  pub are_rounds : AreRounds rounds p.cert.choice turns lines
+  pub prices : List ℕ
+  pub are_prices : IsPlaceText slots p.order p.cert.choice (prices_in (board.market_of slots) p.cert) (cert_point p.cert) prices
+  pub whole : text ≡ lines ++ prices
+
+-- What pricing the bidders of a band gives: a certificate that is exact and for which all tests hold, and a pricing run that ends at its
+-- payments; both are printed.
+pub record IsPlacing (slots : SlotList) (rounds : Bool) (p : PlaceCertValue) (text : List ℕ) : Type 0 where
+  pub certificate : IsPlaceCertificate (length slots.bidders) p
+  pub priced : IsPricedPlaceCert slots p
+  pub turns : List Turn
+  pub run : IsPricingRun (board.market_of slots) alike p.cert.choice turns
+  pub last : IsLastPoint turns (cert_point p.cert)
+  pub printed : ArePlacedLines slots rounds p turns text
+
+-- the placement and the prices are printed and their certificate is appended
+abbrev pub PlaceGives : SlotList → Bool → Outcome → Type 0
+PlaceGives slots rounds outcome = (p : PlaceCertValue) × (text : List ℕ) × IsPlacing slots rounds p text × (outcome ≡ done text (cert_file (place_text p) ∷ []))
+
+-- the line `yes`, and the placement and the prices that the certificate shows
+abbrev pub IsPlaceYes : SlotList → PlaceCertValue → List ℕ → Type 0
+IsPlaceYes slots p text =
+    (prices : List ℕ) × IsPlaceText slots p.order p.cert.choice (prices_in (board.market_of slots) p.cert) (cert_point p.cert) prices × (text ≡ codes "yes\n" ++ prices)
+
+-- A certificate of a placement that passes all tests gives yes and what it shows; then its choice is one of the greatest, and its payments
+-- are the core outcome. Else the first test that fails is told, with its first place.
+abbrev pub PlaceVerdictGives : SlotList → PlaceCertValue → Outcome → Type 0
+PlaceVerdictGives slots p outcome =
+    (places.Holds slots p × IsPlaceSound slots p × ((text : List ℕ) × IsPlaceYes slots p text × (outcome ≡ done text [])))
+    ⊎ ((test place : ℕ) × places.FailsFirst slots p test place × (outcome ≡ stopped (No certs.Placement test place)))
+
+-- the values and the winning choices of the book behind each edit are printed
+abbrev pub ReviewGives : BookValue → List Edit → Outcome → Type 0
+ReviewGives book edits outcome = (text : List ℕ) × IsReviewText book edits text × (outcome ≡ done text [])
+
+-- what slots, and a certificate of their placement, give by their bytes, where this follows
+abbrev pub SlotsGive : Option (List ℕ) → (SlotList → Outcome → Type 0) → Outcome → Type 0
+SlotsGive content follows outcome = InputGives Slots SLOTS_BYTES SlotsAnswers content follows outcome
+
+abbrev pub PlaceCertGives : SlotList → Option (List ℕ) → (PlaceCertValue → Outcome → Type 0) → Outcome → Type 0
+PlaceCertGives slots content follows outcome = InputGives Cert CERT_BYTES (PlaceCertAnswers (length slots.bidders)) content follows outcome
+
+-- what the edits of a book give by their bytes, where this follows
+abbrev pub EditsGive : BookValue → Option (List ℕ) → (List Edit → Outcome → Type 0) → Outcome → Type 0
+EditsGive book content follows outcome = InputGives Edits EDITS_BYTES (EditsAnswers book) content follows outcome
+
 -- What a command gives, by the bytes of its inputs of each kind.
 abbrev pub CommandGives : CommandValue → (FileKind → Option (List ℕ)) → Outcome → Type 0
 CommandGives (win book) contents outcome = BookGives (contents Book) WinGives outcome
@@ -195,6 +257,9 @@ CommandGives (award terms log cert form) contents outcome =
 CommandGives (audit terms log cert) contents outcome =
     AwardGives (contents Award) (λ t. LogGives t (contents Log) (λ events. BookOfLogGives t events (λ b. CertGives b (contents Cert) (VerdictGives b (ones b))))) outcome
 CommandGives (make number terms log) contents outcome = MakeGives number outcome
+CommandGives (place slots cert rounds) contents outcome = SlotsGive (contents Slots) (λ s. PlaceGives s rounds) outcome
+CommandGives (place_check slots cert) contents outcome = SlotsGive (contents Slots) (λ s. PlaceCertGives s (contents Cert) (PlaceVerdictGives s)) outcome
+CommandGives (review book edits) contents outcome = BookGives (contents Book) (λ b. EditsGive b (contents Edits) (ReviewGives b)) outcome
 
 -- what a command gives by the files
 abbrev pub FilesGive : CommandValue → (List ℕ → Option (List ℕ)) → Outcome → Type 0

@@ -8,7 +8,7 @@ use Rattle.cca_inputs.specs.Outcome.{Outcome, stopped}
 use Rattle.cca_inputs.specs.StatusLine.{status_line}
 use Rattle.cca_inputs.specs.declared.file_text.FileText.{FileText}
 use Rattle.cca_inputs.specs.declared.status.FileKind.{FileKind}
-use Rattle.cca_inputs.specs.declared.status.FileKind.TheVariants.{Award, Log, Book, Cert, Weights, Out}
+use Rattle.cca_inputs.specs.declared.status.FileKind.TheVariants.{Award, Log, Book, Cert, Weights, Slots, Edits, Out}
 use Rattle.cca_inputs.specs.declared.status.Status.{Status}
 use Rattle.cca_inputs.specs.declared.status.Status.TheVariants.{Done, No, Words, Refused, ReadFault, WriteFault, Memory, Limit}
 use Rattle.cca_run.specs.Gives.{CommandGives, FilesGive, Gives}
@@ -74,6 +74,8 @@ IsWriteFault command old new before now Log = IsFileFault command old new Log
 IsWriteFault command old new before now Book = IsFileFault command old new Book
 IsWriteFault command old new before now Cert = IsFileFault command old new Cert
 IsWriteFault command old new before now Weights = IsFileFault command old new Weights
+IsWriteFault command old new before now Slots = IsFileFault command old new Slots
+IsWriteFault command old new before now Edits = IsFileFault command old new Edits
 IsWriteFault command old new before now Out = Rose before.faults now.faults
 
 -- words of the plain form
@@ -84,7 +86,7 @@ IsPlain (Some command) = Unit {0}
 -- a fault of a file or want of memory, each with its cause
 abbrev pub IsHindrance : Option CommandValue → Folder → Folder → Status → Type 0
 IsHindrance command old new Done = ⊥
-IsHindrance command old new (No test place) = ⊥
+IsHindrance command old new (No kind test place) = ⊥
 IsHindrance command old new Words = ⊥
 IsHindrance command old new (Refused file place entry) = ⊥
 IsHindrance command old new (ReadFault kind) = IsReadFault command old new kind

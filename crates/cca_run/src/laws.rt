@@ -19,8 +19,14 @@ use award_file::book_of_award;
 use bid_book::one_book;
 use cert_form::{one_cert, text_of_cert};
 use cert_laws::{one_verdict, short_text, sound_yes};
+use edits_file::one_edits;
 use log_file::{one_reading, packages_of_log};
+use place_cert::one_place_cert;
+use place_laws::{one_place_verdict, one_pricing, sound_places};
+use place_outcome::one_place_text;
 use print_form::{one_outcome_json, one_price_text, one_run_text};
+use review_text::one_review_text;
+use slot_places::{one_slots, slot_market};
 use weights_file::one_weighing;
 
 /// The words and the bytes of the files give at most one status and one printed text. So each status that is decided comes exactly
@@ -44,6 +50,15 @@ pub fn one_outcome()
     one_price_text();
     one_run_text();
     one_outcome_json();
+    one_slots();
+    slot_market();
+    one_place_cert();
+    one_place_verdict();
+    sound_places();
+    one_pricing();
+    one_place_text();
+    one_edits();
+    one_review_text();
 }
 
 /// With weights of 1 too many win exactly where more than six do. The choice has a number for each bidder.

@@ -9,7 +9,7 @@ mod top;
 mod work;
 
 pub use auction_laws::one_auction;
-pub use cca_inputs::{FileKind, Status};
+pub use cca_inputs::{CertKind, FileKind, Status};
 pub use laws::{
     awarded_cert_passes, complete_log_is_awarded, limit_of_ones, one_outcome, written_cert_passes,
 };

@@ -6,8 +6,10 @@ ghost use Rattle.cca_inputs.specs.declared.status.Status.TheVariants.{Memory};
 pub(crate) mod auction;
 pub(crate) mod commands;
 pub(crate) mod made;
+pub(crate) mod placing;
 pub(crate) mod price_text;
 pub(crate) mod pricing;
+pub(crate) mod reviewing;
 pub(crate) mod verdict;
 pub(crate) mod win;
 

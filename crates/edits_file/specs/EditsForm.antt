@@ -1,6 +1,5 @@
 -- The form of a file of edits: which lists of edits have a text, and its lines. Beside a line stands the limit that it exceeds.
-use Rattle.std.specs.Prelude.{◌≡◌, ℕ, zero, suc, ◌+◌, ◌≤◌, ◌^◌, Option, Some, None, List, [], ◌∷◌, ◌++◌, codes, length, map, nat_le, if◌then◌else◌}
-use Rattle.std.specs.Fmt.{decimal}
+use Rattle.std.specs.Prelude.{◌≡◌, ℕ, suc, ◌+◌, ◌≤◌, ◌^◌, Option, Some, None, List, [], ◌∷◌, ◌++◌, codes, length, map, nat_le, if◌then◌else◌}
 use Rattle.std.specs.List.{AllByRecursion}
 use Rattle.std.specs.Str.{bytes_eq}
 use Rattle.auction_model.specs.Book.{Bidder, Book}
@@ -17,7 +16,7 @@ use Rattle.text_lines.specs.Decimals.{decimals_text}
 pub data NamedEdit : Type 0 where
   add : List ℕ → List ℕ → ℕ → NamedEdit
   raise : List ℕ → List ℕ → ℕ → NamedEdit
-  drop : List ℕ → List ℕ → NamedEdit
+  remove : List ℕ → List ℕ → NamedEdit
 
 -- a name, and one count of at most 65,535 for each category
 pub record NamesPackage (categories : ℕ) (name lots : List ℕ) : Type 0 where
@@ -32,7 +31,7 @@ IsSpelledAmount amount = amount ≤ 10 ^ 18
 abbrev pub IsNamedEdit : ℕ → NamedEdit → Type 0
 IsNamedEdit categories (add name lots amount) = NamesPackage categories name lots × IsSpelledAmount amount
 IsNamedEdit categories (raise name lots amount) = NamesPackage categories name lots × IsSpelledAmount amount
-IsNamedEdit categories (drop name lots) = NamesPackage categories name lots
+IsNamedEdit categories (remove name lots) = NamesPackage categories name lots
 
 -- edits of a book of so many categories
 abbrev pub AreNamedEdits : ℕ → List NamedEdit → Type 0
@@ -44,7 +43,7 @@ edit_excess count = if nat_le count MOST_EDITS then None else Some (Records, MOS
 abbrev pub edit_text : NamedEdit → List ℕ
 edit_text (add name lots amount) = codes "add " ++ (name ++ decimals_text (lots ++ amount ∷ []))
 edit_text (raise name lots amount) = codes "raise " ++ (name ++ decimals_text (lots ++ amount ∷ []))
-edit_text (drop name lots) = codes "drop " ++ (name ++ decimals_text lots)
+edit_text (remove name lots) = codes "drop " ++ (name ++ decimals_text lots)
 
 -- the edits behind so many others
 abbrev pub edit_lines : ℕ → List NamedEdit → List Line
@@ -67,7 +66,7 @@ number_among name before (b ∷ bs) = if bytes_eq b.name name then suc before el
 abbrev pub edit_of : Book → NamedEdit → Edit
 edit_of book (add name lots amount) = Add (number_among name 0 book.bidders) lots amount
 edit_of book (raise name lots amount) = Raise (number_among name 0 book.bidders) lots amount
-edit_of book (drop name lots) = Remove (number_among name 0 book.bidders) lots
+edit_of book (remove name lots) = Remove (number_among name 0 book.bidders) lots
 
 abbrev pub edits_of : Book → List NamedEdit → List Edit
 edits_of book edits = map (edit_of book) edits

@@ -1,1 +1,2 @@
 pub mod EditsForm
+pub mod Stages

@@ -141,8 +141,8 @@ fn is_nearest(slots: &Slots, cert: &PlaceCertificate, j: u16) -> bool
     is_product(pay[j as usize - 1] - sum, cert.den, vickrey(slots, cert, j))
 }
 
-/// The Vickrey price of winner `j` by its part.
-fn vickrey(slots: &Slots, cert: &PlaceCertificate, j: u16) -> i128
+/// The Vickrey price of winner `j` by its part: the worth of the part's choice, less the value, and the worth of the winner's bid.
+pub fn vickrey(slots: &Slots, cert: &PlaceCertificate, j: u16) -> i128
     requires shape { IsFor slots.now cert.now }
     requires bidder { (0 < j) × (j ≤ length slots.now.bidders) }
     ensures { result ≡ vickrey_in (market_of slots.now) (place_cert_value cert.now).cert j }

@@ -16,3 +16,5 @@ mod tests;
 
 pub use cert_check::Verdict;
 pub use checking::check_places;
+pub use claims::vickrey;
+pub use sums::total_of;

@@ -68,8 +68,8 @@ fn counted(passes: bool, amount: i128) -> i128
     if passes { amount } else { 0 }
 }
 
-/// What all pay together.
-pub(crate) fn total_of(payments: &[i128]) -> i128
+/// What all pay together, times the denominator.
+pub fn total_of(payments: &[i128]) -> i128
     requires count { length payments.now ≤ MOST_PLACED }
     requires range { AllInRange payments.now }
     ensures { result ≡ sum_over everyone (of_bidder payments.now) (length payments.now) }

@@ -1,1 +1,2 @@
 pub mod PlaceText
+pub mod Printable

@@ -5,6 +5,6 @@ mod JsonLaws
 mod PriceTextLaws
 mod RunTextLaws
 mod SameTurns
-mod Sums
+pub mod Sums
 mod WorkedCases
 pub mod WinTextLaws

@@ -1,2 +1,11 @@
 //! What is printed of a review: the book's value and winning choice, and what each edit makes of them.
 #![tactic(auto)]
+
+mod laws;
+mod lines;
+#[cfg(test)]
+mod tests;
+mod text;
+
+pub use laws::one_review_text;
+pub use text::review_text;

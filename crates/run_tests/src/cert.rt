@@ -1,7 +1,7 @@
 // Certificates of books, and what `check` answers to them.
 use crate::price::{CHECK, TWO_GLOBALS};
 use crate::settings::{DAY_CRAMTON, LOCALS, NOBODY, TIE, joined, run_plain};
-use cca_run::{FileKind, Status};
+use cca_run::{CertKind, FileKind, Status};
 use std::test::Fail;
 
 // The first 200 bytes of the certificate of two winners.
@@ -119,7 +119,7 @@ fn says_yes_to_certificates(rt: HostRuntime) -> Result<(), Fail> {
 }
 
 fn no(test: u8, place: u64) -> Status {
-    Status::No { test, place }
+    Status::No { of: CertKind::Book, test, place }
 }
 
 fn refused(place: u64) -> Status {

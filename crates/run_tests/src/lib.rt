@@ -10,13 +10,19 @@ mod cert;
 #[cfg(test)]
 mod cert_edits;
 #[cfg(test)]
+mod every_call;
+#[cfg(test)]
 mod fault;
 #[cfg(test)]
 mod listing;
 #[cfg(test)]
 mod make;
 #[cfg(test)]
+mod places;
+#[cfg(test)]
 mod price;
+#[cfg(test)]
+mod review;
 #[cfg(test)]
 mod settings;
 #[cfg(test)]

@@ -4,7 +4,7 @@ ghost use Rattle.cca_base.specs.MemFiles.{mem_folder};
 
 use bid_book::LimitKind;
 use cca_base::{MemFiles, MemSink};
-use cca_run::{FileKind, Status, run};
+use cca_run::{CertKind, FileKind, Status, run};
 use std::alloc::{AllocError, Global};
 use std::test::Fail;
 
@@ -279,7 +279,7 @@ fn refuses_other_words(rt: HostRuntime) -> Result<(), Fail> {
 fn ends_with_codes(rt: HostRuntime) {
     let table: [(Status, u8); 8] = [
         (Status::Done, 0),
-        (Status::No { test: 8, place: 2 }, 1),
+        (Status::No { of: CertKind::Book, test: 8, place: 2 }, 1),
         (Status::Words, 2),
         (refused(42), 3),
         (

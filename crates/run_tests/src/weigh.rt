@@ -3,7 +3,7 @@ use crate::auction::run_three;
 use crate::cert::DAY_CRAMTON_CERT;
 use crate::settings::{DAY_CRAMTON, joined};
 use bid_book::LimitKind;
-use cca_run::{FileKind, Status};
+use cca_run::{CertKind, FileKind, Status};
 use std::alloc::Global;
 use std::process::Abort;
 use std::test::Fail;
@@ -78,7 +78,7 @@ fn tests_by_weights(rt: HostRuntime) -> Result<(), Fail> {
     let book = DAY_CRAMTON.as_bytes();
     let cert = joined(alloc, DAY_CRAMTON_CERT)?;
     let heavy = run_three(alloc, WEIGH_CHECK, book, ONE_HEAVY.as_bytes(), Some(&cert))?;
-    assert_eq!(rt; heavy.status, Status::No { test: 8, place: 3 });
+    assert_eq!(rt; heavy.status, Status::No { of: CertKind::Book, test: 8, place: 3 });
     assert_eq!(rt; heavy.printed.as_slice(), b"no C8 3\n".as_slice());
     let alike = run_three(alloc, WEIGH_CHECK, book, ALL_ALIKE.as_bytes(), Some(&cert))?;
     let yes = joined(alloc, &["yes\n", PLAIN_PRICES])?;

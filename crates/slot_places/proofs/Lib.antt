@@ -20,7 +20,7 @@ pub mod PlainSearch
 mod Growth
 mod LineLaws
 mod Reading
-mod Within
+pub mod Within
 mod Added
 mod StopLaws
 mod EntryLaws

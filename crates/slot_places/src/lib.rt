@@ -17,7 +17,7 @@ mod tests;
 pub use laws::{one_slots, slot_market, slot_orders};
 pub use limits::{LimitKind, MOST_PLACED};
 pub use read::read_slots;
-pub use slot_chooser::{SlotChooser, place_win};
+pub use slot_chooser::{SlotChooser, place_best, place_win};
 pub use slots::{Place, Slots};
 
 /// Why bytes are no slots.

@@ -5,7 +5,7 @@ ghost use Rattle.auction_model.specs.Lawful.{IsMarket};
 ghost use Rattle.auction_model.specs.Market.{value_of};
 ghost use Rattle.auction_model.specs.Prices.{allowed_without};
 ghost use Rattle.slot_places.specs.Slots.{amount_of};
-ghost use Rattle.slot_places.specs.Board.{market_of, board_without, is_placed};
+ghost use Rattle.slot_places.specs.Board.{market_of, board_of, board_without, is_placed};
 ghost use Rattle.slot_places.specs.SetTable.{IsSetTable};
 ghost use Rattle.limits.specs.declared.TheConstants.{MOST_PLACED};
 
@@ -77,11 +77,21 @@ fn plain_search(alloc: Global, slots: &Slots, skip: u16) -> Result<Found<Grid>, 
     Ok(found)
 }
 
+/// The winning choice with its worth and the table for the amounts. The only error is want of memory.
+pub fn place_best(alloc: Global, slots: &Slots) -> Result<Found<Grid>, AllocError>
+    ensures choice { IfOk result (λ f. IsWinning (market_of slots.now) f.choice) }
+    ensures sum { IfOk result (λ f. f.sum ≡ value_of (market_of slots.now) f.choice) }
+    ensures table { IfOk result (λ f. IsSetTable (board_of slots.now) (amount_of slots.now) f.table) }
+{
+    let found = plain_search(alloc, slots, 0)?;
+    Ok(found)
+}
+
 /// The winning choice: of the allowed choices the first of those of greatest worth. The only error is want of memory.
 pub fn place_win(alloc: Global, slots: &Slots) -> Result<Choice, AllocError>
     ensures { IfOk result (λ c. IsWinning (market_of slots.now) c) }
 {
-    let found = plain_search(alloc, slots, 0)?;
+    let found = place_best(alloc, slots)?;
     Ok(found.choice)
 }
 

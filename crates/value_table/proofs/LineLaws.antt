@@ -1,10 +1,10 @@
 -- The lines of both sides of a book are lines of tables for worths over 1 with no surplus.
-use Rattle.std.specs.Prelude.{◌≡◌, ℕ, zero, suc, ◌-◌, ◌≤◌, ◌<◌, Bool, true, false, IsTrue, List, [], ◌∷◌, length, get_or, replicate, take, ℤ, pos, ◌+ℤ◌, refl, ◌==◌}
-use Rattle.std.proofs.Common.{sym, ◌∙◌, ap, subst, arith}
+use Rattle.std.specs.Prelude.{◌≡◌, ℕ, zero, suc, ◌-◌, ◌≤◌, ◌<◌, Bool, true, false, List, [], ◌∷◌, length, get_or, replicate, take, ℤ, pos, ◌+ℤ◌, refl, ◌==◌}
+use Rattle.std.proofs.Common.{sym, ◌∙◌, ap, arith}
 use Rattle.std.proofs.lemmas.Bool.{cond-false, ne_eqb}
 use Rattle.std.proofs.lemmas.Int.{ints}
 use Rattle.auction_model.specs.Book.{Book, menu_of, net_of}
-use Rattle.auction_model.specs.Lowered.{lowered, of_bidder}
+use Rattle.auction_model.specs.Lowered.{lowered}
 use Rattle.auction_model.specs.Market.{sum_after}
 use Rattle.auction_model.specs.Menu.{Menu, fits_after, without}
 use Rattle.auction_model.specs.Package.{less}

@@ -1,5 +1,6 @@
 pub mod BookTable
 pub mod Counted
+pub mod Growing
 pub mod SideLines
 pub mod SideValues
 pub mod TableValue

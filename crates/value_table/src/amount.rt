@@ -1,5 +1,5 @@
 // The numbers of a line, in the two sizes in which lines are worked out.
-ghost use Rattle.std.specs.Prelude.{◌≡◌, ℕ, ◌^◌, ◌≤◌, ◌<◌, length, slice_index_or, ℤ, pos, ◌+ℤ◌, unsigned_abs, map};
+ghost use Rattle.std.specs.Prelude.{◌≡◌, ℕ, ◌^◌, ◌≤◌, ◌<◌, ◌↔◌, IsTrue, length, slice_index_or, ℤ, pos, ◌+ℤ◌, ◌≤ℤ◌, unsigned_abs, map};
 ghost use Rattle.std.specs.Int.{int_max};
 
 /// A number of a line, so that bids are counted by the same functions in lines of each size.
@@ -9,6 +9,12 @@ pub trait Amount: Copy {
 
     /// How far from zero a worth and a number of the line below may be.
     ghost most: { ℕ };
+
+    /// Whether a number is at least a worth with a number of the line below.
+    fn is_at_least(entry: Self, worth: Self, below: Self) -> bool
+        requires worth { unsigned_abs (number worth) ≤ most }
+        requires below { unsigned_abs (number below) ≤ most }
+        ensures { IsTrue result ↔ (number worth +ℤ number below) ≤ℤ number entry };
 
     /// Raises each number of `line` to that of `below` with the worth, where it is smaller.
     fn raise_run(line: &mut [Self], below: &[Self], worth: Self)
@@ -22,6 +28,10 @@ impl Amount for i128 {
     ghost number = { λ z. z };
 
     ghost most = { 2 ^ 120 };
+
+    fn is_at_least(entry: i128, worth: i128, below: i128) -> bool {
+        worth + below <= entry
+    }
 
     fn raise_run(line: &mut [i128], below: &[i128], worth: i128) {
         for i in 0..line.len() {
@@ -37,6 +47,10 @@ impl Amount for i64 {
     ghost number = { λ z. z };
 
     ghost most = { 2 ^ 61 };
+
+    fn is_at_least(entry: i64, worth: i64, below: i64) -> bool {
+        worth + below <= entry
+    }
 
     fn raise_run(line: &mut [i64], below: &[i64], worth: i64) {
         for i in 0..line.len() {

@@ -29,6 +29,7 @@ pub struct Lowering<'a> {
 impl<'a> Lowering<'a> {
     ghost use Rattle.std.specs.Prelude.{◌<◌};
     ghost use Rattle.auction_model.specs.Book.{bids_of};
+    ghost use Rattle.auction_model.specs.Package.{is_within};
     ghost use Rattle.value_table.specs.Counted.{seat, counted_bids, counted, IsNeedless, IsNarrow};
 
     /// Which bidder of the book has number `j`.
@@ -63,6 +64,7 @@ impl<'a> Lowering<'a> {
         requires bid { (0 < i) × (i ≤ (counted_bids self.now).bids j) }
         ensures lots { result.now.package ≡ (counted_bids self.now).lots j i }
         ensures categories { length result.now.package ≡ length self.now.book.now.supply }
+        ensures fits { IsTrue (is_within result.now.package self.now.book.now.supply) }
     {
         self.book.bid(self.bidder(j), i)
     }

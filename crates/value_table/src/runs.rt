@@ -1,9 +1,12 @@
 // Counting one bid in a line, run by run. In one category, block `q` of a line has the places with `q` lots of that category
-// left, and a bid of `count` lots raises block `q` from block `q - count` of the line below.
-ghost use Rattle.std.specs.Prelude.{◌≡◌, ℕ, ◌≤◌, ◌<◌, length, slice_index_or, pos, unsigned_abs, map};
+// left, and a bid of `count` lots raises block `q` from block `q - count` of the line below. A block is left out where its
+// corners show that the bid changes nothing in it.
+ghost use Rattle.std.specs.Prelude.{◌≡◌, ℕ, ◌-◌, ◌≤◌, ◌<◌, ◌↔◌, IsTrue, length, slice_index_or, pos, ◌+ℤ◌, ◌≤ℤ◌, unsigned_abs, map};
+ghost use Rattle.auction_model.specs.Package.{is_within};
 ghost use Rattle.auction_model.specs.Place.{states_of, widths_of};
 ghost use Rattle.auction_model.specs.Steps.{raised};
 ghost use Rattle.limits.specs.declared.TheConstants.{MOST_STATES};
+ghost use Rattle.value_table.specs.Growing.{Grows, HasCorners};
 
 use crate::amount::Amount;
 use lots::{Package, Supply, used_categories};
@@ -69,11 +72,24 @@ fn raise_two<A: Amount>(
     }
 }
 
-/// Counts one more bid in the places of some categories.
+/// Whether the lowest entry of a block that a bid may raise, at the place `first` of its lots, is at least the worth with the highest
+/// entry of the block below that it may be raised from. Where neither line falls the bid then changes nothing in the block.
+fn is_reached<A: Amount>(first: usize, line: &[A], below: &[A], worth: A) -> bool
+    requires places { length below.now ≡ length line.now }
+    requires first { first < length line.now }
+    requires worth { unsigned_abs (A.number worth) ≤ A.most }
+    requires sizes { (s : ℕ) → unsigned_abs (slice_index_or (map A.number below.now) s (pos 0)) ≤ A.most }
+    ensures { IsTrue result ↔ (A.number worth +ℤ slice_index_or (map A.number below.now) (length line.now - 1 - first) (pos 0)) ≤ℤ slice_index_or (map A.number line.now) first (pos 0) }
+{
+    A::is_at_least(line[first], worth, below[line.len() - 1 - first])
+}
+
+/// Counts one more bid in the places of some categories. `first` is the place of its lots.
 fn raise_block<A: Amount>(
     supply: &[u16],
     widths: &[usize],
     counts: &[u16],
+    first: usize,
     line: &mut [A],
     below: &[A],
     worth: A,
@@ -81,6 +97,7 @@ fn raise_block<A: Amount>(
     requires widths { widths.now ≡ widths_of supply.now }
     requires some { 0 < length counts.now }
     requires categories { length counts.now ≤ length supply.now }
+    requires corners { HasCorners supply.now counts.now first (map A.number line.old) (map A.number below.now) }
     requires states { states_of supply.now ≤ MOST_STATES }
     requires places { length below.now ≡ states_of supply.now }
     requires line { length line.old ≡ states_of supply.now }
@@ -88,6 +105,9 @@ fn raise_block<A: Amount>(
     requires sizes { (s : ℕ) → unsigned_abs (slice_index_or (map A.number below.now) s (pos 0)) ≤ A.most }
     ensures { (s : ℕ) → s < length line.old → slice_index_or (map A.number line.new) s (pos 0) ≡ raised supply.now (map A.number below.now) counts.now (A.number worth) s (slice_index_or (map A.number line.old) s (pos 0)) }
 {
+    if is_reached(first, line, below, worth) {
+        return;
+    }
     if counts.len() == 1 {
         return raise_one(supply, widths, counts, line, below, worth);
     }
@@ -96,6 +116,7 @@ fn raise_block<A: Amount>(
     }
     let width = widths[0];
     let count = counts[0] as usize;
+    let rest = first - count * width;
     for block in count..supply[0] as usize + 1 {
         let to = block * width;
         let from = (block - count) * width;
@@ -103,6 +124,7 @@ fn raise_block<A: Amount>(
             &supply[1..],
             &widths[1..],
             &counts[1..],
+            rest,
             &mut line[to..to + width],
             &below[from..from + width],
             worth,
@@ -110,11 +132,14 @@ fn raise_block<A: Amount>(
     }
 }
 
-/// Counts one more bid in each entry of the line.
+/// Counts one more bid that fits in each entry of the line. Neither line falls where more is left.
 pub fn add_bid<A: Amount>(supply: &Supply, line: &mut [A], below: &[A], lots: &Package, worth: A)
     requires places { length below.now ≡ states_of supply.now }
     requires line { length line.old ≡ states_of supply.now }
     requires categories { length lots.now ≡ length supply.now }
+    requires fits { IsTrue (is_within lots.now supply.now) }
+    requires below_grows { Grows supply.now (map A.number below.now) }
+    requires line_grows { Grows supply.now (map A.number line.old) }
     requires worth { unsigned_abs (A.number worth) ≤ A.most }
     requires sizes { (s : ℕ) → unsigned_abs (slice_index_or (map A.number below.now) s (pos 0)) ≤ A.most }
     ensures { (s : ℕ) → s < length line.old → slice_index_or (map A.number line.new) s (pos 0) ≡ raised supply.now (map A.number below.now) lots.now (A.number worth) s (slice_index_or (map A.number line.old) s (pos 0)) }
@@ -123,10 +148,12 @@ pub fn add_bid<A: Amount>(supply: &Supply, line: &mut [A], below: &[A], lots: &P
     let radices = supply.counts();
     let counts = lots.counts();
     let used = used_categories(counts);
+    let first = supply.place(lots);
     raise_block(
         radices,
         supply.widths(),
         &counts[..used],
+        first,
         line,
         below,
         worth,

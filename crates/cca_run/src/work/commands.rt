@@ -1,20 +1,23 @@
 // The work of each command.
 ghost use Rattle.std.specs.Prelude.{ℕ, List, [], IsTrue};
-ghost use Rattle.cca_inputs.specs.Command.{win, price, check, weigh, weigh_check, auction, award, audit};
+ghost use Rattle.cca_inputs.specs.Command.{win, price, check, weigh, weigh_check, auction, award, audit, place, place_check, review};
 ghost use Rattle.cca_inputs.specs.Words.{KnowsFiles, command_value};
 ghost use Rattle.cca_run.specs.Gives.{WinGives};
 ghost use Rattle.cca_run.specs.Works.{IsWork, Works};
 
 use crate::work::auction::{logged_book, replayed};
 use crate::work::made::made;
+use crate::work::placing::{place_verdict, placed};
 use crate::work::pricing::{price_alike, price_weighed};
+use crate::work::reviewing::reviewed;
 use crate::work::verdict::{verdict_alike, verdict_weighed};
 use crate::work::win::win_of;
 use crate::work::{Stop, Work};
 use bid_book::BidBook;
 use cca_base::Files;
 use cca_inputs::{
-    AwardInput, BookInput, CertInput, Command, LogInput, PriceForm, WeightsInput, read_input,
+    AwardInput, BookInput, CertInput, Command, EditsInput, LogInput, PlaceCertInput, PriceForm,
+    SlotsInput, WeightsInput, read_input,
 };
 use log_file::packages_of_log;
 use std::alloc::Global;
@@ -148,6 +151,49 @@ fn audit_work<F: Files>(
     verdict_alike(alloc, &book, &cert)
 }
 
+fn place_work<F: Files>(
+    alloc: Global,
+    files: &mut F,
+    slots: &str,
+    rounds: bool,
+) -> Result<Work, Stop>
+    requires { IsTrue ((F.folder files.old).knows slots.now) }
+    ensures { (cert : List ℕ) → Works (place slots.now cert rounds) (F.folder files.old) (F.folder files.new) result }
+{
+    let slots = read_input(alloc, files, slots, &SlotsInput)?;
+    placed(alloc, &slots, rounds)
+}
+
+fn place_check_work<F: Files>(
+    alloc: Global,
+    files: &mut F,
+    slots: &str,
+    cert: &str,
+) -> Result<Work, Stop>
+    requires slots { IsTrue ((F.folder files.old).knows slots.now) }
+    requires cert { IsTrue ((F.folder files.old).knows cert.now) }
+    ensures { Works (place_check slots.now cert.now) (F.folder files.old) (F.folder files.new) result }
+{
+    let slots = read_input(alloc, files, slots, &SlotsInput)?;
+    let cert = read_input(alloc, files, cert, &PlaceCertInput { slots: &slots })?;
+    place_verdict(alloc, &slots, &cert)
+}
+
+fn review_work<F: Files>(
+    alloc: Global,
+    files: &mut F,
+    book: &str,
+    edits: &str,
+) -> Result<Work, Stop>
+    requires book { IsTrue ((F.folder files.old).knows book.now) }
+    requires edits { IsTrue ((F.folder files.old).knows edits.now) }
+    ensures { Works (review book.now edits.now) (F.folder files.old) (F.folder files.new) result }
+{
+    let book = read_input(alloc, files, book, &BookInput)?;
+    let edits = read_input(alloc, files, edits, &EditsInput { book: &book })?;
+    reviewed(alloc, book, edits.items())
+}
+
 /// What the command prints and appends, or the stop on the way to it.
 pub fn work_out<F: Files>(alloc: Global, files: &mut F, command: Command<'_>) -> Result<Work, Stop>
     requires { KnowsFiles (F.folder files.old) (command_value command) }
@@ -177,5 +223,8 @@ pub fn work_out<F: Files>(alloc: Global, files: &mut F, command: Command<'_>) ->
         } => award_work(alloc, files, award, log, form),
         Command::Audit { award, log, cert } => audit_work(alloc, files, award, log, cert),
         Command::Make { number, .. } => made(alloc, number),
+        Command::Place { slots, rounds, .. } => place_work(alloc, files, slots, rounds),
+        Command::PlaceCheck { slots, cert } => place_check_work(alloc, files, slots, cert),
+        Command::Review { book, edits } => review_work(alloc, files, book, edits),
     }
 }

@@ -17,8 +17,8 @@ use outcome::{outcome_json, outcome_text, rounds_text};
 use std::alloc::{AllocError, Global};
 use wide_num::Text;
 
-// The lines of the turns, where they are asked for.
-fn rounds_part(
+/// The lines of the turns, where they are asked for.
+pub fn rounds_part(
     alloc: Global,
     winners: &Choice,
     turns: &[Turn],

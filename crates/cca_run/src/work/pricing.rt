@@ -22,11 +22,11 @@ use limits::LimitKind;
 use std::alloc::{AllocError, Global};
 use wide_num::Text;
 
-/// The printed prices of a book, and the text of their certificate.
+/// The printed prices, and the text of their certificate.
 #[derive(Drop)]
-struct PriceTexts {
-    printed: Text,
-    cert: Text,
+pub struct PriceTexts {
+    pub printed: Text,
+    pub cert: Text,
 }
 
 /// A weight of 1 for each bidder.
@@ -53,8 +53,8 @@ fn price_texts(
     Ok(PriceTexts { printed, cert })
 }
 
-// The work whose one appended text is a certificate.
-fn with_cert(alloc: Global, texts: PriceTexts) -> Result<Work, Stop>
+/// The work whose one appended text is a certificate.
+pub fn with_cert(alloc: Global, texts: PriceTexts) -> Result<Work, Stop>
     ensures { IsWork (λ o. o ≡ done texts.printed (cert_file texts.cert ∷ [])) (FileKind.Cert ∷ []) result }
 {
     let mut appended = Vec::new(alloc);

@@ -10,6 +10,7 @@ use crate::Status;
 use crate::work::pricing::ones_of;
 use crate::work::{Stop, Work};
 use bid_book::BidBook;
+use cca_inputs::CertKind;
 use cert_check::{Verdict, check};
 use cert_text::Certificate;
 use outcome::outcome_text;
@@ -47,7 +48,11 @@ pub fn verdict_weighed(
                 appended: Vec::new(alloc),
             })
         }
-        Verdict::No { test, place } => Err(Stop::from(Status::No { test, place })),
+        Verdict::No { test, place } => Err(Stop::from(Status::No {
+            of: CertKind::Book,
+            test,
+            place,
+        })),
     }
 }
 

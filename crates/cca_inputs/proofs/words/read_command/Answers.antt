@@ -30,3 +30,12 @@ returns-in-make-clause-among c = IfSome_then c.make_command.result c.make_comman
 
 pub returns-in-win-clause-among : goal.returns-in-win-clause-among
 returns-in-win-clause-among c = IfSome_then c.win_command.result c.win_command.ensures.among (λ k among. among-behind string_bytes c.args.words.now (command_value k) among)
+
+pub returns-in-place-clause-among : goal.returns-in-place-clause-among
+returns-in-place-clause-among c = IfSome_then c.place_command.result c.place_command.ensures.among (λ k among. among-behind string_bytes c.args.words.now (command_value k) among)
+
+pub returns-in-text-2-clause-among : goal.returns-in-text-2-clause-among
+returns-in-text-2-clause-among c = IfSome_then c.place_check_command.result c.place_check_command.ensures.among (λ k among. among-behind string_bytes c.args.words.now (command_value k) among)
+
+pub returns-in-review-clause-among : goal.returns-in-review-clause-among
+returns-in-review-clause-among c = IfSome_then c.review_command.result c.review_command.ensures.among (λ k among. among-behind string_bytes c.args.words.now (command_value k) among)

@@ -1,8 +1,9 @@
-use Rattle.std.proofs.Common.{ℕ, ℤ, ◌<◌, ◌≤◌, length, ap, ◌≡◌, ◌∙◌, ◌+◌, ◌^◌, refl, arith, rules}
+use Rattle.std.proofs.Common.{ℕ, ℤ, ◌<◌, ◌≤◌, length, ap, ◌≡◌, ◌∙◌, ◌+◌, ◌-◌, ◌^◌, refl, arith, rules}
 use Rattle.std.proofs.lemmas.Int.{to_z-of_z, fits_signed_from_abs}
 use Rattle.auction_model.proofs.BidderLaws.{bidder-none, bidder-more, bidder-all}
 use Rattle.value_table.proofs.NarrowLaws.{line-narrow, worth-narrow}
 use Rattle.value_table.proofs.NumberParts.{plain-small, plain-raised}
+use Rattle.value_table.proofs.CornerLaws.{line-grows, part-grows, plain-grows}
 use Rattle.value_table.proofs.Needless.{line-needless}
 use Rattle.value_table.specs.Counted.{counted_bids, counted, IsNarrow}
 use Rattle.value_table.specs.declared.lowering.Lowering.{Lowering}
@@ -58,3 +59,15 @@ returns c =
 pub loop-i-preserved-then-is_needless : goal.loop-i-preserved-then-is_needless
 loop-i-preserved-then-is_needless c =
     line-needless c.args.lowering.now c.args.j c.loop-i.i c.loop-i.line c.requires.bidder.0 (c.is_needless.ensures c.if-is_needless.true) c.loop-i.invariant
+
+pub add_bid-requires-clause-below_grows : goal.add_bid-requires-clause-below_grows
+add_bid-requires-clause-below_grows c =
+    let l = c.args.lowering.now in
+    let supply = l.book.now.supply in
+    rw c.supply.ensures.supply (plain-grows supply c.args.below.now (line-grows (counted_bids l) (counted l) supply c.args.j c.args.below.now c.requires.below))
+
+pub add_bid-requires-clause-line_grows : goal.add_bid-requires-clause-line_grows
+add_bid-requires-clause-line_grows c =
+    let l = c.args.lowering.now in
+    let supply = l.book.now.supply in
+    rw c.supply.ensures.supply (plain-grows supply c.loop-i.line (part-grows (counted_bids l) (counted l) supply (c.args.j - 1) c.loop-i.i c.loop-i.line c.loop-i.invariant))

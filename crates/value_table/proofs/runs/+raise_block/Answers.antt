@@ -1,15 +1,28 @@
-use Rattle.std.proofs.Common.{◌≡◌, ◌∙◌, ◌<◌, ◌≤◌, ◌+◌, ◌-◌, ◌*◌, ℕ, sym, ap, refl, arith, rules, get_or, length, map, pos, List, drop, take}
+use Rattle.std.proofs.Common.{◌≡◌, ◌∙◌, ◌<◌, ◌≤◌, ◌+◌, ◌-◌, ◌*◌, ◌+ℤ◌, ◌≤ℤ◌, ℕ, sym, ap, subst, refl, arith, rules, get_or, length, map, pos, List, drop, take}
 use Rattle.std.proofs.Math.Nat.{mul-le-mul_right}
 use Rattle.std.proofs.lemmas.List.{take_rest, length-map}
 use Rattle.auction_model.specs.Place.{states_of, widths_of}
 use Rattle.auction_model.specs.Steps.{raised}
+use Rattle.auction_model.proofs.PlaceLaws.{place-below}
 use Rattle.auction_model.proofs.RunLaws.{width-first, widths-count, widths-rest, width-at_most, states-first, raised-before, block-done, block-rest}
+use Rattle.value_table.proofs.CornerLaws.{corner-none, corners-part}
 use Rattle.value_table.proofs.NumberParts.{read-put, read-number, small-numbers}
+use Rattle.value_table.specs.Growing.{HasCorners}
 use borrow.Rule.Slice.PartMut.{mid_len}
 use Rattle.value_table.proofs.runs.+raise_block.Goals as goal
 
 pub bounds-widths-0 : goal.bounds-widths-0
 bounds-widths-0 g t c = rw c.requires.widths (omega (arith, widths-count c.args.supply.now))
+
+pub is_reached-requires-clause-first : goal.is_reached-requires-clause-first
+is_reached-requires-clause-first g t c =
+    omega (arith, c.requires.corners.place, c.requires.line, place-below c.args.supply.now c.args.counts.now c.requires.corners.fits)
+
+pub returns-then-is_reached : goal.returns-then-is_reached
+returns-then-is_reached g t c =
+    let number = g.A.Amount.number in
+    let test = subst (λ n. (number c.args.worth +ℤ get_or (map number c.args.below.now) (n - 1 - c.args.first) (pos 0)) ≤ℤ get_or (map number c.args.line.now) c.args.first (pos 0)) c.requires.line (c.is_reached.ensures.0 c.if-is_reached.true) in
+    λ s h. corner-none c.args.supply.now c.args.counts.now c.args.first (map number c.args.line.now) (map number c.args.below.now) (number c.args.worth) c.requires.corners test s (omega (arith, h, c.requires.line))
 
 pub loop-block-init : goal.loop-block-init
 loop-block-init g t c =
@@ -22,6 +35,7 @@ loop-block-init g t c =
 
 pub raise_block-requires : goal.raise_block-requires
 raise_block-requires g t c =
+    let number = g.A.Amount.number in
     let supply = c.args.supply.now in
     let widths = c.args.widths.now in
     let below = c.args.below.now in
@@ -43,8 +57,15 @@ raise_block-requires g t c =
     let wide_line : q * S + S - q * S ≡ S = omega arith in
     let places : length (take (from + S - from) (drop from below)) ≡ states_of left = mid_len from (from + S) below (omega (arith, room, before, c.requires.places)) ∙ wide ∙ sym states in
     let line_places : length (take (q * S + S - q * S) (drop (q * S) line)) ≡ states_of left = mid_len (q * S) (q * S + S) line (omega (arith, room, c.requires.line)) ∙ wide_line ∙ sym states in
+    let counts = c.args.counts.now in
+    let corners : HasCorners left (take (length counts - 1) (drop 1 counts)) (c.args.first - get_or counts 0 0 * S) (map number (take (q * S + S - q * S) (drop (q * S) line))) (map number (take (from + S - from) (drop from below))) =
+    rw (left_is, take_rest counts 1)
+    (corners-part supply counts c.args.first q S (map number c.args.line.now) (map number below) _ _ c.requires.some c.requires.categories width c.loop-block.auto.block (omega (arith, c.loop-block-test.true))
+    (λ i h. read-number number line (q * S) (q * S + S - q * S) i (omega arith) ∙ c.loop-block.invariant.rest (q * S + i) (omega arith))
+    (λ i h. read-number number below from (from + S - from) i (omega arith))
+    c.requires.corners) in
     let small = small-numbers g.A.Amount.number below from (from + S - from) g.A.Amount.most c.requires.sizes in
-    λ lifetimes h. (search rules, (search rules, (widths_left, (search rules, (search rules, (few, (places, (line_places, (search rules, small)))))))))
+    λ lifetimes h. (search rules, (search rules, (widths_left, (search rules, (search rules, (corners, (few, (places, (line_places, (search rules, small))))))))))
 
 pub loop-block-preserved : goal.loop-block-preserved
 loop-block-preserved g t c =

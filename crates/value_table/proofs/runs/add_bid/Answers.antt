@@ -1,6 +1,8 @@
 use Rattle.std.proofs.Common.{◌≡◌, ◌∙◌, ap, get_or, map, take, pos}
+use Rattle.auction_model.specs.Package.{IsNothingFrom}
 use Rattle.auction_model.specs.Steps.{raised}
 use Rattle.auction_model.proofs.TrimLaws.{raised-trim}
+use Rattle.value_table.proofs.CornerLaws.{trim-corners}
 use Rattle.value_table.proofs.runs.add_bid.Goals as goal
 
 pub returns : goal.returns
@@ -16,3 +18,15 @@ returns g c =
     let supply : raised c.counts-radices.result.now below (take used counts) worth s old ≡ raised c.args.supply.now below (take used counts) worth s old = ap (λ l. raised l below (take used counts) worth s old) c.counts-radices.ensures.counts in
     let whole = raised-trim used c.args.supply.now counts below worth s old c.used_categories-used.ensures.rest in
     made ∙ supply ∙ whole ∙ ap (λ l. raised c.args.supply.now below l worth s old) c.counts-counts.ensures
+
+pub raise_block-requires-clause-corners : goal.raise_block-requires-clause-corners
+raise_block-requires-clause-corners g c =
+    let used = c.used_categories-used.result in
+    let rest : IsNothingFrom used c.args.lots.now = rw c.counts-counts.ensures at c.used_categories-used.ensures.rest in
+    rw (c.counts-radices.ensures.counts, c.counts-counts.ensures)
+    (trim-corners used c.args.supply.now c.args.lots.now c.place-first.result _ _ rest (record {
+      fits = c.requires.fits;
+      place = c.place-first.ensures.place;
+      line_grows = c.requires.line_grows;
+      below_grows = c.requires.below_grows;
+    }))

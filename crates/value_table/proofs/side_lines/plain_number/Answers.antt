@@ -2,7 +2,7 @@ use Rattle.std.proofs.Common.{◌-◌, false, refl, rules}
 use Rattle.std.proofs.lemmas.Int.{to_z-of_z}
 use Rattle.auction_model.specs.Book.{menu_of, net_of}
 use Rattle.auction_model.specs.Place.{left_at}
-use Rattle.value_table.proofs.LineLaws.{bids-all, entry-lowered, line-lowered, number-plain, zeros-range}
+use Rattle.value_table.proofs.LineLaws.{entry-lowered, line-lowered, number-plain, zeros-range}
 use mir.Val.{SFits}
 use mir.Syntax.{w128}
 use Rattle.value_table.proofs.side_lines.plain_number.Goals as goal

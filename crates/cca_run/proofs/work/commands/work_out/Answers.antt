@@ -23,3 +23,6 @@ returns-in-Make g c =
     let old = g.F.Files.folder c.args.files.now in
     let made = works command old old [] (CommandGives command) (begins command old) (Award ∷ Log ∷ []) (refl, (refl, tt)) c.made.result c.made.ensures in
     search rules
+
+pub returns-in-Place : goal.returns-in-Place
+returns-in-Place g c = let works = c.place_work.ensures c.in-Place.cert.now in search rules

@@ -1,0 +1,102 @@
+// The reader of a file of edits.
+ghost use Rattle.std.specs.Prelude.{Err, IfOk, List, None, Some, length, ℕ, ◌+◌, ◌≡◌, ◌≢◌};
+ghost use Rattle.std.specs.List.{AllByRecursion};
+ghost use Rattle.limits.specs.declared.LimitKind.TheVariants.{Records};
+ghost use Rattle.limits.specs.declared.TheConstants.{MOST_EDITS};
+ghost use Rattle.line_text.specs.LineText.{beyond, faulty, stated};
+ghost use Rattle.review.specs.Edits.{edit_lots};
+ghost use Rattle.edits_file.specs.EditsForm.{EditsSay, NamedEdit, edits_of};
+ghost use Rattle.edits_file.specs.Stages.{Step, excess};
+
+use crate::line::read_edit;
+use crate::stop::LineStop;
+use crate::{EditStop, Edits};
+use bid_book::BidBook;
+use limits::{LimitKind, MOST_EDITS};
+use line_text::line_len;
+use std::alloc::Global;
+
+/// What the lines so far say.
+#[derive(Drop)]
+pub enum Stage {
+    /// There is no line yet.
+    Start,
+    /// The first line, and those of some edits.
+    Listing(Edits),
+    /// All lines, the last one too.
+    Ended(Edits),
+}
+
+/// The edits that the bytes state for a book. The first faulty line, or the edit 1,001, stops it. The lines are `edits 1`, then
+/// `add` or `raise` with a name, a count for each category and an amount, or `drop` with a name and the counts, and last `end`. A
+/// name that the book doesn't have is bidder 0.
+pub fn read_edits(alloc: Global, bytes: &[u8], book: &BidBook) -> Result<Edits, EditStop>
+    ensures text { IfOk result (λ edits. (named : List NamedEdit) × EditsSay (length book.now.supply) bytes.now (stated named) × (edits ≡ edits_of book.now named)) }
+    ensures categories { IfOk result (λ edits. AllByRecursion (λ e. length (edit_lots e) ≡ length book.now.supply) edits) }
+    ensures form { (place : ℕ) → result ≡ Err (EditStop.Form place) → EditsSay (length book.now.supply) bytes.now (faulty place) }
+    ensures limit { (which : LimitKind) (count : ℕ) → result ≡ Err (EditStop.Limit which count) → EditsSay (length book.now.supply) bytes.now (beyond (which, count)) }
+{
+    let mut stage = Stage::Start;
+    let mut place = 0;
+    while let Some(len) = line_len(&bytes[place..]) {
+        match take_line(alloc, stage, book, &bytes[place..][..len]) {
+            Ok(next) => stage = next,
+            Err(stop) => return Err(stop.at(place as u64)),
+        }
+        place += len + 1;
+    }
+    if place < bytes.len() {
+        return Err(EditStop::Form(place as u64));
+    }
+    match stage {
+        Stage::Ended(edits) => Ok(edits),
+        _ => Err(EditStop::Form(place as u64)),
+    }
+}
+
+/// Takes the next line.
+fn take_line(alloc: Global, stage: Stage, book: &BidBook, line: &[u8]) -> Result<Stage, LineStop>
+    ensures ok { IfOk result (λ next. Step book.now stage line.now next × (excess next ≡ None)) }
+    ensures form { result ≡ Err LineStop.Form → (t : Stage) → Step book.now stage line.now t → ⊥ }
+    ensures full { result ≡ Err LineStop.Full → (t : Stage) × Step book.now stage line.now t × (excess t ≡ Some (Records, MOST_EDITS + 1)) }
+{
+    match stage {
+        Stage::Start => take_first(alloc, book, line),
+        Stage::Listing(edits) => take_listed(alloc, edits, book, line),
+        Stage::Ended(_) => Err(LineStop::Form),
+    }
+}
+
+/// Takes the first line.
+fn take_first(alloc: Global, book: &BidBook, line: &[u8]) -> Result<Stage, LineStop>
+    ensures ok { IfOk result (λ next. Step book.now Stage.Start line.now next × (excess next ≡ None)) }
+    ensures form { result ≡ Err LineStop.Form → (t : Stage) → Step book.now Stage.Start line.now t → ⊥ }
+    ensures not_full { result ≢ Err LineStop.Full }
+{
+    if line != b"edits 1".as_slice() {
+        return Err(LineStop::Form);
+    }
+    Ok(Stage::Listing(Edits::new(alloc)))
+}
+
+/// Takes the line of an edit, or the last line.
+fn take_listed(
+    alloc: Global,
+    mut edits: Edits,
+    book: &BidBook,
+    line: &[u8],
+) -> Result<Stage, LineStop>
+    ensures ok { IfOk result (λ next. Step book.now (Stage.Listing edits) line.now next × (excess next ≡ None)) }
+    ensures form { result ≡ Err LineStop.Form → (t : Stage) → Step book.now (Stage.Listing edits) line.now t → ⊥ }
+    ensures full { result ≡ Err LineStop.Full → (t : Stage) × Step book.now (Stage.Listing edits) line.now t × (excess t ≡ Some (Records, MOST_EDITS + 1)) }
+{
+    if line == b"end".as_slice() {
+        return Ok(Stage::Ended(edits));
+    }
+    let edit = read_edit(alloc, book, line)?;
+    if edits.items().len() as u64 >= MOST_EDITS {
+        return Err(LineStop::Full);
+    }
+    edits.push(edit)?;
+    Ok(Stage::Listing(edits))
+}

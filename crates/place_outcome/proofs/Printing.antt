@@ -1,0 +1,71 @@
+-- The lines of a placement, put together piece by piece, and the certificates of which they can be printed.
+use Rattle.std.proofs.Common.{◌≡◌, ◌∙◌, ℕ, zero, suc, ◌+◌, ◌-◌, ◌<◌, ◌≤◌, Bool, IsTrue, List, [], ◌∷◌, ◌++◌, length, drop, take, get_or, ℤ, pos, ◌≤ℤ◌, inl, inr, refl, sym, ap, subst, arith, append_assoc}
+use Rattle.std.specs.Prelude.{◌&&◌, ◌==◌}
+use Rattle.std.specs.List.{AllByRecursion}
+use Rattle.std.proofs.lemmas.Bool.{and_parts, cases_Bool, eqb-true, not_from_false}
+use Rattle.std.proofs.lemmas.Int.{ints}
+use Rattle.std.proofs.lemmas.List.{drop_more, take_all}
+use Rattle.auction_model.specs.Lowered.{of_bidder}
+use Rattle.auction_model.specs.Market.{number_of, uses}
+use Rattle.auction_model.specs.Prices.{Point, everyone, sum_over}
+use Rattle.place_cert.specs.CertValues.{place_cert_value}
+use Rattle.place_cert.specs.declared.certificate.PlaceCertificate.{PlaceCertificate}
+use Rattle.place_laws.specs.PlaceTests.{Holds}
+use Rattle.slot_places.specs.Board.{board_of, gives, is_known, joined, nobody}
+use Rattle.slot_places.specs.Orders.{allows, are_new, is_order}
+use Rattle.slot_places.specs.Slots.{SlotList, width_of}
+use Rattle.slot_places.proofs.OrderLaws.{new-parts}
+use Rattle.place_outcome.specs.PlaceText.{ArePricedLines, placed_line, placed_lines}
+use Rattle.place_outcome.specs.Printable.{CanPrint, IsBidder, IsLineOf, IsRestOf}
+
+-- entries of an order are bidders
+order-bidders : (n : ℕ) (s : ℕ → Bool) (order : List ℕ) → IsTrue (are_new n s order) → AllByRecursion (λ j. (0 < j) × (j ≤ n)) order
+order-bidders n s [] new = tt
+order-bidders n s (j ∷ order) new = let p = new-parts n s j order new in ((p.0, p.1), order-bidders n (joined j s) order p.3)
+
+-- a certificate for which all tests hold can be printed
+pub can-print : (slots : SlotList) (c : PlaceCertificate) → length c.choice ≡ length slots.bidders → Holds slots (place_cert_value c) → CanPrint slots c
+can-print slots c shape holds =
+    let n = length slots.bidders in
+    let allowed = (holds.p2 (n + 1)).allowed refl in
+    let p = and_parts (is_order n c.order) (is_known (board_of slots) c.choice && gives (board_of slots) c.choice nobody c.order) allowed in
+    let q = and_parts (length c.order == n) (are_new n nobody c.order) p.0 in
+    record {
+      shape = shape;
+      order = order-bidders n nobody c.order q.1;
+      count = eqb-true (length c.order) n q.0;
+      known = λ j some le. (holds.p2 j).known some le;
+      value = (holds.p2 (n + 2)).value refl;
+      den_positive = (holds.p1 1).den refl;
+      not_negative = λ j some le. elim (cases_Bool (uses c.choice j)) [
+        | inl wins ↦ ((holds.p5 j).winner some le wins).0
+        | inr loses ↦ subst (λ (z : ℤ). pos 0 ≤ℤ z) (sym ((holds.p5 j).loser some le (not_from_false (uses c.choice j) loses))) (omega (arith, ints))
+      ];
+    }
+
+-- a sum of numbers that aren't below 0 isn't
+pub sum-low : (f : ℕ → ℤ) (n : ℕ) → ((j : ℕ) → 0 < j → j ≤ n → pos 0 ≤ℤ f j) → pos 0 ≤ℤ sum_over everyone f n
+sum-low f zero each = omega (arith, ints)
+sum-low f (suc n) each = let rest = sum-low f n (λ j some le. each j some (omega arith)) in let own = each (suc n) (omega arith) (omega arith) in omega (arith, ints, rest, own)
+
+-- the rest of a slice
+pub rest-is : {A : Type 0} (x : A) (xs : List A) → take (length (x ∷ xs) - 1) (drop 1 (x ∷ xs)) ≡ xs
+rest-is x xs = take_all (length (x ∷ xs) - 1) xs (omega arith)
+
+-- the line of the first bidder in an order, and those of the others behind it
+pub placed-on : (slots : SlotList) (start j : ℕ) (order text : List ℕ)
+    → (text ++ placed_line slots start j) ++ placed_lines slots (start + width_of slots j) order ≡ text ++ placed_lines slots start (j ∷ order)
+placed-on slots start j order text = append_assoc text (placed_line slots start j) (placed_lines slots (start + width_of slots j) order)
+
+-- the line of the next bidder, and those of the others behind it
+lines-on : (slots : SlotList) (v : ℕ → ℤ) (p : Point) (k n : ℕ) (rest line lines : List ℕ) → IsLineOf slots v p (suc k) n line → ArePricedLines slots v p (suc k) rest lines → ArePricedLines slots v p k (n ∷ rest) (line ++ lines)
+lines-on slots v p k zero rest line lines is are = subst (λ (l : List ℕ). ArePricedLines slots v p (suc k) rest (l ++ lines)) (sym is) are
+lines-on slots v p k (suc i) rest line lines is are = (is.0, lines, is.1, are, ap (λ (l : List ℕ). l ++ lines) is.2)
+
+-- the numbers behind the first of those that are left
+rest-on : (c : List ℕ) (before n : ℕ) (rest : List ℕ) → IsRestOf c before (n ∷ rest) → (number_of c (before + 1) ≡ n) × IsRestOf c (before + 1) rest
+rest-on c before n rest is =
+    let inside : before < length c = (let e = is.count in omega (arith, e)) in
+    let split = drop_more c before 0 inside in
+    let same : n ∷ rest ≡ get_or c before 0 ∷ drop (before + 1) c = is.numbers_are ∙ split in
+    ((let first : n ≡ get_or c before 0 = cc in sym first), record { numbers_are = cc; count = (let e = is.count in omega (arith, e)) })

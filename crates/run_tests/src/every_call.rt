@@ -1,0 +1,254 @@
+// Each load, append and put of a clean run fails in turn.
+use crate::auction::{LOWERED, SAMPLE};
+use crate::cert::DAY_CRAMTON_CERT;
+use crate::price::{CHECK, PRICE};
+use crate::settings::{DAY_CRAMTON, fill, joined, left_at, no_files, words_of};
+use cca_base::MemSink;
+use cca_run::{FileKind, Status, run};
+use std::alloc::{AllocError, Global};
+use std::process::Abort;
+use std::test::Fail;
+
+// What the files that the words at the places 1, 2 and 3 name hold.
+#[derive(Clone, Copy)]
+struct Held<'a> {
+    first: Option<&'a [u8]>,
+    second: Option<&'a [u8]>,
+    third: Option<&'a [u8]>,
+}
+
+// The numbers of the load, the append and the put that fail; 0 for none.
+#[derive(Clone, Copy)]
+struct Failing {
+    load: u64,
+    append: u64,
+    put: u64,
+}
+
+const CLEAN: Failing = Failing {
+    load: 0,
+    append: 0,
+    put: 0,
+};
+
+// What a run answers, prints and leaves in these files, and how many calls it makes.
+#[derive(Drop)]
+struct Ended {
+    status: Status,
+    printed: Vec<u8>,
+    first: Option<Vec<u8>>,
+    second: Option<Vec<u8>>,
+    third: Option<Vec<u8>>,
+    loads: u64,
+    appends: u64,
+    puts: u64,
+}
+
+// A run in which at most 100 bytes of a file and 5 of the output go in one call.
+fn run_failing(alloc: Global, words: &[&str], held: Held<'_>, failing: Failing) -> Result<Ended, AllocError> {
+    let words = words_of(alloc, words)?;
+    let mut files = no_files(alloc, &words)?;
+    fill(&mut files, &words, 1, held.first)?;
+    fill(&mut files, &words, 2, held.second)?;
+    fill(&mut files, &words, 3, held.third)?;
+    files.fail_loads.push(failing.load)?;
+    files.fail_appends.push(failing.append)?;
+    let mut out = MemSink::new(alloc, 5);
+    out.fail_puts.push(failing.put)?;
+    let status = run(alloc, &words, &mut files, &mut out);
+    Ok(Ended {
+        status,
+        printed: out.bytes,
+        first: left_at(alloc, &files, 1)?,
+        second: left_at(alloc, &files, 2)?,
+        third: left_at(alloc, &files, 3)?,
+        loads: files.loads,
+        appends: files.appends,
+        puts: out.puts,
+    })
+}
+
+fn holds(left: &Option<Vec<u8>>, bytes: Option<&[u8]>) -> bool {
+    left.as_deref() == bytes
+}
+
+// The loads of these numbers are of a file of this kind: where one of them fails, its line alone is printed and no file has changed.
+fn loads_fail(
+    rt: &impl Abort,
+    alloc: Global,
+    words: &[&str],
+    held: Held<'_>,
+    kind: FileKind,
+    line: &str,
+    from: u64,
+    to: u64,
+) -> Result<(), Fail> {
+    for load in from..to {
+        let ended = run_failing(alloc, words, held, Failing { load, ..CLEAN })?;
+        assert_eq!(rt; ended.status, Status::ReadFault { file: kind });
+        assert_eq!(rt; ended.printed.as_slice(), line.as_bytes());
+        assert!(rt; holds(&ended.first, held.first));
+        assert!(rt; holds(&ended.second, held.second));
+        assert!(rt; holds(&ended.third, held.third));
+    }
+    Ok(())
+}
+
+// Where the put of any number fails, what went out before is a front of the clean text, 5 bytes for each put, and the files are as after
+// the clean run.
+fn puts_fail(rt: &impl Abort, alloc: Global, words: &[&str], held: Held<'_>, puts: u64) -> Result<(), Fail> {
+    let clean = run_failing(alloc, words, held, CLEAN)?;
+    assert_eq!(rt; clean.puts, puts);
+    let mut done = 0;
+    for put in 1..puts + 1 {
+        let ended = run_failing(alloc, words, held, Failing { put, ..CLEAN })?;
+        let front = clean.printed.get(..done).expect(rt, "a front");
+        let out = FileKind::Out;
+        assert_eq!(rt; ended.status, Status::WriteFault { file: out });
+        assert_eq!(rt; ended.printed.as_slice(), front);
+        assert!(rt; holds(&ended.second, clean.second.as_deref()));
+        assert!(rt; holds(&ended.third, clean.third.as_deref()));
+        done += 5;
+    }
+    Ok(())
+}
+
+// Where the append of any number fails, the line of the fault alone is printed, and the last file holds a front of the clean text, 100 bytes
+// for each append before.
+fn appends_fail(
+    rt: &impl Abort,
+    alloc: Global,
+    words: &[&str],
+    held: Held<'_>,
+    kind: FileKind,
+    line: &str,
+    text: &[u8],
+) -> Result<(), Fail> {
+    let clean = run_failing(alloc, words, held, CLEAN)?;
+    let mut done = 0;
+    for append in 1..clean.appends + 1 {
+        let ended = run_failing(alloc, words, held, Failing { append, ..CLEAN })?;
+        let left = if words.len() > 3 { &ended.third } else { &ended.second };
+        let front = text.get(..done).expect(rt, "a front");
+        assert_eq!(rt; ended.status, Status::WriteFault { file: kind });
+        assert_eq!(rt; ended.printed.as_slice(), line.as_bytes());
+        assert_eq!(rt; left.as_deref().unwrap_or(b""), front);
+        done += 100;
+    }
+    assert!(rt; text.get(..done).is_none());
+    Ok(())
+}
+
+const WIN: &[&str] = &["win", "BOOK"];
+
+const AUCTION: &[&str] = &["auction", "AWARD", "LOG", "BOOK"];
+
+const AWARD: &[&str] = &["award", "AWARD", "LOG", "CERT"];
+
+const AUDIT: &[&str] = &["audit", "AWARD", "LOG", "CERT"];
+
+const LOWERED_BOOK: &str =
+    "book 1\nsupply 3\nreserve 10\nbidder east\nbid 1 20\nbid 3 44\nbidder west\nbid 2 24\nend\n";
+
+const BOOK_FAULT: &str = "cca: read fault book\n";
+
+const CERT_FAULT: &str = "cca: read fault cert\n";
+
+const AWARD_FAULT: &str = "cca: read fault award\n";
+
+const LOG_FAULT: &str = "cca: read fault log\n";
+
+// How many loads a clean run makes.
+fn makes_loads(rt: &impl Abort, alloc: Global, words: &[&str], held: Held<'_>, loads: u64) -> Result<(), Fail> {
+    let clean = run_failing(alloc, words, held, CLEAN)?;
+    assert_eq!(rt; clean.status, Status::Done);
+    assert_eq!(rt; clean.loads, loads);
+    Ok(())
+}
+
+#[test]
+fn win_stands_each_fault(rt: HostRuntime) -> Result<(), Fail> {
+    let alloc = rt.alloc();
+    let held = Held {
+        first: Some(DAY_CRAMTON.as_bytes()),
+        second: None,
+        third: None,
+    };
+    makes_loads(&rt, alloc, WIN, held, 3)?;
+    loads_fail(&rt, alloc, WIN, held, FileKind::Book, BOOK_FAULT, 1, 4)?;
+    puts_fail(&rt, alloc, WIN, held, 9)
+}
+
+#[test]
+fn price_stands_each_fault(rt: HostRuntime) -> Result<(), Fail> {
+    let alloc = rt.alloc();
+    let held = Held {
+        first: Some(DAY_CRAMTON.as_bytes()),
+        second: None,
+        third: None,
+    };
+    let cert = joined(alloc, DAY_CRAMTON_CERT)?;
+    makes_loads(&rt, alloc, PRICE, held, 3)?;
+    loads_fail(&rt, alloc, PRICE, held, FileKind::Book, BOOK_FAULT, 1, 4)?;
+    appends_fail(&rt, alloc, PRICE, held, FileKind::Cert, "cca: write fault cert\n", &cert)?;
+    puts_fail(&rt, alloc, PRICE, held, 20)
+}
+
+#[test]
+fn check_stands_each_fault(rt: HostRuntime) -> Result<(), Fail> {
+    let alloc = rt.alloc();
+    let cert = joined(alloc, DAY_CRAMTON_CERT)?;
+    let held = Held {
+        first: Some(DAY_CRAMTON.as_bytes()),
+        second: Some(&cert),
+        third: None,
+    };
+    makes_loads(&rt, alloc, CHECK, held, 9)?;
+    loads_fail(&rt, alloc, CHECK, held, FileKind::Book, BOOK_FAULT, 1, 4)?;
+    loads_fail(&rt, alloc, CHECK, held, FileKind::Cert, CERT_FAULT, 4, 10)?;
+    puts_fail(&rt, alloc, CHECK, held, 21)
+}
+
+#[test]
+fn auction_stands_each_fault(rt: HostRuntime) -> Result<(), Fail> {
+    let alloc = rt.alloc();
+    let award = joined(alloc, SAMPLE)?;
+    let log = joined(alloc, LOWERED)?;
+    let held = Held {
+        first: Some(&award),
+        second: Some(&log),
+        third: None,
+    };
+    makes_loads(&rt, alloc, AUCTION, held, 7)?;
+    loads_fail(&rt, alloc, AUCTION, held, FileKind::Award, AWARD_FAULT, 1, 5)?;
+    loads_fail(&rt, alloc, AUCTION, held, FileKind::Log, LOG_FAULT, 5, 8)?;
+    appends_fail(&rt, alloc, AUCTION, held, FileKind::Book, "cca: write fault book\n", LOWERED_BOOK.as_bytes())?;
+    puts_fail(&rt, alloc, AUCTION, held, 19)
+}
+
+#[test]
+fn award_and_audit_stand_each_fault(rt: HostRuntime) -> Result<(), Fail> {
+    let alloc = rt.alloc();
+    let award = joined(alloc, SAMPLE)?;
+    let log = joined(alloc, LOWERED)?;
+    let held = Held {
+        first: Some(&award),
+        second: Some(&log),
+        third: None,
+    };
+    let clean = run_failing(alloc, AWARD, held, CLEAN)?;
+    let cert = clean.third.as_deref().unwrap_or(b"");
+    loads_fail(&rt, alloc, AWARD, held, FileKind::Award, AWARD_FAULT, 1, 5)?;
+    loads_fail(&rt, alloc, AWARD, held, FileKind::Log, LOG_FAULT, 5, 8)?;
+    appends_fail(&rt, alloc, AWARD, held, FileKind::Cert, "cca: write fault cert\n", cert)?;
+    puts_fail(&rt, alloc, AWARD, held, 20)?;
+    let tested = Held {
+        third: Some(cert),
+        ..held
+    };
+    loads_fail(&rt, alloc, AUDIT, tested, FileKind::Award, AWARD_FAULT, 1, 5)?;
+    loads_fail(&rt, alloc, AUDIT, tested, FileKind::Log, LOG_FAULT, 5, 8)?;
+    makes_loads(&rt, alloc, AUDIT, tested, 11)?;
+    loads_fail(&rt, alloc, AUDIT, tested, FileKind::Cert, CERT_FAULT, 8, 12)?;
+    puts_fail(&rt, alloc, AUDIT, tested, 21)
+}

@@ -1,0 +1,163 @@
+-- Lines that never fall, and the blocks of them that a bid leaves as they are.
+use Rattle.std.specs.Prelude.{◌≡◌, ℕ, zero, suc, ◌+◌, ◌-◌, ◌*◌, ◌≤◌, ◌<◌, nat_le, IsTrue, List, [], ◌∷◌, length, get_or, map, take, drop, ℤ, pos, ◌+ℤ◌, ◌≤ℤ◌, refl}
+use Rattle.std.specs.Int.{int_max}
+use Rattle.std.proofs.Common.{inl, inr, sym, ◌∙◌, ap, subst, arith}
+use Rattle.std.proofs.lemmas.Bool.{false≢true, cases_Bool, cond-true, cond-false, and_parts, and_from, leb-true, le-leb}
+use Rattle.std.proofs.lemmas.Int.{ints}
+use Rattle.std.proofs.lemmas.List.{map-id}
+use Rattle.std.proofs.lemmas.Nat.{div-mul-add, mod-mul-add, mul-add-lt}
+use Rattle.auction_model.specs.Menu.{Menu}
+use Rattle.auction_model.specs.Package.{is_within, less, IsNothingFrom}
+use Rattle.auction_model.specs.Place.{states_of, place_of, left_at}
+use Rattle.auction_model.specs.Steps.{raised}
+use Rattle.auction_model.specs.Table.{IsLine}
+use Rattle.auction_model.proofs.DominatedLaws.{less-within, fits-more}
+use Rattle.auction_model.proofs.LineLaws.{IsLineUpTo, int_max-left}
+use Rattle.auction_model.proofs.PackageLaws.{less-empty}
+use Rattle.auction_model.proofs.PlaceLaws.{states-positive, length-left_at, left_at-within, left_at-whole, left_at-less, place_of-left_at, place-less, place-less-below, place-below, within-within}
+use Rattle.auction_model.proofs.TableLaws.{fits_up_to, parts, from_parts}
+use Rattle.auction_model.proofs.TrimLaws.{trim-within}
+use Rattle.value_table.specs.Growing.{Grows, HasCorners}
+
+-- of more lots more is left
+less-more : (l m p : List ℕ) → length l ≡ length m → IsTrue (is_within l m) → IsTrue (is_within (less l p) (less m p))
+less-more [] m p same h = refl
+less-more (b ∷ l) [] p same h = absurd (omega (arith, same))
+less-more (b ∷ l) (c ∷ m) [] same h = h
+less-more (b ∷ l) (c ∷ m) (a ∷ p) same h =
+    let t = and_parts (nat_le b c) (is_within l m) h in
+    and_from (nat_le (b - a) (c - a)) (is_within (less l p) (less m p)) (le-leb (b - a) (c - a) (omega (arith, leb-true b c t.0))) (less-more l m p (omega (arith, same)) t.1)
+
+-- what a package leaves is within what there was
+less-inside : (l p : List ℕ) → IsTrue (is_within (less l p) l)
+less-inside l p = rw (less-empty l) at (less-within l p [] refl)
+
+module _ (supply p : List ℕ) (s : ℕ) (low : s < states_of supply) where
+  -- the place of a package that fits at s has no more than s
+  low-within : IsTrue (is_within p (left_at supply s)) → IsTrue (is_within (left_at supply (place_of supply p)) (left_at supply s))
+  low-within fits =
+      let l = left_at supply s in
+      let t = place_of supply (less l p) in
+      let t_low : t < states_of supply = place-less-below supply p s low in
+      let t_is : left_at supply t ≡ less l p = left_at-less supply p s low in
+      let inside : IsTrue (is_within (left_at supply t) l) = subst (λ (k : List ℕ). IsTrue (is_within k l)) (sym t_is) (less-inside l p) in
+      let back : place_of supply (less l (left_at supply t)) + place_of supply (left_at supply t) ≡ s = place-less supply (left_at supply t) s low inside in
+      let same : place_of supply (less l (left_at supply t)) ≡ place_of supply p = omega (arith, place-less supply p s low fits, back, place_of-left_at supply t t_low) in
+      subst (λ (k : ℕ). IsTrue (is_within (left_at supply k) l)) same
+      (subst (λ (k : List ℕ). IsTrue (is_within k l)) (sym (left_at-less supply (left_at supply t) s low)) (less-inside l (left_at supply t)))
+
+  -- the highest place that a package leaves has no less than is left at s
+  high-within : IsTrue (is_within p supply) → IsTrue (is_within (left_at supply (place_of supply (less (left_at supply s) p))) (left_at supply (states_of supply - 1 - place_of supply p)))
+  high-within fits =
+      let H = states_of supply - 1 in
+      let top : H < states_of supply = omega (arith, states-positive supply) in
+      let whole : left_at supply H ≡ supply = left_at-whole supply in
+      let at_top : IsTrue (is_within p (left_at supply H)) = subst (λ (k : List ℕ). IsTrue (is_within p k)) (sym whole) fits in
+      let place : place_of supply (less (left_at supply H) p) ≡ H - place_of supply p = omega (arith, place-less supply p H top at_top) in
+      let left : left_at supply (H - place_of supply p) ≡ less supply p = ap (left_at supply) (sym place) ∙ left_at-less supply p H top ∙ ap (λ (k : List ℕ). less k p) whole in
+      let more : IsTrue (is_within (less (left_at supply s) p) (less supply p)) = less-more (left_at supply s) supply p (length-left_at supply s) (left_at-within supply s low) in
+      subst (λ (k : List ℕ). IsTrue (is_within k (left_at supply (H - place_of supply p)))) (sym (left_at-less supply p s low))
+      (subst (λ (k : List ℕ). IsTrue (is_within (less (left_at supply s) p) k)) (sym left) more)
+
+-- a bid changes nothing in a block where its corners show it
+pub corner-none : (supply p : List ℕ) (first : ℕ) (line below : List ℤ) (worth : ℤ) → HasCorners supply p first line below
+    → (worth +ℤ get_or below (states_of supply - 1 - first) (pos 0)) ≤ℤ get_or line first (pos 0)
+    → (s : ℕ) → s < states_of supply → get_or line s (pos 0) ≡ raised supply below p worth s (get_or line s (pos 0))
+corner-none supply p first line below worth c test s low =
+    let old = get_or line s (pos 0) in
+    let from = place_of supply (less (left_at supply s) p) in
+    let rest = get_or below from (pos 0) in
+    let last = states_of supply - 1 - first in
+    let first_low : first < states_of supply = omega (arith, c.place, place-below supply p c.fits) in
+    let last_low : last < states_of supply = omega (arith, states-positive supply) in
+    elim (cases_Bool (is_within p (left_at supply s))) [
+      | inl here ↦
+          let lowest : IsTrue (is_within (left_at supply first) (left_at supply s)) = rw c.place (low-within supply p s low here) in
+          let highest : IsTrue (is_within (left_at supply from) (left_at supply last)) = rw c.place (high-within supply p s low c.fits) in
+          let own : get_or line first (pos 0) ≤ℤ old = c.line_grows first s first_low low lowest in
+          let most : rest ≤ℤ get_or below last (pos 0) = c.below_grows from last (place-less-below supply p s low) last_low highest in
+          let enough : (worth +ℤ rest) ≤ℤ old = omega (arith, ints, own, most, test) in
+          sym (cond-true (is_within p (left_at supply s)) (int_max old (worth +ℤ rest)) old here ∙ int_max-left old (worth +ℤ rest) enough)
+      | inr misses ↦ sym (cond-false (is_within p (left_at supply s)) (int_max old (worth +ℤ rest)) old misses)
+    ]
+
+-- a block of a line that never falls never falls
+grows-part : (supply : List ℕ) (line part : List ℤ) (q : ℕ) → 0 < length supply → q ≤ get_or supply 0 0
+    → ((i : ℕ) → i < states_of (drop 1 supply) → get_or part i (pos 0) ≡ get_or line (q * states_of (drop 1 supply) + i) (pos 0))
+    → Grows supply line → Grows (drop 1 supply) part
+grows-part [] line part q some high reads grows = absurd (omega (arith, some))
+grows-part (b ∷ supply) line part q some high reads grows = λ s t s_low t_low within.
+    let W = states_of supply in
+    let s_in : q * W + s < suc b * W = omega (arith, mul-add-lt q W s (suc b) (omega (arith, high)) s_low) in
+    let t_in : q * W + t < suc b * W = omega (arith, mul-add-lt q W t (suc b) (omega (arith, high)) t_low) in
+    let same : IsTrue (is_within (left_at (b ∷ supply) (q * W + s)) (left_at (b ∷ supply) (q * W + t))) =
+    rw (div-mul-add q W s s_low, mod-mul-add q W s s_low, div-mul-add q W t t_low, mod-mul-add q W t t_low)
+    (and_from (nat_le q q) (is_within (left_at supply s) (left_at supply t)) (le-leb q q (omega arith)) within) in
+    rw (reads s s_low, reads t t_low) (grows (q * W + s) (q * W + t) s_in t_in same)
+
+-- the corners of a block, by those of the whole
+pub corners-part : (supply p : List ℕ) (first q S : ℕ) (line below part rest : List ℤ) → 0 < length p → length p ≤ length supply → S ≡ states_of (drop 1 supply) → get_or p 0 0 ≤ q → q ≤ get_or supply 0 0
+    → ((i : ℕ) → i < S → get_or part i (pos 0) ≡ get_or line (q * S + i) (pos 0))
+    → ((i : ℕ) → i < S → get_or rest i (pos 0) ≡ get_or below ((q - get_or p 0 0) * S + i) (pos 0))
+    → HasCorners supply p first line below → HasCorners (drop 1 supply) (drop 1 p) (first - get_or p 0 0 * S) part rest
+corners-part supply [] first q S line below part rest some few width low high own other c = absurd (omega (arith, some))
+corners-part [] (a ∷ p) first q S line below part rest some few width low high own other c = absurd (omega (arith, few))
+corners-part (b ∷ supply) (a ∷ p) first q S line below part rest some few width low high own other c = record {
+  fits = (and_parts (nat_le a b) (is_within p supply) c.fits).1;
+  place = rw (c.place, width) (omega arith);
+  line_grows = grows-part (b ∷ supply) line part q (omega arith) high (rw width at own) c.line_grows;
+  below_grows = grows-part (b ∷ supply) below rest (q - a) (omega arith) (omega (arith, high)) (rw width at other) c.below_grows;
+}
+
+module _ (m : Menu) (counts : ℕ → ℕ → ℤ) (supply : List ℕ) (k : ℕ) where
+  -- an exact line never falls
+  pub line-grows : (line : List ℤ) → IsLine m counts supply k line → Grows supply line
+  line-grows line e s t s_low t_low within =
+      let own = (e.exact s s_low).reached in
+      let most = (e.exact t t_low).bound own.0 (fits-more m k (left_at supply s) (left_at supply t) own.0 within own.1) in
+      subst (λ (z : ℤ). z ≤ℤ get_or line t (pos 0)) own.2 most
+
+  more : (i : ℕ) (left larger c : List ℕ) → length left ≡ length larger → IsTrue (is_within left larger) → IsTrue (fits_up_to m k left i c) → IsTrue (fits_up_to m k larger i c)
+  more i left larger [] same within h = absurd (false≢true h)
+  more i left larger (g ∷ c) same within h =
+      let p = parts m k left i g c h in
+      let lots = m.lots (suc k) g in
+      from_parts m k larger i g c (record {
+        low = p.low;
+        own = within-within lots left larger p.own within;
+        rest = fits-more m (suc k) (less left lots) (less larger lots) c (less-more left larger lots same within) p.rest;
+      })
+
+  -- a line that counts the first bids of a bidder never falls
+  pub part-grows : (i : ℕ) (line : List ℤ) → IsLineUpTo m counts supply k i line → Grows supply line
+  part-grows i line e s t s_low t_low within =
+      let own = (e.exact s s_low).reached in
+      let same : length (left_at supply s) ≡ length (left_at supply t) = length-left_at supply s ∙ sym (length-left_at supply t) in
+      let most = (e.exact t t_low).bound own.0 (more i (left_at supply s) (left_at supply t) own.0 same within own.1) in
+      subst (λ (z : ℤ). z ≤ℤ get_or line t (pos 0)) own.2 most
+
+-- the same where each number is the whole number itself
+pub plain-grows : (supply : List ℕ) (line : List ℤ) → Grows supply line → Grows supply (map (λ z. z) line)
+plain-grows supply line grows = subst (Grows supply) (sym (map-id line)) grows
+
+-- a package of nothing has the first place
+nothing-place : (supply p : List ℕ) → IsNothingFrom 0 p → place_of supply p ≡ 0
+nothing-place [] p h = refl
+nothing-place (b ∷ supply) [] h = refl
+nothing-place (b ∷ supply) (a ∷ p) h = rw (h 0 (omega arith), nothing-place supply p (λ k low. h (suc k) (omega arith))) (omega arith)
+
+-- a package without its empty end has the same place
+trim-place : (n : ℕ) (supply p : List ℕ) → IsNothingFrom n p → place_of supply (take n p) ≡ place_of supply p
+trim-place n [] p h = refl
+trim-place zero (b ∷ supply) p h = sym (nothing-place (b ∷ supply) p h)
+trim-place (suc n) (b ∷ supply) [] h = refl
+trim-place (suc n) (b ∷ supply) (a ∷ p) h = ap (λ m. a * states_of supply + m) (trim-place n supply p (λ k low. h (suc k) (omega arith)))
+
+-- so a bid without its empty end has the same corners
+pub trim-corners : (n : ℕ) (supply p : List ℕ) (first : ℕ) (line below : List ℤ) → IsNothingFrom n p → HasCorners supply p first line below → HasCorners supply (take n p) first line below
+trim-corners n supply p first line below h c = record {
+  fits = trim-within n p supply h ∙ c.fits;
+  place = c.place ∙ sym (trim-place n supply p h);
+  line_grows = c.line_grows;
+  below_grows = c.below_grows;
+}
