@@ -11,10 +11,6 @@ use Rattle.cert_laws.proofs.TextSizes.{part-later}
 use Rattle.choices.specs.declared.chooser.Single.{Single}
 use Rattle.stream_check.specs.WholeRoom.{single_at}
 
--- a part that stands first is found by its winner
-part-here : (w : WithoutValue) (ws : List WithoutValue) (j : ℕ) → w.winner ≡ j → part_of (w ∷ ws) j ≡ w
-part-here w ws j own = ap (λ b. cond b w (part_of ws j)) (eq-eqb w.winner j own)
-
 module _ (book : Book) (c : CertValue) where
   -- the winners behind the first k bidders, whose numbers these are
   abbrev pub singles_behind : ℕ → List ℕ → List Single
@@ -30,7 +26,7 @@ module _ (book : Book) (c : CertValue) where
   singles-are b s k (suc n ∷ ns) [] are same = absurd are
   singles-are b s k (suc n ∷ ns) (w ∷ ws) are same =
       let own : w.winner ≡ suc k = are.0.winner in
-      let part : part_of c.withouts (suc k) ≡ w = sym (same (suc k) (omega arith)) ∙ part-here w ws (suc k) own in
+      let part : part_of c.withouts (suc k) ≡ w = sym (same (suc k) (omega arith)) ∙ ap (λ b. cond b w (part_of ws (suc k))) (eq-eqb w.winner (suc k) own) in
       let alone : single_at book c (suc k) ≡ single_of book c w = one (suc k) w own part in
       let rest = singles-are b s (suc k) ns ws are.1 (λ j lt. sym (part-later w ws j (λ e. omega (arith, own, e, lt))) ∙ same j (omega (arith, lt))) in
       ap (λ (x : Single). x ∷ singles_behind (suc k) ns) alone ∙ ap (λ (l : List Single). single_of book c w ∷ l) rest
