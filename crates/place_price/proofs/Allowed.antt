@@ -1,5 +1,5 @@
 -- What slots keep as a market: its laws, sizes, and the shape of its choices and placements.
-use Rattle.std.specs.Prelude.{◌≡◌, ℕ, zero, suc, ◌-◌, ◌*◌, ◌^◌, ◌<◌, ◌≤◌, Bool, IsTrue, List, [], ◌∷◌, length, slice_index_or, ℤ, pos, ◌+ℤ◌, ◌-ℤ◌, ◌≤ℤ◌, unsigned_abs, refl}
+use Rattle.std.specs.Prelude.{◌≡◌, ℕ, zero, suc, ◌-◌, ◌*◌, ◌^◌, ◌<◌, ◌≤◌, Bool, IsTrue, List, [], ◌∷◌, length, ℤ, pos, ◌+ℤ◌, ◌-ℤ◌, ◌≤ℤ◌, unsigned_abs, refl}
 use Rattle.std.proofs.Common.{inl, inr, sym, ◌∙◌, ap, subst, arith}
 use Rattle.std.proofs.lemmas.Bool.{and_parts, cases_lt, false≢true}
 use Rattle.std.proofs.lemmas.Int.{ints}
@@ -14,7 +14,7 @@ use Rattle.row_laws.specs.Winners.{winners_in}
 use Rattle.slot_places.specs.Board.{joined, menu_of, nobody, is_known, can_place, board_of, market_of}
 use Rattle.slot_places.specs.Kept.{AreSlots}
 use Rattle.slot_places.specs.Orders.{IsPlacement, are_new}
-use Rattle.slot_places.specs.Slots.{SlotBidder, SlotList, amount_of, bid_of, bidder_of, bids_of, no_bidder}
+use Rattle.slot_places.specs.Slots.{SlotBidder, SlotList, amount_of, bidder_of, bids_of, no_bidder}
 use Rattle.slot_places.proofs.FirstOrders.{allowed-says}
 use Rattle.slot_places.proofs.MarketLaws.{market-of_slots}
 use Rattle.slot_places.proofs.OrderLaws.{new-parts}

@@ -1,18 +1,17 @@
 -- What pricing slots by their chooser finds is what it finds of the slots, and why it doesn't stop for too many winners.
-use Rattle.std.specs.Prelude.{◌≡◌, ℕ, ◌<◌, ◌≤◌, List, [], length, replicate, ℤ, refl}
+use Rattle.std.specs.Prelude.{◌≡◌, ℕ, List, ℤ, refl}
 use Rattle.std.specs.List.{AllByRecursion}
-use Rattle.std.proofs.Common.{sym, subst}
 use Rattle.auction_model.specs.Greatest.{IsWinning}
 use Rattle.auction_model.specs.Lowered.{lowered}
 use Rattle.auction_model.specs.Market.{value_of}
-use Rattle.auction_model.specs.Prices.{Point, alike}
+use Rattle.auction_model.specs.Prices.{alike}
 use Rattle.auction_model.specs.PricingRun.{IsPricingRun}
 use Rattle.choices.specs.Singles.{AreSingles}
 use Rattle.choices.specs.declared.chooser.Found.{Found}
 use Rattle.choices.specs.declared.chooser.Single.{Single}
 use Rattle.core_price.specs.Priced.{IsPriced}
 use Rattle.core_price.specs.Stops.{IsStop}
-use Rattle.core_price.specs.Turns.{IsPointOfTurn, point_of, turns_of}
+use Rattle.core_price.specs.Turns.{IsPointOfTurn, turns_of}
 use Rattle.core_price.specs.Weights.{ManyWin}
 use Rattle.core_price.specs.declared.priced.PriceStop.{PriceStop}
 use Rattle.core_price.specs.declared.priced.PriceStop.TheVariants.{Winners, Memory}

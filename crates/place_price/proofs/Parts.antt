@@ -1,16 +1,16 @@
 -- The parts of a placement certificate without each winner.
-use Rattle.std.specs.Prelude.{◌≡◌, ℕ, zero, suc, ◌<◌, ◌≤◌, ◌==◌, Bool, IsTrue, if◌then◌else◌, List, [], ◌∷◌, ◌++◌, length, map, slice_index_or, ℤ, pos, refl}
+use Rattle.std.specs.Prelude.{◌≡◌, ℕ, zero, suc, ◌<◌, ◌≤◌, Bool, IsTrue, if◌then◌else◌, List, [], ◌∷◌, ◌++◌, length, map, slice_index_or, ℤ, pos, refl}
 use Rattle.std.specs.List.{AllByRecursion}
 use Rattle.std.proofs.Common.{inl, inr, sym, ◌∙◌, ap, subst, arith, length-append}
 use Rattle.std.proofs.lemmas.Bool.{cases_eq, eq-eqb, ne_eqb}
 use Rattle.std.proofs.lemmas.List.{get_or-map, length-map, map-append}
-use Rattle.auction_model.specs.Market.{Market, uses}
+use Rattle.auction_model.specs.Market.{uses}
 use Rattle.auction_model.proofs.ListLaws.{each-push}
 use Rattle.book_price.specs.Made.{parts_from}
-use Rattle.book_price.proofs.Places.{part-of_winner, rank, single_at}
+use Rattle.book_price.proofs.Places.{part-of_winner, rank}
 use Rattle.cert_form.specs.Certificate.{WithoutValue, part_of}
 use Rattle.cert_form.specs.PlaceCert.{order_without}
-use Rattle.choices.specs.Singles.{AreSingles, winners_after}
+use Rattle.choices.specs.Singles.{AreSingles}
 use Rattle.choices.specs.declared.chooser.Single.{Single}
 use Rattle.place_cert.specs.Parts.{part_order, part_value}
 use Rattle.place_cert.specs.declared.certificate.PlaceWithout.{PlaceWithout}

@@ -1,10 +1,9 @@
 -- The certificate of what pricing finds of slots passes all tests, and is one that pricing writes.
-use Rattle.std.specs.Prelude.{◌≡◌, ℕ, zero, suc, ◌+◌, ◌-◌, ◌*◌, ◌^◌, ◌<◌, ◌≤◌, IsTrue, List, [], ◌∷◌, length, map, ℤ, pos, ◌+ℤ◌, ◌*ℤ◌, ◌≤ℤ◌, ◌<ℤ◌, refl}
+use Rattle.std.specs.Prelude.{◌≡◌, ℕ, ◌<◌, ◌≤◌, IsTrue, List, length, map, ℤ, pos, ◌≤ℤ◌, refl}
 use Rattle.std.specs.List.{AllByRecursion}
-use Rattle.std.proofs.Common.{sym, ◌∙◌, ap, subst, arith}
+use Rattle.std.proofs.Common.{◌∙◌, subst, arith}
 use Rattle.std.proofs.lemmas.Int.{ints}
-use Rattle.auction_model.specs.Lawful.{IsMarket}
-use Rattle.auction_model.specs.Market.{uses, value_of, worth_in}
+use Rattle.auction_model.specs.Market.{uses, value_of}
 use Rattle.auction_model.specs.Greatest.{IsGreatest}
 use Rattle.auction_model.specs.Prices.{IsCorePoint, paid}
 use Rattle.book_price.specs.Made.{cert_made, parts_from, row_from}
@@ -19,11 +18,11 @@ use Rattle.choices.specs.declared.chooser.Found.{Found}
 use Rattle.choices.specs.declared.chooser.Single.{Single}
 use Rattle.core_price.specs.Priced.{IsPriced}
 use Rattle.core_price.specs.declared.priced.Priced.{Priced}
-use Rattle.place_cert.specs.Parts.{part_order, part_value, place_cert_from, row_order, row_value}
+use Rattle.place_cert.specs.Parts.{part_order, row_order, row_value}
 use Rattle.place_cert.specs.declared.certificate.PlaceRow.{PlaceRow}
 use Rattle.place_cert.specs.declared.certificate.PlaceWithout.{PlaceWithout}
 use Rattle.place_laws.specs.PlacePriced.{IsBestPlacedPart, IsPricedPlaceCert}
-use Rattle.place_laws.specs.PlaceTests.{Holds, P1, P4, P5, P6, P8, P9}
+use Rattle.place_laws.specs.PlaceTests.{Holds, P1, P4, P6, P8, P9}
 use Rattle.place_laws.proofs.ExactTests.{head-choice, head-table, lowered-table, part-passes}
 use Rattle.place_laws.proofs.Sound.{sound}
 use Rattle.place_price.specs.Found.{AreFound}
@@ -35,7 +34,6 @@ use Rattle.place_price.proofs.Allowed.{lawful}
 use Rattle.place_price.proofs.Parts.{best-parts, tables-count}
 use Rattle.place_price.proofs.RowOrders.{row-placed}
 use Rattle.row_laws.specs.Surplus.{AsksWinnersOnly, lowered_sum, surpluses_of}
-use Rattle.row_laws.specs.Winners.{for_bidders}
 use Rattle.row_laws.proofs.Excess.{unblocked-free}
 use Rattle.row_laws.proofs.Sizes.{worth-nonneg}
 use Rattle.row_laws.proofs.Surplus.{surpluses-are}

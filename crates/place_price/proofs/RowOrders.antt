@@ -1,9 +1,8 @@
 -- The rows of a placement certificate, with the placements of their choices.
-use Rattle.std.specs.Prelude.{◌≡◌, ℕ, zero, suc, ◌-◌, ◌<◌, ◌≤◌, List, [], ◌∷◌, length, map, slice_index_or, ℤ, pos}
+use Rattle.std.specs.Prelude.{ℕ, zero, suc, ◌-◌, ◌<◌, ◌≤◌, List, [], ◌∷◌, length, map, slice_index_or, ℤ, pos}
 use Rattle.std.specs.List.{AllByRecursion}
 use Rattle.std.proofs.Common.{arith}
 use Rattle.std.proofs.lemmas.List.{length-map}
-use Rattle.auction_model.specs.Market.{Market}
 use Rattle.cert_form.specs.Certificate.{RowValue, row_of}
 use Rattle.cert_form.specs.CertText.{AreRows}
 use Rattle.cert_form.specs.PlaceCert.{order_in_row}

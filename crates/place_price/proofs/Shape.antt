@@ -1,5 +1,5 @@
 -- The certificate of what pricing finds of slots has the shape that a placement certificate keeps.
-use Rattle.std.specs.Prelude.{◌≡◌, ℕ, zero, suc, ◌+◌, ◌-◌, ◌*◌, ◌^◌, ◌<◌, ◌≤◌, IsTrue, not, List, [], ◌∷◌, length, map, ℤ, pos, ◌+ℤ◌, ◌*ℤ◌, ◌≤ℤ◌, ◌<ℤ◌, refl}
+use Rattle.std.specs.Prelude.{◌≡◌, ℕ, zero, suc, ◌^◌, ◌<◌, ◌≤◌, IsTrue, not, List, [], ◌∷◌, length, map, ℤ, pos, ◌+ℤ◌, ◌*ℤ◌, ◌≤ℤ◌, ◌<ℤ◌, refl}
 use Rattle.std.specs.List.{AllByRecursion}
 use Rattle.std.proofs.Common.{inl, inr, sym, ◌∙◌, ap, subst, arith}
 use Rattle.std.proofs.lemmas.Bool.{and_parts, cases_Bool}
@@ -32,7 +32,7 @@ use Rattle.place_price.specs.Found.{AreFound}
 use Rattle.place_price.specs.PlacedParts.{IsBest, tables_of}
 use Rattle.place_price.specs.PlacedRows.{IsPlacedRow}
 use Rattle.place_price.proofs.Allowed.{lawful, order-shape}
-use Rattle.place_price.proofs.Passes.{cert_found, core, least, long, own, passes-5, passes-9, places_found}
+use Rattle.place_price.proofs.Passes.{cert_found, core, least, long, passes-5, passes-9, places_found}
 use Rattle.place_price.proofs.RowOrders.{ordered-rows}
 use Rattle.place_price.proofs.Tables.{below-range, part-sets, sets-shape}
 use Rattle.point_laws.proofs.Sums.{total-le}
@@ -43,7 +43,7 @@ use Rattle.row_laws.specs.Winners.{for_bidders}
 use Rattle.slot_places.specs.Board.{board_of, market_of}
 use Rattle.slot_places.specs.Kept.{AreSlots}
 use Rattle.slot_places.specs.Orders.{IsPlacement}
-use Rattle.slot_places.specs.Slots.{SlotList, amount_of, bids_of}
+use Rattle.slot_places.specs.Slots.{SlotList, amount_of}
 use Rattle.wide_num.specs.Sums.{total}
 use Rattle.wide_num.proofs.Ints.{*ℤ-one, mul-add}
 use Rattle.wide_num.proofs.Sums.{total-scale}
@@ -163,4 +163,6 @@ module _ (slots : SlotList) (kept : AreSlots slots) (whole : Found (List (List �
     }
 
     pub made_shape : IsPlaceCertificate (length choice) (place_cert_from den value choice order table parts pay rows lowered_lines)
-    made_shape = rw (choice_is, long slots kept whole singles parts priced found, made_is) priced_shape
+    made_shape =
+        subst (IsPlaceCertificate (length choice)) (sym made_is)
+        (subst (λ (n : ℕ). IsPlaceCertificate n (places_found slots whole singles parts priced order rows)) (sym (ap length choice_is ∙ long slots kept whole singles parts priced found)) priced_shape)

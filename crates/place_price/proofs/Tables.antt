@@ -1,5 +1,5 @@
 -- Exact tables over sets have the shape that a placement certificate keeps, where their first entry is in range.
-use Rattle.std.specs.Prelude.{◌≡◌, ℕ, zero, suc, ◌+◌, ◌-◌, ◌*◌, ◌^◌, ◌<◌, ◌≤◌, IsTrue, not, List, [], ◌∷◌, length, slice_index_or, ℤ, pos, ◌≤ℤ◌, ◌<ℤ◌, unsigned_abs, refl}
+use Rattle.std.specs.Prelude.{ℕ, suc, ◌^◌, ◌<◌, not, List, [], ◌∷◌, length, slice_index_or, ℤ, pos, ◌≤ℤ◌, ◌<ℤ◌, refl}
 use Rattle.std.proofs.Common.{arith}
 use Rattle.std.proofs.lemmas.Bool.{and_parts}
 use Rattle.std.proofs.lemmas.Int.{ints}

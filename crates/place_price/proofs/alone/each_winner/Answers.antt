@@ -1,12 +1,10 @@
-use Rattle.std.proofs.Common.{◌≡◌, ◌≢◌, ◌∙◌, ◌<◌, ◌≤◌, ◌+◌, ◌-◌, sym, ap, subst, arith, get_or, length, take, map, List, ℕ, [], ◌∷◌, ◌++◌}
+use Rattle.std.proofs.Common.{◌≡◌, ◌≢◌, ◌∙◌, ◌<◌, ◌≤◌, ◌+◌, ◌-◌, sym, ap, arith, get_or, length, take, map, [], ◌∷◌, ◌++◌}
 use Rattle.std.proofs.lemmas.List.{map-append, take_all}
 use Rattle.auction_model.proofs.ListLaws.{each-push}
 use Rattle.choices.specs.declared.chooser.Single.{Single}
 use Rattle.choices.specs.Singles.{winners_after, IsSingle}
-use Rattle.place_cert.specs.declared.certificate.PlaceWithout.{PlaceWithout}
 use Rattle.place_price.proofs.Allowed.{lawful}
 use Rattle.place_price.proofs.Parts.{more-parts}
-use Rattle.place_price.specs.PlacedParts.{ArePartsOf}
 use Rattle.slot_places.specs.Board.{market_of}
 use Rattle.vickrey.proofs.VickreyLaws.{winners-skip, winners-take}
 use Rattle.place_price.proofs.alone.each_winner.Goals as goal
