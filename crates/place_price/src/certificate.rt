@@ -13,7 +13,6 @@ use crate::pricing::PricedPlaces;
 use choices::{Found, Grid};
 use core_price::{Priced, for_bidders};
 use place_cert::{PlaceCertificate, PlaceWithouts};
-use place_laws::{exact_set_tables, exact_tests, first_entries, set_sizes, sound_places};
 use slot_places::Slots;
 use std::alloc::{AllocError, Global};
 use wide_num::NumList;

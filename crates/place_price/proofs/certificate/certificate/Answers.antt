@@ -55,8 +55,8 @@ returns-clause-cert c =
     let v : to_z w128 (of_z w128 c.args.whole.sum) ≡ c.args.whole.sum = to_z-of_z w128 c.args.whole.sum (search rules) in
     subst (IsPricedPlaceCert slots)
     (sym (made_is slots kept c.args.whole c.requires.0 c.args.parts c.args.priced found c.in_ok-order.order c.in_ok-order.ensures c.in_ok-rows.rows
-        (c.in_ok-rows.ensures.rows ∙ ap (λ (rows : List PricedRow). map (row_from z) rows) c.items-kept.ensures) c.in_ok-rows.ensures.placed
-        _ _ z c.args.whole.table c.from_vec-pay.result c.args.priced.last.table d (v ∙ found.value) refl refl
-        (c.from_vec-pay.ensures ∙ c.in_ok-for_bidders.ensures ∙ ap (for_bidders z) c.items-paid.ensures) refl))
+    (c.in_ok-rows.ensures.rows ∙ ap (λ (rows : List PricedRow). map (row_from z) rows) c.items-kept.ensures) c.in_ok-rows.ensures.placed
+    _ _ z c.args.whole.table c.from_vec-pay.result c.args.priced.last.table d (v ∙ found.value) refl refl
+    (c.from_vec-pay.ensures ∙ c.in_ok-for_bidders.ensures ∙ ap (for_bidders z) c.items-paid.ensures) refl))
     (priced_passes slots kept c.args.whole c.requires.0 c.args.parts c.args.priced found c.in_ok-order.order c.in_ok-order.ensures c.in_ok-rows.rows
-        (c.in_ok-rows.ensures.rows ∙ ap (λ (rows : List PricedRow). map (row_from z) rows) c.items-kept.ensures) c.in_ok-rows.ensures.placed)
+    (c.in_ok-rows.ensures.rows ∙ ap (λ (rows : List PricedRow). map (row_from z) rows) c.items-kept.ensures) c.in_ok-rows.ensures.placed)
