@@ -158,10 +158,10 @@ module _ (book : Book) (z : List ℕ) (whole : TableValue) (alone : VickreyValue
           c2 = passes-2;
           c3 = passes-3;
           c4 = passes-4;
-          c5 = kept_payments book z value whole.lines alone.singles alone.tables priced.den priced.at priced.rows priced.last.table.lines core;
-          c6 = kept_rows book z long value whole.lines alone.singles alone.tables priced.den priced.at priced.rows priced.last.table.lines own.shown.kept;
-          c7 = kept_firsts book z long weights value whole.lines alone.singles alone.tables priced.den priced.at priced.rows priced.last.table.lines own.shown.first own.shown.first_sums;
-          c8 = kept_seconds book z long weights value whole.lines alone.singles alone.tables priced.den priced.at priced.rows priced.last.table.lines refl found.singles count own.shown.first own.shown.second;
+          c5 = kept_payments (market_of book) z value whole.lines alone.singles alone.tables priced.den priced.at priced.rows priced.last.table.lines core;
+          c6 = kept_rows (market_of book) z long value whole.lines alone.singles alone.tables priced.den priced.at priced.rows priced.last.table.lines own.shown.kept;
+          c7 = kept_firsts (market_of book) z long weights value whole.lines alone.singles alone.tables priced.den priced.at priced.rows priced.last.table.lines own.shown.first own.shown.first_sums;
+          c8 = kept_seconds (market_of book) z long weights value whole.lines alone.singles alone.tables priced.den priced.at priced.rows priced.last.table.lines refl found.singles count own.shown.first own.shown.second;
           c9 = passes-9;
         };
         winning = found.winning;
@@ -172,7 +172,7 @@ module _ (book : Book) (z : List ℕ) (whole : TableValue) (alone : VickreyValue
       }
 
   choices : (c : List ℕ) → IsTrue ((market_of book).allowed c) → IsChoice (bidders_of book) c
-  choices c allowed = choice_shape book lawful (λ j some inside. omega (arith, kept.bids j)) c allowed
+  choices c allowed = choice_shape (market_of book) lawful (λ j some inside. omega (arith, kept.bids j)) c allowed
 
   others-shape : (i : ℕ) → i < length alone.tables → IsTable (bidders_of book) (states book) (slice_index_or alone.tables i [])
   others-shape i lt = let inside : i < length alone.singles = omega (arith, lt, count) in shape_of-others book (single_at alone.singles i).winner (slice_index_or alone.tables i []) kept (table_at i inside)
@@ -186,10 +186,10 @@ module _ (book : Book) (z : List ℕ) (whole : TableValue) (alone : VickreyValue
         value = numbers.1;
         choice = choices z found.winning.passed;
         table = shape_of-all book whole found.table;
-        withouts = withouts_shape book z long choices alone.singles alone.tables found.singles count others-shape;
-        pay = pay_shape book z long priced.at own.prices.small;
+        withouts = withouts_shape (market_of book) (states book) z long choices alone.singles alone.tables found.singles count others-shape;
+        pay = pay_shape (market_of book) z long priced.at own.prices.small;
         few = rows_few z priced.rows own.shown.few found.few.0;
-        rows = rows_shape book z long choices priced.den priced.at priced.rows own.shown.kept own.shown.first own.shown.first_sums numbers.0 own.shown.small_seconds;
+        rows = rows_shape (market_of book) z long choices priced.den priced.at priced.rows own.shown.kept own.shown.first own.shown.first_sums numbers.0 own.shown.small_seconds;
         lowered = shape_of-all book priced.last.table found.lowered.exact;
       }
 

@@ -7,9 +7,10 @@ pub mod Shapes
 mod Certified
 mod Copies
 mod First
-mod LastTurn
+pub mod LastTurn
 mod Lowered
 mod Tables
-mod Worths
+pub mod Worths
 mod Lowest
+pub mod Ones
 mod FoundLaws

@@ -1,13 +1,12 @@
--- The multipliers of the kept rows pass tests C7 and C8.
+-- The multipliers of the kept rows of any market pass the tests of multipliers.
 use Rattle.std.specs.Prelude.{◌≡◌, ℕ, zero, suc, ◌-◌, ◌<◌, ◌≤◌, Bool, true, false, cond, IsTrue, List, [], length, map, slice_index_or, ℤ, pos, ◌+ℤ◌, ◌-ℤ◌, ◌*ℤ◌, ◌≤ℤ◌, ◌<ℤ◌, refl}
 use Rattle.std.proofs.Common.{sym, ◌∙◌, ap, arith, ◌⊎◌, inl, inr}
 use Rattle.std.proofs.lemmas.Int.{ints}
 use Rattle.std.proofs.lemmas.List.{get_or-map, length-map}
-use Rattle.auction_model.specs.Book.{Book, market_of}
 use Rattle.auction_model.specs.Lowered.{of_bidder}
 use Rattle.auction_model.specs.Market.{Market, uses, value_of, worth_in}
 use Rattle.cert_form.specs.Certificate.{RowValue, WithoutValue, is_member, row_of as row_at_place}
-use Rattle.cert_laws.specs.Tests.{C7, C8, bidders_of, sum_holding, vickrey_of}
+use Rattle.cert_laws.specs.MarketTests.{ShowsLeastSum, ShowsNearest, sum_holding, vickrey_in}
 use Rattle.choices.specs.Singles.{AreSingles, IsSingle}
 use Rattle.choices.specs.declared.chooser.Single.{Single}
 use Rattle.core_price.specs.Kept.{firsts, rows_in, seconds}
@@ -74,7 +73,7 @@ single-value m z s is =
     let same = r.2 in
     omega (arith, ints, above, below, same)
 
-module _ (book : Book) (z : List ℕ) (long : length z ≡ bidders_of book) (weights : List ℕ) (value : ℤ) (table : List (List ℤ)) (singles : List Single) (tables : List (List (List ℤ))) (den : ℤ) (at : List ℤ) (rows : List PricedRow) (lowered : List (List ℤ)) where
+module _ (m : Market) (z : List ℕ) (long : length z ≡ m.bidders) (weights : List ℕ) (value : ℤ) (table : List (List ℤ)) (singles : List Single) (tables : List (List (List ℤ))) (den : ℤ) (at : List ℤ) (rows : List PricedRow) (lowered : List (List ℤ)) where
   module _ (first : AreFirst (winners_in z) (length rows) (coefficients (rows_in rows)) (bounds (rows_in rows)) den (nth at) (nth (firsts rows))) where
     first-sign : (place : ℕ) → 0 < place → place ≤ length rows → pos 0 ≤ℤ (row_at_place (map (row_from z) rows) place).first
     first-sign zero some inside = absurd (omega arith)
@@ -85,29 +84,29 @@ module _ (book : Book) (z : List ℕ) (long : length z ≡ bidders_of book) (wei
         omega (arith, ints, e, f, s)
 
     module _ (sums : SumsTo (winners_in z) (length rows) (coefficients (rows_in rows)) den (nth (firsts rows))) where
-      first-column : (j : ℕ) → 0 < j → j ≤ bidders_of book → IsTrue (uses z j) → sum_holding (map (row_from z) rows) j (λ row. row.first) (length (map (row_from z) rows)) ≡ den
+      first-column : (j : ℕ) → 0 < j → j ≤ m.bidders → IsTrue (uses z j) → sum_holding (map (row_from z) rows) j (λ row. row.first) (length (map (row_from z) rows)) ≡ den
       first-column zero some inside used = absurd (omega arith)
       first-column (suc k) some inside used =
           let lt : k < length z = omega (arith, inside, long) in
           let place = place-of z k lt used in
           all-holding z k (rank z k) lt place rows (λ row. row.first) (nth (firsts rows)) (λ q l. first-at rows q l) ∙ sums (rank z k) place.inside
 
-      pub kept_firsts : (place : ℕ) → C7 book (cert_made z value table singles tables den at rows lowered) place
+      pub kept_firsts : (place : ℕ) → ShowsLeastSum m (cert_made z value table singles tables den at rows lowered) place
       kept_firsts place = record {
         sign = λ some inside. first-sign place some (omega (arith, inside, length-map rows (row_from z)));
         columns = λ j some inside is used. first-column j some inside used;
       }
 
-  module _ (is : value ≡ value_of (market_of book) z) (are : AreSingles (market_of book) z singles) (count : length tables ≡ length singles)
+  module _ (is : value ≡ value_of m z) (are : AreSingles m z singles) (count : length tables ≡ length singles)
       (first : AreFirst (winners_in z) (length rows) (coefficients (rows_in rows)) (bounds (rows_in rows)) den (nth at) (nth (firsts rows)))
       (second : AreSecond (winners_in z) (length rows) (coefficients (rows_in rows)) (bounds (rows_in rows)) den (nth at) (nth (firsts rows)) (nth (seconds rows)) (nth (prices_of singles)) (weight_at (weights_in z weights))) where
-    vickrey-is : (k : ℕ) → k < length z → uses z (suc k) ≡ true → vickrey_of book (cert_made z value table singles tables den at rows lowered) (suc k) ≡ nth (prices_of singles) (rank z k)
+    vickrey-is : (k : ℕ) → k < length z → uses z (suc k) ≡ true → vickrey_in m (cert_made z value table singles tables den at rows lowered) (suc k) ≡ nth (prices_of singles) (rank z k)
     vickrey-is k lt used =
         let i = rank z k in
         let p = part-of_winner z singles tables are.winners count k lt used in
-        let own = single-value (market_of book) z (single_at singles i) (each-at (IsSingle (market_of book) z) singles are.each i (record { winner = 0; price = pos 0; choice = [] }) p.inside) in
-        let choice = ap (λ (w : WithoutValue). value_of (market_of book) w.choice) p.part in
-        let won = ap (worth_in (market_of book) z) p.winner in
+        let own = single-value m z (single_at singles i) (each-at (IsSingle m z) singles are.each i (record { winner = 0; price = pos 0; choice = [] }) p.inside) in
+        let choice = ap (λ (w : WithoutValue). value_of m w.choice) p.part in
+        let won = ap (worth_in m z) p.winner in
         let price : nth (prices_of singles) i ≡ (single_at singles i).price = get_or-map (λ s. s.price) singles i (record { winner = 0; price = pos 0; choice = [] }) (pos 0) p.inside in
         omega (arith, ints, own, choice, won, price, is)
 
@@ -124,8 +123,8 @@ module _ (book : Book) (z : List ℕ) (long : length z ≡ bidders_of book) (wei
           | inr other ↦ inl (omega (arith, ints, e, f, s, other))
         ]
 
-    second-column : (j : ℕ) → 0 < j → j ≤ bidders_of book → IsTrue (uses z j)
-        → of_bidder (for_bidders z at) j -ℤ (den *ℤ vickrey_of book (cert_made z value table singles tables den at rows lowered) j) ≡ pos (weight_of weights j) *ℤ sum_holding (map (row_from z) rows) j (λ row. row.second) (length (map (row_from z) rows))
+    second-column : (j : ℕ) → 0 < j → j ≤ m.bidders → IsTrue (uses z j)
+        → of_bidder (for_bidders z at) j -ℤ (den *ℤ vickrey_in m (cert_made z value table singles tables den at rows lowered) j) ≡ pos (weight_of weights j) *ℤ sum_holding (map (row_from z) rows) j (λ row. row.second) (length (map (row_from z) rows))
     second-column zero some inside used = absurd (omega arith)
     second-column (suc k) some inside used =
         let lt : k < length z = omega (arith, inside, long) in
@@ -140,7 +139,7 @@ module _ (book : Book) (z : List ℕ) (long : length z ≡ bidders_of book) (wei
         let u = ap (λ (x : ℤ). x *ℤ sum_at (length rows) (coefficients (rows_in rows)) (nth (seconds rows)) (rank z k)) w in
         omega (arith, ints, t, u, paid, price, s)
 
-    pub kept_seconds : (place : ℕ) → C8 book (weight_of weights) (cert_made z value table singles tables den at rows lowered) place
+    pub kept_seconds : (place : ℕ) → ShowsNearest m (weight_of weights) (cert_made z value table singles tables den at rows lowered) place
     kept_seconds place = record {
       sign = λ some inside. second-sign place some (omega (arith, inside, length-map rows (row_from z)));
       columns = λ j some inside here used. second-column j some inside used;

@@ -1,15 +1,14 @@
--- The kept rows pass test C6.
+-- The kept rows of any market pass the test of rows.
 use Rattle.std.specs.Prelude.{◌≡◌, ℕ, zero, suc, ◌-◌, ◌<◌, ◌≤◌, not, ◌&&◌, IsTrue, List, [], length, map, slice_index_or, ℤ, pos, ◌-ℤ◌, ◌*ℤ◌}
 use Rattle.std.specs.List.{AllByRecursion}
 use Rattle.std.proofs.Common.{sym, ◌∙◌, ap, arith, subst}
 use Rattle.std.proofs.lemmas.Bool.{and_parts, eqb-true, not-false, not-true}
 use Rattle.std.proofs.lemmas.List.{get_or-map, length-map}
-use Rattle.auction_model.specs.Book.{Book, market_of}
 use Rattle.auction_model.specs.Lowered.{of_bidder}
 use Rattle.auction_model.specs.Prices.{sum_over}
-use Rattle.auction_model.specs.Market.{number_of, uses, value_of, worth_in}
+use Rattle.auction_model.specs.Market.{Market, number_of, uses, value_of, worth_in}
 use Rattle.cert_form.specs.Certificate.{RowValue, is_member, row_of as row_at_place}
-use Rattle.cert_laws.specs.Tests.{C6, IsTightRow, bidders_of}
+use Rattle.cert_laws.specs.MarketTests.{HasTightRow, IsTight}
 use Rattle.choices.specs.declared.chooser.Single.{Single}
 use Rattle.core_price.specs.Kept.{IsKept}
 use Rattle.core_price.specs.declared.priced.PricedRow.{PricedRow}
@@ -32,7 +31,7 @@ pub row-is : (z : List ℕ) (rows : List PricedRow) (i : ℕ) → i < length row
 row-is z rows i lt = let b : suc i - 1 ≡ i = omega arith in rw b (get_or-map (row_from z) rows i no_row (record { members = []; first = pos 0; second = pos 0; choice = [] }) lt)
 
 -- a member is a winner that the choice of the row doesn't use
-module _ (book : Book) (z : List ℕ) (long : length z ≡ bidders_of book) (den : ℤ) (at : List ℤ) (r : PricedRow) (kept : IsKept (market_of book) z den at r) (j : ℕ) (member : IsTrue (is_member (row_from z r).members j)) where
+module _ (m : Market) (z : List ℕ) (long : length z ≡ m.bidders) (den : ℤ) (at : List ℤ) (r : PricedRow) (kept : IsKept m z den at r) (j : ℕ) (member : IsTrue (is_member (row_from z r).members j)) where
   idle : IsTrue (uses z j && not (uses r.choice j))
   idle =
       let inside = member-inside (row_of z r.row.members) (length z) j member in
@@ -44,36 +43,36 @@ module _ (book : Book) (z : List ℕ) (long : length z ≡ bidders_of book) (den
   pub member-unused : number_of r.choice j ≡ 0
   member-unused = eqb-true (number_of r.choice j) 0 (not-false _ (not-true (uses r.choice j) ((and_parts (uses z j) (not (uses r.choice j)) idle).1)))
 
-module _ (book : Book) (z : List ℕ) (long : length z ≡ bidders_of book) (den : ℤ) (at : List ℤ) (r : PricedRow) (kept : IsKept (market_of book) z den at r) where
+module _ (m : Market) (z : List ℕ) (long : length z ≡ m.bidders) (den : ℤ) (at : List ℤ) (r : PricedRow) (kept : IsKept m z den at r) where
   -- the list of members is the set of the row
-  same : (j : ℕ) → 0 < j → j ≤ bidders_of book → is_member (row_from z r).members j ≡ row_of z r.row.members j
+  same : (j : ℕ) → 0 < j → j ≤ m.bidders → is_member (row_from z r).members j ≡ row_of z r.row.members j
   same j some inside = member-is (row_of z r.row.members) (length z) j some (omega (arith, long))
 
   -- what the members pay is what the choice asks of them
-  pub row-tight : sum_over (is_member (row_from z r).members) (of_bidder (for_bidders z at)) (bidders_of book)
-      ≡ den *ℤ (value_of (market_of book) r.choice -ℤ sum_over (λ j. not (is_member (row_from z r).members j)) (worth_in (market_of book) z) (bidders_of book))
+  pub row-tight : sum_over (is_member (row_from z r).members) (of_bidder (for_bidders z at)) m.bidders
+      ≡ den *ℤ (value_of m r.choice -ℤ sum_over (λ j. not (is_member (row_from z r).members j)) (worth_in m z) m.bidders)
   row-tight =
-      let paid = over-same (is_member (row_from z r).members) (row_of z r.row.members) (of_bidder (for_bidders z at)) (bidders_of book) same in
-      let won = over-same (λ j. not (is_member (row_from z r).members j)) (λ j. not (row_of z r.row.members j)) (worth_in (market_of book) z) (bidders_of book) (λ j some inside. ap not (same j some inside)) in
+      let paid = over-same (is_member (row_from z r).members) (row_of z r.row.members) (of_bidder (for_bidders z at)) m.bidders same in
+      let won = over-same (λ j. not (is_member (row_from z r).members j)) (λ j. not (row_of z r.row.members j)) (worth_in m z) m.bidders (λ j some inside. ap not (same j some inside)) in
       paid
-      ∙ row-asks (market_of book) z long at r.row.members
+      ∙ row-asks m z long at r.row.members
       ∙ kept.tight
-      ∙ ap (λ (x : ℤ). den *ℤ x) (kept.given.given ∙ ap (λ (x : ℤ). value_of (market_of book) r.choice -ℤ x) (sym won))
+      ∙ ap (λ (x : ℤ). den *ℤ x) (kept.given.given ∙ ap (λ (x : ℤ). value_of m r.choice -ℤ x) (sym won))
 
-module _ (book : Book) (z : List ℕ) (long : length z ≡ bidders_of book) (value : ℤ) (table : List (List ℤ)) (singles : List Single) (tables : List (List (List ℤ))) (den : ℤ) (at : List ℤ) (rows : List PricedRow) (lowered : List (List ℤ)) where
-  row_passes : (r : PricedRow) → IsKept (market_of book) z den at r → IsTightRow book (cert_made z value table singles tables den at rows lowered) (row_from z r)
+module _ (m : Market) (z : List ℕ) (long : length z ≡ m.bidders) (value : ℤ) (table : List (List ℤ)) (singles : List Single) (tables : List (List (List ℤ))) (den : ℤ) (at : List ℤ) (rows : List PricedRow) (lowered : List (List ℤ)) where
+  row_passes : (r : PricedRow) → IsKept m z den at r → IsTight m (cert_made z value table singles tables den at rows lowered) (row_from z r)
   row_passes r kept = record {
-    winners = λ j member. member-wins book z long den at r kept j member;
+    winners = λ j member. member-wins m z long den at r kept j member;
     allowed = kept.given.allowed;
-    unused = λ j member. member-unused book z long den at r kept j member;
-    tight = row-tight book z long den at r kept;
+    unused = λ j member. member-unused m z long den at r kept j member;
+    tight = row-tight m z long den at r kept;
   }
 
-  row_at-passes : AllByRecursion (IsKept (market_of book) z den at) rows → (place : ℕ) → 0 < place → place ≤ length rows → IsTightRow book (cert_made z value table singles tables den at rows lowered) (row_at_place (map (row_from z) rows) place)
+  row_at-passes : AllByRecursion (IsKept m z den at) rows → (place : ℕ) → 0 < place → place ≤ length rows → IsTight m (cert_made z value table singles tables den at rows lowered) (row_at_place (map (row_from z) rows) place)
   row_at-passes kept zero some inside = absurd (omega arith)
   row_at-passes kept (suc i) some inside =
-      subst (λ (r : RowValue). IsTightRow book (cert_made z value table singles tables den at rows lowered) r) (sym (row-is z rows i inside))
-      (row_passes (priced_at rows i) (each-at (IsKept (market_of book) z den at) rows kept i no_row inside))
+      subst (λ (r : RowValue). IsTight m (cert_made z value table singles tables den at rows lowered) r) (sym (row-is z rows i inside))
+      (row_passes (priced_at rows i) (each-at (IsKept m z den at) rows kept i no_row inside))
 
-  pub kept_rows : AllByRecursion (IsKept (market_of book) z den at) rows → (place : ℕ) → C6 book (cert_made z value table singles tables den at rows lowered) place
+  pub kept_rows : AllByRecursion (IsKept m z den at) rows → (place : ℕ) → HasTightRow m (cert_made z value table singles tables den at rows lowered) place
   kept_rows kept place = record { row = λ some inside. row_at-passes kept place some (omega (arith, inside, length-map rows (row_from z))) }

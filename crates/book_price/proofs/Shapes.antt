@@ -1,4 +1,4 @@
--- The rows, the parts and the payments have the shape that a certificate keeps.
+-- In any market the rows, the parts and the payments have the shape that a certificate keeps.
 use Rattle.std.specs.Prelude.{◌≡◌, ℕ, zero, suc, ◌-◌, ◌^◌, ◌<◌, ◌≤◌, true, cond, not, IsTrue, List, [], ◌∷◌, length, map, slice_index, slice_index_or, ℤ, pos, negsuc, ◌+ℤ◌, ◌-ℤ◌, ◌*ℤ◌, ◌≤ℤ◌, ◌<ℤ◌, unsigned_abs}
 use Rattle.std.specs.List.{AllByRecursion}
 use Rattle.std.proofs.Common.{◌∙◌, ap, arith}
@@ -6,11 +6,9 @@ use Rattle.std.proofs.Math.IntN.{*ℤ_comm}
 use Rattle.std.proofs.lemmas.Bool.{and_parts}
 use Rattle.std.proofs.lemmas.Int.{ints}
 use Rattle.std.proofs.lemmas.List.{length-map}
-use Rattle.auction_model.specs.Book.{Book, bids_of, market_of}
 use Rattle.auction_model.specs.Lawful.{IsMarket}
-use Rattle.auction_model.specs.Market.{uses}
+use Rattle.auction_model.specs.Market.{Market, uses}
 use Rattle.cert_form.specs.CertText.{AllInRange, AreRows, AreWithouts, AtMost, InRange, IsChoice, IsRow, IsTable}
-use Rattle.cert_laws.specs.Tests.{bidders_of, states}
 use Rattle.choices.specs.Singles.{AreSingles, IsSingle, winners_after}
 use Rattle.choices.specs.declared.chooser.Single.{Single}
 use Rattle.core_price.specs.Kept.{IsKept, firsts, rows_in, seconds}
@@ -35,10 +33,10 @@ at_most-from most [] h = tt
 at_most-from most (i ∷ c) h = (h 0 (omega arith), at_most-from most c (λ k lt. h (suc k) (omega arith)))
 
 -- an allowed choice is a choice of so many bidders
-pub choice_shape : (book : Book) → IsMarket (market_of book) → ((j : ℕ) → 0 < j → j ≤ bidders_of book → length (bids_of book j) ≤ 65535) → (c : List ℕ) → IsTrue ((market_of book).allowed c) → IsChoice (bidders_of book) c
-choice_shape book lawful few c allowed = (lawful.lengths c allowed, at_most-from 65535 c (λ k lt. small k (omega (arith, lt, lawful.lengths c allowed))))
+pub choice_shape : (m : Market) → IsMarket m → ((j : ℕ) → 0 < j → j ≤ m.bidders → m.bids j ≤ 65535) → (c : List ℕ) → IsTrue (m.allowed c) → IsChoice m.bidders c
+choice_shape m lawful few c allowed = (lawful.lengths c allowed, at_most-from 65535 c (λ k lt. small k (omega (arith, lt, lawful.lengths c allowed))))
   where
-    small : (k : ℕ) → k < bidders_of book → slice_index c k ≤ 65535
+    small : (k : ℕ) → k < m.bidders → slice_index c k ≤ 65535
     small k lt =
         let n = lawful.numbers c (suc k) allowed (omega arith) (omega arith) in
         let f = few (suc k) (omega arith) (omega arith) in
@@ -54,7 +52,7 @@ within (negsuc a) d low le small = absurd (omega (arith, ints))
 less_small : (x : ℤ) → unsigned_abs x < 2 ^ 109 → InRange x
 less_small x h = omega arith
 
-not_negative-small : (a : ℤ) → pos 0 ≤ℤ a → a <ℤ pos (2 ^ 120) → InRange a
+pub not_negative-small : (a : ℤ) → pos 0 ≤ℤ a → a <ℤ pos (2 ^ 120) → InRange a
 not_negative-small (pos a) low high = omega (arith, ints)
 not_negative-small (negsuc a) low high = absurd (omega (arith, ints))
 
@@ -70,16 +68,16 @@ numbers_shape den value some low small =
     let turned = *ℤ_comm value den in
     (not_negative-small den (omega (arith, ints, some)) (omega (arith, ints, apart, one, least, small)), not_negative-small value low (omega (arith, ints, apart, one, some, more, less, same, turned, small)))
 
-module _ (book : Book) (z : List ℕ) (long : length z ≡ bidders_of book) (choices : (c : List ℕ) → IsTrue ((market_of book).allowed c) → IsChoice (bidders_of book) c) (den : ℤ) (at : List ℤ) (rows : List PricedRow) (kept : AllByRecursion (IsKept (market_of book) z den at) rows)
+module _ (m : Market) (z : List ℕ) (long : length z ≡ m.bidders) (choices : (c : List ℕ) → IsTrue (m.allowed c) → IsChoice m.bidders c) (den : ℤ) (at : List ℤ) (rows : List PricedRow) (kept : AllByRecursion (IsKept m z den at) rows)
     (first : AreFirst (winners_in z) (length rows) (coefficients (rows_in rows)) (bounds (rows_in rows)) den (nth at) (nth (firsts rows)))
     (sums : SumsTo (winners_in z) (length rows) (coefficients (rows_in rows)) den (nth (firsts rows)))
     (small : InRange den) (seconds_small : AreBelow (2 ^ 109) (seconds rows)) where
-  kept-at : (i : ℕ) → i < length rows → IsKept (market_of book) z den at (priced_at rows i)
-  kept-at i lt = each-at (IsKept (market_of book) z den at) rows kept i no_row lt
+  kept-at : (i : ℕ) → i < length rows → IsKept m z den at (priced_at rows i)
+  kept-at i lt = each-at (IsKept m z den at) rows kept i no_row lt
 
   -- each row holds a winner
   held : (i : ℕ) → i < length rows → (k : ℕ) × (k < length z) × (has_bit z (priced_at rows i).row.members k ≡ true)
-  held i lt = let m = (kept-at i lt).given.members in some-bit z (priced_at rows i).row.members m.0 m.1
+  held i lt = let h = (kept-at i lt).given.members in some-bit z (priced_at rows i).row.members h.0 h.1
 
   -- so its first multiplier is one of those that come to the denominator at that winner
   first-within : (i : ℕ) → i < length rows → (priced_at rows i).first ≤ℤ den
@@ -105,7 +103,7 @@ module _ (book : Book) (z : List ℕ) (long : length z ≡ bidders_of book) (cho
       let b : suc h.0 - 1 ≡ h.0 = omega arith in
       member-some (row_from z (priced_at rows i)).members (suc h.0) (member-is (row_of z (priced_at rows i).row.members) (length z) (suc h.0) (omega arith) h.1 ∙ ap (has_bit z (priced_at rows i).row.members) b ∙ h.2)
 
-  row-shape : (i : ℕ) → i < length rows → IsRow (bidders_of book) (row_from z (priced_at rows i))
+  row-shape : (i : ℕ) → i < length rows → IsRow m.bidders (row_from z (priced_at rows i))
   row-shape i lt = record {
     some = has-member i lt;
     members = rw⁻¹ long (members-rise (row_of z (priced_at rows i).row.members) (length z));
@@ -116,18 +114,18 @@ module _ (book : Book) (z : List ℕ) (long : length z ≡ bidders_of book) (cho
     );
   }
 
-all-shape : (book : Book) (z : List ℕ) (kept : List PricedRow) → ((i : ℕ) → i < length kept → IsRow (bidders_of book) (row_from z (priced_at kept i))) → AreRows (bidders_of book) (map (row_from z) kept)
-all-shape book z [] h = tt
-all-shape book z (r ∷ kept) h = (h 0 (omega arith), all-shape book z kept (λ i lt. h (suc i) (omega arith)))
+all-shape : (m : Market) (z : List ℕ) (kept : List PricedRow) → ((i : ℕ) → i < length kept → IsRow m.bidders (row_from z (priced_at kept i))) → AreRows m.bidders (map (row_from z) kept)
+all-shape m z [] h = tt
+all-shape m z (r ∷ kept) h = (h 0 (omega arith), all-shape m z kept (λ i lt. h (suc i) (omega arith)))
 
-pub rows_shape : (book : Book) (z : List ℕ) → length z ≡ bidders_of book → ((c : List ℕ) → IsTrue ((market_of book).allowed c) → IsChoice (bidders_of book) c) → (den : ℤ) (at : List ℤ) (rows : List PricedRow)
-    → AllByRecursion (IsKept (market_of book) z den at) rows
+pub rows_shape : (m : Market) (z : List ℕ) → length z ≡ m.bidders → ((c : List ℕ) → IsTrue (m.allowed c) → IsChoice m.bidders c) → (den : ℤ) (at : List ℤ) (rows : List PricedRow)
+    → AllByRecursion (IsKept m z den at) rows
     → AreFirst (winners_in z) (length rows) (coefficients (rows_in rows)) (bounds (rows_in rows)) den (nth at) (nth (firsts rows))
     → SumsTo (winners_in z) (length rows) (coefficients (rows_in rows)) den (nth (firsts rows))
     → InRange den → AreBelow (2 ^ 109) (seconds rows)
-    → AreRows (bidders_of book) (map (row_from z) rows)
-rows_shape book z long choices den at rows kept first sums small seconds_small =
-    all-shape book z rows (λ i lt. row-shape book z long choices den at rows kept first sums small seconds_small i lt)
+    → AreRows m.bidders (map (row_from z) rows)
+rows_shape m z long choices den at rows kept first sums small seconds_small =
+    all-shape m z rows (λ i lt. row-shape m z long choices den at rows kept first sums small seconds_small i lt)
 
 pub rows_few : (z : List ℕ) (rows : List PricedRow) → length rows ≤ winners_in z → winners_in z ≤ 6 → length (map (row_from z) rows) ≤ 10
 rows_few z rows count few = let e = length-map rows (row_from z) in omega (arith, e)
@@ -146,15 +144,15 @@ parts-shape bidders width s (suc n ∷ z) (x ∷ singles) (t ∷ tables) e count
   parts-shape bidders width (suc s) z singles tables (ap rest e) (omega arith) (λ i lt. choices (suc i) (omega arith)) (λ i lt. shaped (suc i) (omega arith)),
 )
 
-pub withouts_shape : (book : Book) (z : List ℕ) → length z ≡ bidders_of book → ((c : List ℕ) → IsTrue ((market_of book).allowed c) → IsChoice (bidders_of book) c) → (singles : List Single) (tables : List (List (List ℤ)))
-    → AreSingles (market_of book) z singles → length tables ≡ length singles → ((i : ℕ) → i < length tables → IsTable (bidders_of book) (states book) (slice_index_or tables i []))
-    → AreWithouts (bidders_of book) (states book) 1 z (parts_from singles tables)
-withouts_shape book z long choices singles tables are count shaped = parts-shape (bidders_of book) (states book) 0 z singles tables are.winners count choice shaped
+pub withouts_shape : (m : Market) (width : ℕ) (z : List ℕ) → length z ≡ m.bidders → ((c : List ℕ) → IsTrue (m.allowed c) → IsChoice m.bidders c) → (singles : List Single) (tables : List (List (List ℤ)))
+    → AreSingles m z singles → length tables ≡ length singles → ((i : ℕ) → i < length tables → IsTable m.bidders width (slice_index_or tables i []))
+    → AreWithouts m.bidders width 1 z (parts_from singles tables)
+withouts_shape m width z long choices singles tables are count shaped = parts-shape m.bidders width 0 z singles tables are.winners count choice shaped
   where
-    choice : (i : ℕ) → i < length singles → IsChoice (bidders_of book) (single_at singles i).choice
+    choice : (i : ℕ) → i < length singles → IsChoice m.bidders (single_at singles i).choice
     choice i lt =
-        let s = each-at (IsSingle (market_of book) z) singles are.each i (record { winner = 0; price = pos 0; choice = [] }) lt in
-        choices (single_at singles i).choice (and_parts ((market_of book).allowed (single_at singles i).choice) (not (uses (single_at singles i).choice (single_at singles i).winner)) s.choice.passed).0
+        let s = each-at (IsSingle m z) singles are.each i (record { winner = 0; price = pos 0; choice = [] }) lt in
+        choices (single_at singles i).choice (and_parts (m.allowed (single_at singles i).choice) (not (uses (single_at singles i).choice (single_at singles i).winner)) s.choice.passed).0
 
 numbers-shape : (at : List ℤ) → AreBelow (2 ^ 109) at → AllInRange at
 numbers-shape [] small = tt
@@ -169,5 +167,5 @@ bidders-shape (zero ∷ z) at h = (zero_small, bidders-shape z at h)
 bidders-shape (suc n ∷ z) [] h = (zero_small, bidders-shape z [] h)
 bidders-shape (suc n ∷ z) (a ∷ at) h = (h.0, bidders-shape z at h.1)
 
-pub pay_shape : (book : Book) (z : List ℕ) → length z ≡ bidders_of book → (at : List ℤ) → AreBelow (2 ^ 109) at → (length (for_bidders z at) ≡ bidders_of book) × AllInRange (for_bidders z at)
-pay_shape book z long at small = (all-bidders z at ∙ long, bidders-shape z at (numbers-shape at small))
+pub pay_shape : (m : Market) (z : List ℕ) → length z ≡ m.bidders → (at : List ℤ) → AreBelow (2 ^ 109) at → (length (for_bidders z at) ≡ m.bidders) × AllInRange (for_bidders z at)
+pay_shape m z long at small = (all-bidders z at ∙ long, bidders-shape z at (numbers-shape at small))

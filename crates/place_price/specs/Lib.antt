@@ -1,0 +1,4 @@
+pub mod PlacedParts
+pub mod PlacedRows
+pub mod Ones
+pub mod Found

@@ -1,0 +1,14 @@
+use Rattle.std.proofs.Common.{◌≡◌, take, map}
+use Rattle.std.specs.List.{AllByRecursion}
+use Rattle.choices.specs.declared.chooser.Single.{Single}
+use Rattle.choices.specs.Singles.{winners_after, IsSingle}
+use Rattle.place_price.specs.PlacedParts.{ArePartsOf}
+use Rattle.slot_places.specs.Board.{market_of}
+use Rattle.place_price.proofs.alone.each_winner.Given as goal
+
+abbrev pub invariant-loop-k : goal.invariant-loop-k
+invariant-loop-k l = record {
+  winners : map (λ (s : Single). s.winner) l.singles.items ≡ winners_after 0 (take l.k l.chooser.winners);
+  each : AllByRecursion (IsSingle (market_of l.chooser.slots.now) l.chooser.winners) l.singles.items;
+  parts : ArePartsOf l.chooser.slots.now l.singles.items l.parts;
+}

@@ -1,0 +1,82 @@
+// The winners, each alone.
+ghost use Rattle.std.specs.Prelude.{◌≡◌, ◌≤◌, ◌<◌, IfOk, IsTrue, length};
+ghost use Rattle.auction_model.specs.Market.{uses, value_of};
+ghost use Rattle.choices.specs.Singles.{AreSingles, IsSingle};
+ghost use Rattle.place_price.specs.PlacedParts.{ArePartsOf, IsPartOf};
+ghost use Rattle.slot_places.specs.Board.{market_of};
+
+use crate::placing::placement;
+use choices::{Chooser, Single};
+use place_cert::{PlaceWithout, PlaceWithouts};
+use slot_places::SlotChooser;
+use std::alloc::{AllocError, Global};
+
+/// All winners in order, each alone, with the parts of the certificate without each of them.
+#[derive(Drop)]
+pub struct Alone {
+    pub singles: Vec<Single>,
+    pub parts: PlaceWithouts,
+}
+
+/// A winner alone, with the part of the certificate without it.
+#[derive(Drop)]
+struct One {
+    single: Single,
+    part: PlaceWithout,
+}
+
+/// The winners, each alone. The winning choice has the worth `value`.
+pub(crate) fn each_winner(
+    alloc: Global,
+    chooser: &SlotChooser,
+    value: i128,
+) -> Result<Alone, AllocError>
+    requires { value ≡ value_of (market_of chooser.now.slots.now) chooser.now.winners }
+    ensures singles { IfOk result (λ a. AreSingles (market_of chooser.now.slots.now) chooser.now.winners a.singles.items) }
+    ensures parts { IfOk result (λ a. ArePartsOf chooser.now.slots.now a.singles.items a.parts) }
+{
+    let mut singles = Vec::new(alloc);
+    let mut parts = PlaceWithouts::new(alloc);
+    for k in 0..chooser.slots.bidders() {
+        let j = k as u16 + 1;
+        if chooser.winners.number(j) != 0 {
+            let one = without_winner(alloc, chooser, value, j)?;
+            singles.push(one.single)?;
+            parts.push(one.part)?;
+        }
+    }
+    Ok(Alone { singles, parts })
+}
+
+/// Winner `j` alone. Its price is what the others reach without it, less what they win with.
+fn without_winner(
+    alloc: Global,
+    chooser: &SlotChooser,
+    value: i128,
+    j: u16,
+) -> Result<One, AllocError>
+    requires value { value ≡ value_of (market_of chooser.now.slots.now) chooser.now.winners }
+    requires bidder { (0 < j) × (j ≤ length chooser.now.slots.now.bidders) }
+    requires used { IsTrue (uses chooser.now.winners j) }
+    ensures winner { IfOk result (λ o. o.single.winner ≡ j) }
+    ensures single { IfOk result (λ o. IsSingle (market_of chooser.now.slots.now) chooser.now.winners o.single) }
+    ensures part { IfOk result (λ o. IsPartOf chooser.now.slots.now o.single o.part) }
+{
+    let _bidders = chooser.slots.bidders();
+    let found = chooser.best_without(alloc, j)?;
+    let order = placement(alloc, chooser.slots, &found.choice)?;
+    let choice = found.choice.copied(alloc)?;
+    let own = chooser.winner_value(j);
+    let single = Single {
+        winner: j,
+        price: found.sum - (value - own),
+        choice,
+    };
+    let part = PlaceWithout {
+        winner: j,
+        choice: found.choice,
+        order,
+        table: found.table,
+    };
+    Ok(One { single, part })
+}

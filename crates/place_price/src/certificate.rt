@@ -1,0 +1,60 @@
+// The certificate of the prices of slots.
+ghost use Rattle.std.specs.Prelude.{◌≡◌, IfOk, List, length};
+ghost use Rattle.cert_laws.specs.Sound.{cert_point};
+ghost use Rattle.choices.specs.declared.chooser.Single.{Single};
+ghost use Rattle.core_price.specs.Turns.{point_of};
+ghost use Rattle.place_cert.specs.CertValues.{place_cert_value};
+ghost use Rattle.place_laws.specs.PlacePriced.{IsPricedPlaceCert};
+ghost use Rattle.place_price.specs.Found.{AreFound};
+
+use crate::bidder_rows::all_rows;
+use crate::placing::placement;
+use crate::pricing::PricedPlaces;
+use choices::{Found, Grid};
+use core_price::{Priced, for_bidders};
+use place_cert::{PlaceCertificate, PlaceWithouts};
+use slot_places::Slots;
+use std::alloc::{AllocError, Global};
+use wide_num::NumList;
+
+/// The certificate of what was found, with the turns of pricing.
+pub(crate) fn certificate(
+    alloc: Global,
+    slots: &Slots,
+    whole: Found<Grid>,
+    parts: PlaceWithouts,
+    priced: Priced<Grid>,
+) -> Result<PricedPlaces, AllocError>
+    requires { (singles : List Single) × AreFound slots.now whole singles parts priced }
+    ensures choice { IfOk result (λ p. p.cert.choice ≡ whole.choice) }
+    ensures point { IfOk result (λ p. cert_point (place_cert_value p.cert).cert ≡ point_of whole.choice priced.den priced.at) }
+    ensures cert { IfOk result (λ p. IsPricedPlaceCert slots.now (place_cert_value p.cert)) }
+    ensures turns { IfOk result (λ p. p.turns ≡ priced.turns) }
+{
+    let _bidders = slots.bidders();
+    let Found { choice, sum, table } = whole;
+    let Priced {
+        den,
+        at,
+        rows,
+        last,
+        turns,
+    } = priced;
+    let order = placement(alloc, slots, &choice)?;
+    let paid = at.items();
+    let pay = NumList::from_vec(for_bidders(alloc, &choice, paid)?);
+    let kept = rows.items();
+    let rows = all_rows(alloc, slots, &choice, kept)?;
+    let cert = PlaceCertificate {
+        den,
+        value: sum,
+        choice,
+        order,
+        table,
+        withouts: parts,
+        pay,
+        rows,
+        lowered: last.table,
+    };
+    Ok(PricedPlaces { cert, turns })
+}
