@@ -1,27 +1,22 @@
 -- What the facts of a certificate say of its winners: they are those of the choice, in order, and each has its Vickrey price, which is small.
-use Rattle.std.proofs.Common.{◌≡◌, ℕ, zero, suc, ◌≤◌, ◌^◌, cond, List, [], ◌∷◌, map, pos, unsigned_abs, refl, sym, ap, subst, ◌∙◌}
+use Rattle.std.proofs.Common.{◌≡◌, ℕ, ◌≤◌, ◌^◌, cond, List, [], ◌∷◌, map, pos, unsigned_abs, refl, sym, ap, subst, ◌∙◌}
 use Rattle.std.specs.List.{AllByRecursion}
 use Rattle.auction_model.specs.Book.{Book}
 use Rattle.bid_book.specs.Kept.{IsBidBook}
 use Rattle.cert_form.specs.Certificate.{CertValue, WithoutValue}
-use Rattle.cert_form.specs.CertText.{AreWithouts}
 use Rattle.cert_laws.specs.Sound.{cert_prices}
 use Rattle.cert_laws.specs.Tests.{vickrey_of}
 use Rattle.choices.specs.declared.chooser.Single.{Single}
 use Rattle.choices.specs.Singles.{winners_after}
-use Rattle.cert_facts.specs.declared.facts.CertFacts.{CertFacts}
+use Rattle.cert_facts.specs.declared.shown.CertFacts.{CertFacts}
 use Rattle.cert_facts.specs.Facts.{AreFacts, single_of}
 use Rattle.cert_facts.proofs.Known.{vickrey-small}
-use Rattle.cert_facts.proofs.PartLaws.{Wins, parts-win}
+use Rattle.cert_facts.proofs.PartLaws.{parts-are, parts-win}
+use Rattle.cert_facts.proofs.Winners.{Wins}
 
--- k bidders being passed
-in-order : (book : Book) (c : CertValue) (b s k : ℕ) (z : List ℕ) (ws : List WithoutValue) → AreWithouts b s (suc k) z ws → map (λ (x : Single). x.winner) (map (single_of book c) ws) ≡ winners_after k z
-in-order book c b s k [] [] are = refl
-in-order book c b s k [] (w ∷ ws) are = absurd are
-in-order book c b s k (zero ∷ z) ws are = in-order book c b s (suc k) z ws are
-in-order book c b s k (suc n ∷ z) [] are = absurd are
-in-order book c b s k (suc n ∷ z) (w ∷ ws) are =
-    ap (λ (j : ℕ). j ∷ map (λ (x : Single). x.winner) (map (single_of book c) ws)) are.0.winner ∙ ap (λ (l : List ℕ). suc k ∷ l) (in-order book c b s (suc k) z ws are.1)
+same-winners : (book : Book) (c : CertValue) (ws : List WithoutValue) → map (λ (x : Single). x.winner) (map (single_of book c) ws) ≡ map (λ w. w.winner) ws
+same-winners book c [] = refl
+same-winners book c (w ∷ ws) = ap (λ (l : List ℕ). w.winner ∷ l) (same-winners book c ws)
 
 -- what holds of the single of each part whose winner the choice uses
 each-single : (T : Single → Type 0) (book : Book) (c : CertValue) (ws : List WithoutValue) → AllByRecursion (λ w. Wins c.choice w.winner) ws → ((w : WithoutValue) → Wins c.choice w.winner → T (single_of book c w)) → AllByRecursion T (map (single_of book c) ws)
@@ -31,7 +26,7 @@ each-single T book c (w ∷ ws) win h = (h w win.0, each-single T book c ws win.
 module _ (book : Book) (c : CertValue) (facts : CertFacts) (are : AreFacts book c facts) where
   pub winners-are : map (λ (s : Single). s.winner) facts.singles ≡ winners_after 0 facts.choice
   winners-are =
-      ap (map (λ (s : Single). s.winner)) are.singles ∙ in-order book c _ _ 0 c.choice c.withouts are.of.certificate.withouts ∙ ap (winners_after 0) (sym are.choice)
+      ap (map (λ (s : Single). s.winner)) are.singles ∙ same-winners book c c.withouts ∙ parts-are _ _ 0 c.choice c.withouts are.of.certificate.withouts ∙ ap (winners_after 0) (sym are.choice)
 
   each : (T : Single → Type 0) → ((w : WithoutValue) → Wins c.choice w.winner → T (single_of book c w)) → AllByRecursion T facts.singles
   each T h = subst (AllByRecursion T) (sym are.singles) (each-single T book c c.withouts (parts-win _ _ c.choice c.withouts are.of.certificate.withouts) h)

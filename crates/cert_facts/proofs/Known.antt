@@ -1,5 +1,6 @@
 -- A certificate of which its facts can be told: its choice and its parts are known, and their numbers are small.
-use Rattle.std.proofs.Common.{◌≡◌, ℕ, suc, ◌+◌, ◌-◌, ◌*◌, ◌≤◌, ◌<◌, ◌^◌, ◌==◌, nat_le, not, true, IsTrue, List, [], ◌∷◌, length, get_or, ℤ, pos, ◌-ℤ◌, ◌+ℤ◌, ◌≤ℤ◌, unsigned_abs, refl, sym, ap, subst, arith, eq-eqb}
+use Rattle.std.proofs.Common.{◌≡◌, ℕ, suc, ◌+◌, ◌-◌, ◌*◌, ◌≤◌, ◌<◌, ◌^◌, nat_le, IsTrue, List, [], ◌∷◌, length, get_or, ℤ, pos, ◌-ℤ◌, ◌+ℤ◌, ◌≤ℤ◌, unsigned_abs, FitsSigned, to_z, of_z, refl, ap, subst, ◌∙◌, arith, eq-eqb}
+use Rattle.std.specs.Int.{w128}
 use Rattle.std.proofs.lemmas.Int.{ints}
 use Rattle.std.proofs.lemmas.Bool.{and_from, and_parts, le-leb}
 use Rattle.auction_model.specs.Book.{Book, bids_of, menu_of, market_of}
@@ -56,3 +57,21 @@ module _ (book : Book) (c : CertValue) (has : HasFacts book c) where
       vickrey-small =
           let other = value-between book kept (part_of c.withouts j).choice part-known in
           omega (arith, ints, other.0, other.1, value-small.0, value-small.1, won-small.0, won-small.1)
+
+      -- x is the value of the choice without the winner, and n the net amount of its bid
+      module _ (x n : ℤ) (value : x ≡ value_of (market_of book) (part_of c.withouts j).choice) (net : n ≡ won book c j) where
+        other : (pos 0 ≤ℤ x) × (x ≤ℤ pos (16 * 2 ^ 42))
+        other = let v = value-between book kept (part_of c.withouts j).choice part-known in (omega (arith, ints, value, v.0), omega (arith, ints, value, v.1))
+
+        own : (pos 0 ≤ℤ n) × (n ≤ℤ pos (2 ^ 42))
+        own = (omega (arith, ints, net, won-small.0), omega (arith, ints, net, won-small.1))
+
+        -- the price is put together without leaving the range
+        pub price-fits : FitsSigned w128 (to_z w128 (of_z w128 (to_z w128 (of_z w128 x) -ℤ to_z w128 (of_z w128 c.value))) +ℤ to_z w128 (of_z w128 n))
+        price-fits = omega (arith, ints, other.0, other.1, value-small.0, value-small.1, own.0, own.1)
+
+        pub price-is : to_z w128 (of_z w128 (to_z w128 (of_z w128 (to_z w128 (of_z w128 x) -ℤ to_z w128 (of_z w128 c.value))) +ℤ to_z w128 (of_z w128 n))) ≡ vickrey_of book c j
+        price-is =
+            let sum : to_z w128 (of_z w128 (to_z w128 (of_z w128 (to_z w128 (of_z w128 x) -ℤ to_z w128 (of_z w128 c.value))) +ℤ to_z w128 (of_z w128 n))) ≡ (x -ℤ c.value) +ℤ n =
+            omega (arith, ints, other.0, other.1, value-small.0, value-small.1, own.0, own.1) in
+            sum ∙ ap (λ (y : ℤ). (y -ℤ c.value) +ℤ n) value ∙ ap (λ (y : ℤ). (value_of (market_of book) (part_of c.withouts j).choice -ℤ c.value) +ℤ y) net

@@ -1,4 +1,5 @@
 pub mod Ranges
 pub mod Known
+pub mod Winners
 mod PartLaws
 pub mod FactLaws

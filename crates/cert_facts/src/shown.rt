@@ -1,4 +1,4 @@
-// The facts of a certificate.
+// The facts that a certificate shows.
 ghost use Rattle.std.specs.Prelude.{◌≡◌, ◌≤◌, ◌^◌, IfOk, map};
 ghost use Rattle.cert_facts.specs.Facts.{AreFacts, HasFacts, single_of};
 ghost use Rattle.cert_facts.specs.Parts.{IsPartOf};
@@ -9,7 +9,7 @@ ghost use Rattle.cert_text.specs.Parts.{without_value};
 use crate::Singles;
 use bid_book::BidBook;
 use cert_text::{Certificate, WithoutPart};
-use choices::{Choice, Single, value};
+use choices::{Choice, Single, value, worth};
 use std::alloc::{AllocError, Global};
 use wide_num::NumList;
 
@@ -81,5 +81,5 @@ fn vickrey(book: &BidBook, cert: &Certificate, part: &WithoutPart) -> i128
 {
     book.kept();
     let bid = cert.choice.number(part.winner);
-    value(book, &part.choice) - cert.value + book.net(part.winner, bid)
+    value(book, &part.choice) - cert.value + worth(book, part.winner, bid)
 }
