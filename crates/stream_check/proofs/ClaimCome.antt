@@ -1,5 +1,5 @@
 -- What a line has whose tests need the first three.
-use Rattle.std.proofs.Common.{◌≡◌, ℕ, suc, ◌+◌, ◌-◌, ◌<◌, ◌≤◌, List, [], ◌∷◌, inl, refl, sym, subst, arith}
+use Rattle.std.proofs.Common.{◌≡◌, ℕ, suc, ◌<◌, ◌≤◌, List, [], ◌∷◌, inl, refl, sym, subst, arith}
 use Rattle.std.specs.Prelude.{ℤ, Option, None, IsTrue}
 use Rattle.auction_model.specs.Book.{Book}
 use Rattle.auction_model.specs.Prices.{weight_of}
@@ -7,8 +7,6 @@ use Rattle.bid_book.specs.Kept.{IsBidBook}
 use Rattle.auction_model.specs.Market.{uses}
 use Rattle.cert_form.specs.Certificate.{CertValue, part_of}
 use Rattle.cert_form.specs.CertText.{IsChoice, as_numbers}
-use Rattle.cert_form.proofs.Written.{long_numbers}
-use Rattle.cert_pieces.proofs.Comings.{finds}
 use Rattle.cert_laws.specs.Tests.{Asks, C4, IsPart, bidders_of, states}
 use Rattle.cert_check.specs.declared.claim.Claim.{Claim}
 use Rattle.cert_check.specs.Head.{HeadHolds, IsHead}
@@ -24,7 +22,7 @@ use Rattle.stream_check.specs.InRoom.{fields_come, parts_come}
 use Rattle.stream_check.specs.Lines.{IsNext}
 use Rattle.stream_check.specs.Moments.{IsAt, IsClaimOf}
 use Rattle.stream_check.specs.Tests.{IsClaimed, IsFound, IsRowsEnd, test_due}
-use Rattle.stream_check.proofs.NextLaws.{at-due, next-due, found-by, found-next, loses}
+use Rattle.stream_check.proofs.NextLaws.{at-due, next-due, found-by, found-next, part-choice}
 
 -- the head and its choice have come, and the first four tests are made
 record IsLater (due : Due) : Type 0 where
@@ -131,10 +129,7 @@ module _ (at : Moment) (c : CertValue) (is : IsAt at c) (due : IsClaimed at.due)
 
 -- each winner has a part
 pub part-whole : (at : Moment) (c : CertValue) (is : IsAt at c) (j : ℕ) → 0 < j → j ≤ bidders_of at.book.now → IsTrue (uses c.choice j) → IsChoice (bidders_of at.book.now) (part_of c.withouts j).choice
-part-whole at c is j some inside wins =
-    let back : j - 1 + 1 ≡ j = omega (arith, some) in
-    let found = finds (bidders_of at.book.now) (states at.book.now) c is.kept (as_numbers c.choice) refl (j - 1) (omega (arith, some, inside, long_numbers c.choice, is.kept.choice.0)) (λ none. loses c.choice j none wins) in
-    subst (λ (n : ℕ). IsChoice (bidders_of at.book.now) (part_of c.withouts n).choice) back found.1.choice
+part-whole at c is = part-choice (bidders_of at.book.now) (states at.book.now) c is.kept
 
 -- in the words of the claim
 pub parts-of-claim : (at : Moment) (c : CertValue) (is : IsAt at c) (due : IsClaimed at.due) (a : Claim) → IsClaimOf at a → (j : ℕ) → 0 < j → j ≤ bidders_of a.book.now → IsTrue (uses a.choice.now j) → IsPart a.book.now j (part_of c.withouts j)

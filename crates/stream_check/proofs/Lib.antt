@@ -16,3 +16,5 @@ mod RowTests
 mod TotalsTests
 mod MemberCome
 mod NumberLaws
+mod FactLaws
+mod WholeCerts

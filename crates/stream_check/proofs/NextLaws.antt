@@ -5,8 +5,9 @@ use Rattle.std.specs.Prelude.{pos, Option, Some, None, IsTrue}
 use Rattle.auction_model.specs.Book.{Book}
 use Rattle.auction_model.specs.Market.{number_of, uses}
 use Rattle.auction_model.specs.Prices.{weight_of}
-use Rattle.cert_form.specs.Certificate.{CertValue}
-use Rattle.cert_form.specs.CertText.{as_numbers}
+use Rattle.cert_form.specs.Certificate.{CertValue, part_of}
+use Rattle.cert_form.specs.CertText.{IsCertificate, IsChoice, as_numbers}
+use Rattle.cert_form.proofs.Written.{long_numbers}
 use Rattle.cert_laws.specs.Tests.{Asks, C4, bidders_of}
 use Rattle.cert_check.specs.declared.failure.Failure.{Failure}
 use Rattle.cert_check.specs.Partway.{HoldsTo, IsJudged}
@@ -17,6 +18,7 @@ use Rattle.cert_pieces.specs.declared.due.Due.{Due}
 use Rattle.cert_pieces.specs.declared.due.Due.TheVariants.{Version, Limits, Den, Value, Choice, Title, Entries, Without, PartChoice, Payments, Rows, Members, Multipliers, RowChoice, End, Nothing}
 use Rattle.cert_pieces.specs.declared.due.Table.TheVariants.{Head, Part, Lowered}
 use Rattle.cert_pieces.specs.Order.{IsPartNext, NoneFrom}
+use Rattle.cert_pieces.proofs.Comings.{finds}
 use Rattle.stream_check.specs.declared.moment.Moment.{Moment}
 use Rattle.stream_check.specs.Lines.{IsAtLine, IsNext}
 use Rattle.stream_check.specs.Moments.{IsAt}
@@ -48,6 +50,12 @@ loses choice j none wins =
 -- and another one wins
 wins : (choice : List ℕ) (j : ℕ) → get_or (as_numbers choice) (j - 1) (pos 0) ≢ pos 0 → IsTrue (uses choice j)
 wins choice j some = wins-some choice j (number_of choice j) refl (λ e. some (number-is choice (j - 1) ∙ ap pos e))
+
+-- the part of each winner is for as many bidders as the certificate
+pub part-choice : (b s : ℕ) (c : CertValue) → IsCertificate b s c → (j : ℕ) → 0 < j → j ≤ b → IsTrue (uses c.choice j) → IsChoice b (part_of c.withouts j).choice
+part-choice b s c kept j some inside wins =
+    let found = finds b s c kept (as_numbers c.choice) refl (j - 1) (omega (arith, some, inside, long_numbers c.choice, kept.choice.0)) (λ none. loses c.choice j none wins) in
+    subst (λ (n : ℕ). IsChoice b (part_of c.withouts n).choice) {x = j - 1 + 1} {y = j} (omega (arith, some)) found.1.choice
 
 module _ (book : Book) (w : ℕ → ℕ) (c : CertValue) where
   pub asks-C4 : (place : ℕ) → C4 book c place → Asks book w c 4 place

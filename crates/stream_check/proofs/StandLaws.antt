@@ -81,27 +81,30 @@ module _ (book : Book) (w : ℕ → ℕ) where
       }
 
   -- what is known of the certificate at the end
-  judged-last : (c : CertValue) (rest : List Line) (due : Due) (failed : Option Failure) (late : Option ℕ) (members : ℕ) (totals : RowTotals) (room : List ℤ) → due ≡ Nothing → HasCome book w c rest due failed late members totals room → IsJudged book w c 10 0 failed
-  judged-last c rest due (Some f) late members totals room done has = has
-  judged-last c rest due None late members totals room done has = (subst (λ (d : Due). IsLeft book w c rest d late members totals room) done has).known.tested.holds
+  judged-last : (c : CertValue) (failed : Option Failure) (late : Option ℕ) (members : ℕ) (totals : RowTotals) (room : List ℤ) → HasCome book w c [] Nothing failed late members totals room → IsJudged book w c 10 0 failed
+  judged-last c (Some f) late members totals room has = has
+  judged-last c None late members totals room has = has.known.tested.holds
 
   -- a certificate whose text it is, with all that is known of it
-  pub record IsDone (text : List ℕ) (failed : Option Failure) : Type 0 where
+  pub record IsDone (text : List ℕ) (failed : Option Failure) (late : Option ℕ) (members : ℕ) (totals : RowTotals) (room : List ℤ) : Type 0 where
     pub cert : CertValue
     pub kept : IsCertificate (bidders_of book) (states book) cert
     pub says : CertSays (bidders_of book) (states book) text (stated cert)
+    pub come : HasCome book w cert [] Nothing failed late members totals room
     pub judged : IsJudged book w cert 10 0 failed
 
   pub at-end : (due : Due) (part : LinePart) (place read : ℕ) (room : List ℤ) (text : List ℕ) (items : List Line) (failed : Option Failure) (late : Option ℕ) (members : ℕ) (totals : RowTotals) → due ≡ Nothing
-      → IsReading (bidders_of book) (states book) due part place read room text items → IsKnown book w due failed late members totals room items → IsDone text failed
+      → IsReading (bidders_of book) (states book) due part place read room text items → IsKnown book w due failed late members totals room items → IsDone text failed late members totals room
   at-end due part place read room text items failed late members totals done reading known =
       let own : IsTextOf (IsCertText (bidders_of book) (states book)) lines text items = whole_text (bidders_of book) (states book) due part place read room text items reading done in
       let c = cert_of (bidders_of book) (states book) items own.valid (none_out 0 items own.within) in
+      let last : HasCome book w c.cert [] Nothing failed late members totals room = subst (λ (d : Due). HasCome book w c.cert [] d failed late members totals room) done (known c.cert c.kept [] (c.whole ∙ sym (append-nil items))) in
       record {
         cert = c.cert;
         kept = c.kept;
         says = (c.kept, subst (λ (l : List Line). IsTextOf (IsCertText (bidders_of book) (states book)) lines text l) (sym c.whole) own);
-        judged = judged-last c.cert [] due failed late members totals room done (known c.cert c.kept [] (c.whole ∙ sym (append-nil items)));
+        come = last;
+        judged = judged-last c.cert failed late members totals room last;
       }
 
   -- what had failed goes on failing

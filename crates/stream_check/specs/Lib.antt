@@ -5,3 +5,4 @@ pub mod Rules
 pub mod Lines
 pub mod Moments
 pub mod Standing
+pub mod WholeRoom

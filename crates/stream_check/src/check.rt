@@ -2,25 +2,30 @@
 ghost use Rattle.std.specs.Prelude.{◌≡◌, ◌≤◌, ◌<◌, ◌+◌, ◌^◌, ℕ, List, [], ◌∷◌, ◌++◌, length, IfOk, IfErr, ℤ, None};
 ghost use Rattle.auction_model.specs.Prices.{AreWeights, weight_of};
 ghost use Rattle.line_text.specs.LineText.{stated};
+ghost use Rattle.cert_facts.specs.Facts.{AreFacts};
 ghost use Rattle.cert_form.specs.Certificate.{CertValue};
 ghost use Rattle.cert_form.specs.Lines.{Line};
 ghost use Rattle.cert_form.specs.Says.{CertSays};
 ghost use Rattle.cert_laws.specs.Sound.{IsSound};
-ghost use Rattle.cert_laws.specs.Tests.{bidders_of, states};
+ghost use Rattle.cert_laws.specs.Tests.{Holds, bidders_of, states};
 ghost use Rattle.cert_check.specs.Verdicts.{IsVerdict};
 ghost use Rattle.cert_pieces.specs.Pieces.{between};
 ghost use Rattle.cert_pieces.specs.Rooms.{room_size};
 ghost use Rattle.cert_pieces.specs.Stops.{SaysStop};
 
+use crate::facts::facts_in;
 use crate::judging::judged;
 use crate::kept::{members_behind, totals_behind};
 use crate::moment::Moment;
 use crate::row_totals::{RowTotals, no_totals};
 use bid_book::BidBook;
 use cert_check::{Failure, Verdict, verdict_of};
-use cert_laws::sound_yes;
+use cert_facts::CertFacts;
+use cert_form::one_cert;
+use cert_laws::{one_verdict, sound_yes};
 use cert_pieces::{Due, Progress, Reader, TextStop, room_len};
 use cert_text::Shape;
+use std::alloc::{AllocError, Global};
 
 /// Checks a certificate of a book, of which pieces of bytes come.
 #[derive(Drop)]
@@ -104,6 +109,17 @@ impl<'a> StreamCheck<'a> {
             Err(stop) => Err(stop),
             Ok(()) => Ok(verdict_of(self.failed)),
         }
+    }
+
+    /// The facts of the certificate whose text was fed. The condition is that `finish` answers yes. The only error is want of memory.
+    pub fn read_facts(&self, alloc: Global, room: &[i128]) -> Result<CertFacts, AllocError>
+        requires room { length room.now ≡ room_size (bidders_of self.now.book.now) (states self.now.book.now) }
+        requires yes { (text : List ℕ) × StandsFor self.now room.now text × ((c : CertValue) × CertSays (bidders_of self.now.book.now) (states self.now.book.now) text (stated c) × Holds self.now.book.now (weight_of self.now.weights.now) c) }
+        ensures { (text : List ℕ) → StandsFor self.now room.now text → IfOk result (λ f. (c : CertValue) × CertSays (bidders_of self.now.book.now) (states self.now.book.now) text (stated c) × AreFacts self.now.book.now c f) }
+    {
+        one_cert();
+        one_verdict();
+        Ok(facts_in(alloc, self.book, room)?)
     }
 
     /// Feeds the bytes of a piece from a place on, up to the end of the line at most. Gives the place behind them.

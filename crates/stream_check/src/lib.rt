@@ -6,6 +6,7 @@
 
 mod check;
 mod claims;
+mod facts;
 mod finding;
 mod heads;
 mod judging;
@@ -17,5 +18,7 @@ mod row_totals;
 mod rows;
 mod rules;
 mod tables;
+#[cfg(test)]
+mod tests;
 
 pub use check::StreamCheck;
