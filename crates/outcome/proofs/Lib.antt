@@ -1,12 +1,9 @@
 mod Lowest
 mod Totals
-mod Winners
 mod LineLaws
+mod WinnerLaws
 mod PriceLists
-mod PartLaws
 mod Printable
-mod Ranges
-mod Vickrey
 mod Revenue
 mod TurnLaws
 mod WinLines

@@ -1,5 +1,5 @@
 -- Sums of payments, none of which is below 0.
-use Rattle.std.proofs.Common.{◌≡◌, ℕ, zero, suc, ◌+◌, ◌*◌, ◌<◌, ◌≤◌, ◌^◌, ℤ, pos, ◌+ℤ◌, ◌≤ℤ◌, ◌<ℤ◌, FitsSigned, to_z, of_z, inl, inr, ap, arith}
+use Rattle.std.proofs.Common.{◌≡◌, ℕ, zero, suc, ◌+◌, ◌<◌, ◌≤◌, ◌^◌, ℤ, pos, ◌+ℤ◌, ◌≤ℤ◌, ◌<ℤ◌, FitsSigned, to_z, of_z, inl, inr, ap, arith}
 use Rattle.std.specs.Int.{w128}
 use Rattle.std.proofs.lemmas.Bool.{cases_lt}
 use Rattle.std.proofs.lemmas.Int.{ints}
@@ -33,11 +33,3 @@ module _ (n k : ℕ) (f : ℕ → ℤ) (s : ℤ) (inside : k < n) (least : (i : 
       let up : k + 1 ≡ suc k = omega arith in
       let next : total (k + 1) f ≡ total k f +ℤ f k = ap (λ (x : ℕ). total x f) up in
       omega (arith, ints)
-
--- a sum of numbers of at most a million
-total-million : (n : ℕ) (f : ℕ → ℤ) → ((i : ℕ) → i < n → f i ≤ℤ pos 1000000) → total n f ≤ℤ pos (n * 1000000)
-total-million zero f h = omega (arith, ints)
-total-million (suc n) f h = omega (arith, ints, total-million n f (λ i l. h i (omega arith)), h n (omega arith))
-
-pub small-payments : (n k : ℕ) (f : ℕ → ℤ) → ((i : ℕ) → i < k → (pos 0 ≤ℤ f i) × (f i ≤ℤ pos 1000000)) → n ≤ k → n ≤ 16 → ((i : ℕ) → i < n → pos 0 ≤ℤ f i) × (total n f <ℤ pos (2 ^ 120))
-small-payments n k f each all few = (λ i l. (each i (omega arith)).0, omega (arith, ints, total-million n f (λ i l. (each i (omega arith)).1), few))

@@ -1,6 +1,6 @@
-pub mod Certified
 pub mod Fractions
 pub mod Json
 pub mod Payments
 pub mod Prices
+pub mod Printable
 pub mod Turns

@@ -1,26 +1,27 @@
 -- What is printed of each winner, gross.
-use Rattle.std.specs.Prelude.{◌≡◌, ℕ, ◌+◌, ◌<◌, ◌≤◌, ◌^◌, length, List, [], ◌∷◌, ◌++◌, ℤ, pos, ◌+ℤ◌, unsigned_abs}
+use Rattle.std.specs.Prelude.{◌≡◌, ℕ, ◌+◌, ◌<◌, ◌≤◌, ◌^◌, length, List, [], ◌∷◌, ◌++◌, pos, ◌+ℤ◌, unsigned_abs}
 use Rattle.auction_model.specs.Book.{Book, bidder_of, bids_of, bid_of}
 use Rattle.auction_model.specs.Market.{number_of}
 use Rattle.auction_model.specs.Prices.{Point}
+use Rattle.choices.specs.declared.chooser.Single.{Single}
 use Rattle.print_form.specs.Prices.{reserve_of, gross_of, priced_line}
 use Rattle.outcome.specs.declared.prices.WinnerPrice.{WinnerPrice}
 use Rattle.outcome.specs.Fractions.{IsFractionOf, fraction_text}
 
--- what is printed of the winner j; v are the Vickrey prices, net
-pub record IsWinnerPrice (book : Book) (z : List ℕ) (v : ℕ → ℤ) (p : Point) (j : ℕ) (price : WinnerPrice) : Type 0 where
-  pub bidder_is : price.bidder ≡ j
-  pub bid_is : price.bid ≡ number_of z j
-  pub reserve_is : pos price.reserve ≡ reserve_of book j (number_of z j)
-  pub vickrey_is : price.vickrey ≡ v j +ℤ reserve_of book j (number_of z j)
+-- what is printed of this winner of z
+pub record IsWinnerPrice (book : Book) (z : List ℕ) (p : Point) (s : Single) (price : WinnerPrice) : Type 0 where
+  pub bidder_is : price.bidder ≡ s.winner
+  pub bid_is : price.bid ≡ number_of z s.winner
+  pub reserve_is : pos price.reserve ≡ reserve_of book s.winner (number_of z s.winner)
+  pub vickrey_is : price.vickrey ≡ s.price +ℤ reserve_of book s.winner (number_of z s.winner)
   pub vickrey_small : unsigned_abs price.vickrey ≤ 2 ^ 48
-  pub pays_is : IsFractionOf (gross_of book z p j) p.den price.pays
+  pub pays_is : IsFractionOf (gross_of book z p s.winner) p.den price.pays
 
 -- of these winners, in order
-abbrev pub AreWinnerPrices : Book → List ℕ → (ℕ → ℤ) → Point → List ℕ → List WinnerPrice → Type 0
-AreWinnerPrices book z v p [] prices = prices ≡ []
-AreWinnerPrices book z v p (j ∷ js) [] = ⊥
-AreWinnerPrices book z v p (j ∷ js) (w ∷ ws) = IsWinnerPrice book z v p j w × AreWinnerPrices book z v p js ws
+abbrev pub AreWinnerPrices : Book → List ℕ → Point → List Single → List WinnerPrice → Type 0
+AreWinnerPrices book z p [] prices = prices ≡ []
+AreWinnerPrices book z p (s ∷ ss) [] = ⊥
+AreWinnerPrices book z p (s ∷ ss) (w ∷ ws) = IsWinnerPrice book z p s w × AreWinnerPrices book z p ss ws
 
 -- its line
 abbrev pub line_of : Book → WinnerPrice → List ℕ

@@ -9,7 +9,7 @@ use wide_num::{Text, gcd};
 
 /// A fraction that isn't negative: its whole part, and a rest over its least denominator.
 #[derive(Clone, Copy, Debug, Drop, PartialEq, Eq)]
-pub(crate) struct Fraction {
+pub struct Fraction {
     /// The whole part.
     pub whole: u128,
     /// What is left, in parts; fewer than make a whole.
@@ -58,8 +58,8 @@ fn mixed(n: u128, d: u128) -> Fraction
     }
 }
 
-/// Adds a fraction: `W`, or `W+R/D` where it isn't whole.
-pub(crate) fn add_fraction(text: &mut Text, fraction: Fraction) -> Result<(), AllocError>
+/// Adds a fraction: `W`, or `W+R/D` where it isn't whole. The only error is want of memory.
+pub fn add_fraction(text: &mut Text, fraction: Fraction) -> Result<(), AllocError>
     ensures { OnOk result (text.new ≡ text.old ++ fraction_text fraction) }
 {
     add_decimal(text, fraction.whole)?;

@@ -14,9 +14,9 @@ mod turns;
 mod win;
 
 pub use certified::outcome_text;
-use fraction::{Fraction, add_fraction};
+pub use fraction::{Fraction, add_fraction};
 pub use json::outcome_json;
-use numbers::{add_net, add_numbers};
+pub use numbers::{add_net, add_numbers};
 pub use turns::rounds_text;
 pub use win::win_text;
 

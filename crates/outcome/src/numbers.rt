@@ -7,8 +7,8 @@ use std::alloc::AllocError;
 use text_lines::{add_number, add_signed};
 use wide_num::Text;
 
-/// Adds numbers, each behind one space.
-pub(crate) fn add_numbers(text: &mut Text, numbers: &[u16]) -> Result<(), AllocError>
+/// Adds numbers, each behind one space. The only error is want of memory.
+pub fn add_numbers(text: &mut Text, numbers: &[u16]) -> Result<(), AllocError>
     ensures { OnOk result (text.new ≡ text.old ++ decimals_text numbers.now) }
 {
     for number in numbers {
@@ -17,8 +17,8 @@ pub(crate) fn add_numbers(text: &mut Text, numbers: &[u16]) -> Result<(), AllocE
     Ok(())
 }
 
-/// Adds the line of a net value.
-pub(crate) fn add_net(text: &mut Text, net: i128) -> Result<(), AllocError>
+/// Adds the line of a net value: `net` and the value. The only error is want of memory.
+pub fn add_net(text: &mut Text, net: i128) -> Result<(), AllocError>
     ensures { OnOk result (text.new ≡ text.old ++ net_line net) }
 {
     text.add(b"net ")?;

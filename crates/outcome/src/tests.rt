@@ -1,21 +1,20 @@
-// Fractions, the lines of turns and the outcome of a certificate, worked by hand.
-ghost use Rattle.std.specs.Prelude.{◌≡◌, ◌≤ℤ◌, pos, IfOk, [], ◌∷◌, map};
-ghost use Rattle.cert_text.specs.Parts.{without_value};
+// Fractions, the lines of turns and the outcome of facts, worked by hand.
+ghost use Rattle.std.specs.Prelude.{◌≡◌, ◌≤ℤ◌, pos, IfOk, [], ◌∷◌};
 ghost use Rattle.wide_num.specs.Range.{InRange};
 
 use crate::certified::printed;
 use crate::{Fraction, add_fraction, rounds_text};
 use bid_book::read_book;
 use blocking::Block;
-use cert_text::{CertRows, Certificate, WithoutList, WithoutPart};
-use choices::{Choice, Grid, Numbers, known, value};
+use cert_facts::{CertFacts, Singles};
+use choices::{Choice, Numbers, Single, known, value};
 use core_price::Turn;
 use far_num::Row;
 use std::alloc::{AllocError, Global};
 use std::test::Fail;
 use wide_num::{NumList, Text};
 
-fn choice_of(alloc: Global, numbers: &[u16]) -> Result<Choice, AllocError>
+pub fn choice_of(alloc: Global, numbers: &[u16]) -> Result<Choice, AllocError>
     ensures { IfOk result (λ choice. choice ≡ numbers.now) }
 {
     let mut list = Numbers::new(alloc);
@@ -129,36 +128,23 @@ fn prints_the_turn_of_nobody(rt: HostRuntime) -> Result<(), Fail> {
     Ok(())
 }
 
-// Two lines of two zeros.
-fn zeros(alloc: Global) -> Result<Grid, AllocError>
-    ensures { IfOk result (λ grid. grid ≡ (pos 0 ∷ pos 0 ∷ []) ∷ (pos 0 ∷ pos 0 ∷ []) ∷ []) }
+// Of one bidder that wins with its first bid, of net amount 15, and pays 21 over 2.
+pub fn one_winner(alloc: Global) -> Result<CertFacts, AllocError>
+    ensures numbers { IfOk result (λ f. (f.den ≡ pos 2) × (f.value ≡ pos 15) × (f.choice ≡ 1 ∷ []) × (f.pay ≡ pos 21 ∷ [])) }
+    ensures singles { IfOk result (λ f. f.singles ≡ record { winner = 1; price = pos 0; choice = 0 ∷ [] } ∷ []) }
 {
-    let mut grid = Grid::new(alloc);
-    grid.push_line(list_of(alloc, &[0, 0])?)?;
-    grid.push_line(list_of(alloc, &[0, 0])?)?;
-    Ok(grid)
-}
-
-// Of one bidder that wins with its first bid, of net amount 15, and pays 21 over 2. The text doesn't speak of the tables.
-pub fn one_winner(alloc: Global) -> Result<Certificate, AllocError>
-    ensures numbers { IfOk result (λ c. (c.den ≡ pos 2) × (c.value ≡ pos 15) × (c.choice ≡ 1 ∷ []) × (c.pay ≡ pos 21 ∷ [])) }
-    ensures part { IfOk result (λ c. map without_value c.withouts ≡ record { winner = 1; choice = 0 ∷ []; table = (pos 0 ∷ pos 0 ∷ []) ∷ (pos 0 ∷ pos 0 ∷ []) ∷ [] } ∷ []) }
-{
-    let mut withouts = WithoutList::new(alloc);
-    withouts.push(WithoutPart {
+    let mut singles = Singles::new(alloc);
+    singles.push(Single {
         winner: 1,
+        price: 0,
         choice: choice_of(alloc, &[0])?,
-        table: zeros(alloc)?,
     })?;
-    Ok(Certificate {
+    Ok(CertFacts {
         den: 2,
         value: 15,
         choice: choice_of(alloc, &[1])?,
-        table: zeros(alloc)?,
-        withouts,
+        singles,
         pay: list_of(alloc, &[21])?,
-        rows: CertRows::new(alloc),
-        lowered: zeros(alloc)?,
     })
 }
 
@@ -169,15 +155,11 @@ fn prints_gross_amounts(rt: HostRuntime) -> Result<(), Fail> {
     let Ok(book) = read_book(alloc, text.as_bytes()) else {
         panic!(rt; "this is a book");
     };
-    let cert = one_winner(alloc)?;
-    let nobody = choice_of(alloc, &[0])?;
-    if !known(&book, &cert.choice) || !known(&book, &nobody) {
-        panic!(rt; "these choices are known");
+    let facts = one_winner(alloc)?;
+    if !known(&book, &facts.choice) || value(&book, &facts.choice) != facts.value {
+        panic!(rt; "this is a choice of the book, and its value");
     }
-    if value(&book, &cert.choice) != 15 {
-        panic!(rt; "this is its value");
-    }
-    let outcome = printed(alloc, &book, &cert)?;
+    let outcome = printed(alloc, &book, &facts)?;
     let lines = "winner a 1 bid 25 vickrey 10 pays 20+1/2\nnet 15\nrevenue 20+1/2\n";
     assert_eq!(rt; outcome.items(), lines.as_bytes());
     Ok(())
