@@ -146,6 +146,31 @@ fn reads_and_appends_real_files(rt: HostRuntime) -> Result<(), Fail> {
 }
 
 #[test]
+fn loads_from_two_real_files_in_turn(rt: HostRuntime) -> Result<(), Fail> {
+    let alloc = rt.alloc();
+    let folder = env::temp_dir(&rt)?;
+    let number = process::id(rt.process());
+    let one = format!(in alloc; "{}/cca_base_one_{number}", folder.to_string_lossy())?;
+    let two = format!(in alloc; "{}/cca_base_two_{number}", folder.to_string_lossy())?;
+    fs::write(&rt, one.as_str(), b"abc")?;
+    fs::write(&rt, two.as_str(), b"xyz")?;
+    let names = [
+        String::from_str(alloc, one.as_str())?,
+        String::from_str(alloc, two.as_str())?,
+    ];
+    let mut files = RealFiles::new(alloc, &rt, &names)?;
+    let mut piece = [0u8; 2];
+    assert_eq!(rt; files.load(one.as_str(), 0, &mut piece)?, 2);
+    assert_eq!(rt; files.load(two.as_str(), 1, &mut piece)?, 2);
+    assert_eq!(rt; piece, *b"yz");
+    assert_eq!(rt; files.load(one.as_str(), 2, &mut piece)?, 1);
+    assert_eq!(rt; piece[0], b'c');
+    fs::remove_file(&rt, one.as_str())?;
+    fs::remove_file(&rt, two.as_str())?;
+    Ok(())
+}
+
+#[test]
 fn reads_a_real_file_of_several_pieces(rt: HostRuntime) -> Result<(), Fail> {
     let alloc = rt.alloc();
     let folder = env::temp_dir(&rt)?;

@@ -2,3 +2,4 @@ mod Names
 mod Stopped
 mod FewWords
 mod Numbers
+mod Feeding

@@ -7,3 +7,4 @@ pub mod Outcome
 pub mod Answers
 pub mod Stops
 pub mod Reading
+pub mod Checked

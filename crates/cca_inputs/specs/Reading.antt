@@ -1,5 +1,5 @@
 -- From a file of bytes to the value of an input.
-use Rattle.std.specs.Prelude.{◌≡◌, ◌⊎◌, ◌≤◌, ◌<◌, ◌+◌, ℕ, Bool, IsTrue, Option, Some, List, length}
+use Rattle.std.specs.Prelude.{◌≡◌, ◌⊎◌, ◌≤◌, ◌<◌, ◌+◌, ℕ, Bool, IsSome, IsTrue, Option, Some, List, length}
 use Rattle.limits.specs.declared.LimitKind.TheVariants.{Bytes}
 use Rattle.cca_base.specs.Faults.{Rose}
 use Rattle.cca_base.specs.Files.{CountsOnly, Folder, KeepsFiles}
@@ -22,10 +22,10 @@ pub record Halts (most : ℕ) (halts : List ℕ → Status → Type 0) (file : O
   pub text : length bytes ≤ most → halts bytes status
   pub long : most < length bytes → status ≡ Limit Bytes (most + 1)
 
--- Why an input has no value: want of memory, a load of it that failed, or its bytes.
-abbrev pub InputStops : FileKind → ℕ → (List ℕ → Status → Type 0) → Bool → Option (List ℕ) → ℕ → ℕ → Status → Type 0
-InputStops kind most halts told file before now status =
-    (status ≡ Memory) ⊎ (((status ≡ ReadFault kind) × Rose before now) ⊎ (IsStop status × (IsTrue told → Halts most halts file status)))
+-- Why an input has no value: want of memory, a load of it that failed, which none does where its room is told, or its bytes.
+abbrev pub InputStops : FileKind → ℕ → (List ℕ → Status → Type 0) → Bool → Option (List ℕ) → Option ℕ → ℕ → ℕ → Status → Type 0
+InputStops kind most halts told file room before now status =
+    (status ≡ Memory) ⊎ (((status ≡ ReadFault kind) × Rose before now × (IsSome room → ⊥)) ⊎ (IsStop status × (IsTrue told → Halts most halts file status)))
 
 -- no file changed, and only the count of failed loads of this name may have risen
 pub record OnlyLoads (name : List ℕ) (old new : Folder) : Type 0 where

@@ -51,7 +51,7 @@ pub trait Input {
 ///
 /// # Errors
 ///
-/// ReadFault of the input's kind, only where a load of the file failed in this call; Limit of bytes, where the file has more than the
+/// ReadFault of the input's kind, only where a load of the file failed in this call, and never where a room is told for the name; Limit of bytes, where the file has more than the
 /// input may have, and else the status at which its bytes stop a run; Memory.
 pub fn read_input<F: Files, I: Input>(
     alloc: Global,
@@ -62,7 +62,7 @@ pub fn read_input<F: Files, I: Input>(
     requires { IsTrue ((F.folder files.old).knows name.now) }
     ensures value { IfOk result (IsRead (I.room what.now) (I.states what.now) (F.folder files.old).told ((F.folder files.old).file name.now)) }
     ensures stop { IfErr result (InputStops (I.part what.now) (I.room what.now) (I.halts what.now) (F.folder files.old).told ((F.folder files.old).file name.now)
-        ((F.folder files.old).load_faults name.now) ((F.folder files.new).load_faults name.now)) }
+        ((F.folder files.old).room name.now) ((F.folder files.old).load_faults name.now) ((F.folder files.new).load_faults name.now)) }
     ensures loads { OnlyLoads name.now (F.folder files.old) (F.folder files.new) }
 {
     match read_all(alloc, files, name, what.most()) {

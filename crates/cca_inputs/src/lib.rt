@@ -2,6 +2,7 @@
 //! their lines, and one way from a file to what its bytes state.
 #![tactic(auto)]
 
+mod checked;
 mod file_text;
 mod input;
 mod inputs;
@@ -11,6 +12,7 @@ mod status;
 mod stops;
 mod words;
 
+pub use checked::check_input;
 pub use file_text::FileText;
 pub use input::{Input, read_input};
 pub use inputs::award_input::AwardInput;

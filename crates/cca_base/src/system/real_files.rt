@@ -7,7 +7,7 @@ ghost use Rattle.cca_base.specs.RealFiles.{real_folder, real_seen, known};
 ghost use Rattle.cca_base.specs.Entries.{roomy_by};
 
 use crate::named::{
-    append_faults_of, count_append_fault, count_load_fault, load_faults_of, new_files,
+    append_faults_of, count_append_fault, count_load_fault, load_faults_of, new_files, place_of,
 };
 use crate::sink::taken;
 use crate::system::known_file::KnownFile;
@@ -18,14 +18,23 @@ use std::io::Write;
 use std::os::unix::fs::FileExt;
 use std::{io, rt};
 
-/// Files of the system, each opened anew in each call.
+// A file that was opened to load from, by the place of its name.
+#[derive(Drop)]
+struct Opened {
+    place: usize,
+    file: File,
+}
+
+/// Files of the system.
 ///
-/// What was appended has reached the system when `append` answers. Each fault of the system raises the
+/// The file of the last load stays open for the next one, until another name is loaded, a load fails or
+/// anything is appended. What was appended has reached the system when `append` answers. Each fault of the system raises the
 /// count of its kind and name, and so does a call that takes nothing of a piece that isn't empty.
 #[derive(Drop)]
 pub struct RealFiles<R: Drop> {
     rt: R,
     files: Vec<KnownFile>,
+    opened: Option<Opened>,
 }
 
 impl<R: rt::Files<File = File> + Drop> RealFiles<R> {
@@ -41,20 +50,39 @@ impl<R: rt::Files<File = File> + Drop> RealFiles<R> {
         Ok(RealFiles {
             rt,
             files: new_files(alloc, names, 0)?,
+            opened: None,
         })
     }
 }
 
-// Reads from a place of a file.
+// The file of the name at this place: the one that is open, where it is that one, and else opened anew.
+fn open_at<R: rt::Files<File = File>>(
+    rt: &R,
+    opened: Option<Opened>,
+    place: usize,
+    name: &str,
+) -> io::Result<File> {
+    match opened {
+        Some(last) if last.place == place => Ok(last.file),
+        _ => File::open(rt, name),
+    }
+}
+
+// Reads from a place of a file, which then stays open.
 fn read_from<R: rt::Files<File = File>>(
     rt: &R,
+    opened: &mut Option<Opened>,
+    place: usize,
     name: &str,
     at: u64,
     buf: &mut [u8],
 ) -> io::Result<usize>
     ensures { ReadsAtMost result buf.new }
 {
-    File::open(rt, name)?.read_at(buf, at)
+    let file = open_at(rt, opened.take(), place, name)?;
+    let read = file.read_at(buf, at)?;
+    *opened = Some(Opened { place, file });
+    Ok(read)
 }
 
 // Adds a prefix of a piece to the end of a file, which is made where it is missing.
@@ -72,7 +100,8 @@ impl<R: rt::Files<File = File> + Drop> Files for RealFiles<R> {
     ghost folder = { λ s. real_folder s.files.items };
 
     fn load(&mut self, name: &str, at: u64, buf: &mut [u8]) -> Result<usize, Failed> {
-        let Ok(n) = read_from(&self.rt, name, at, buf) else {
+        let place = place_of(&self.files, name);
+        let Ok(n) = read_from(&self.rt, &mut self.opened, place, name, at, buf) else {
             count_load_fault(&mut self.files, name);
             return Err(Failed);
         };
@@ -80,6 +109,7 @@ impl<R: rt::Files<File = File> + Drop> Files for RealFiles<R> {
     }
 
     fn append(&mut self, name: &str, piece: &[u8]) -> Result<usize, Failed> {
+        self.opened = None;
         let appended = taken(append_to(&self.rt, name, piece), piece.len());
         if appended.is_err() {
             count_append_fault(&mut self.files, name);
