@@ -26,6 +26,7 @@ use Rattle.cca_inputs.specs.Checked.{IsFed, IsJudged, ShowsFacts, StopsCheck, te
 use Rattle.cca_inputs.specs.Outcome.{stops}
 use Rattle.cca_inputs.specs.Reading.{InputStops, IsRead}
 use Rattle.cca_inputs.specs.Statuses.{IsStop}
+use Rattle.cca_inputs.specs.declared.status.CertKind.TheVariants as certs
 use Rattle.cca_inputs.specs.declared.status.FileKind.TheVariants.{Cert}
 use Rattle.cca_inputs.specs.declared.status.Status.{Status}
 use Rattle.cca_inputs.specs.declared.status.Status.TheVariants.{No}
@@ -113,7 +114,7 @@ Judges b weights bytes v =
 
 -- the first test that fails for the certificate that the bytes state
 fails : (b : BookValue) (weights bytes : List ℕ) (c : CertValue) (test place : ℕ) → CertSays (bidders_of b) (states b) bytes (stated c) → FailsFirst b (weight_of weights) c test place
-    → StopsCheck b weights bytes (No test place)
+    → StopsCheck b weights bytes (No certs.Book test place)
 fails b weights bytes c test place says first = inr (c, (stated c, says, refl), (test, place, first, refl))
 
 -- it says yes
@@ -123,7 +124,7 @@ judged-yes one b weights bytes v facts is said are =
     shows one b weights bytes said.0 are.0 facts said.1 (subst (IsVerdict b (weight_of weights) said.0) is said.2) (said.3 is) are.1 are.2
 
 -- it says no
-pub judged-no : (b : BookValue) (weights bytes : List ℕ) (v : Verdict) (test place : ℕ) → v ≡ verdict.No test place → Judges b weights bytes v → StopsCheck b weights bytes (No test place)
+pub judged-no : (b : BookValue) (weights bytes : List ℕ) (v : Verdict) (test place : ℕ) → v ≡ verdict.No test place → Judges b weights bytes v → StopsCheck b weights bytes (No certs.Book test place)
 judged-no b weights bytes v test place is said = fails b weights bytes said.0 test place said.1 (subst (IsVerdict b (weight_of weights) said.0) is said.2)
 
 -- what the checker answers to which the file was fed is said of the file

@@ -15,6 +15,7 @@ use Rattle.stream_check.specs.declared.check.StreamCheck.{StreamCheck}
 use Rattle.cca_inputs.specs.Answers.{CertAnswers}
 use Rattle.cca_inputs.specs.Outcome.{value, stops}
 use Rattle.cca_inputs.specs.Statuses.{IsStop}
+use Rattle.cca_inputs.specs.declared.status.CertKind.TheVariants as certs
 use Rattle.cca_inputs.specs.declared.status.FileKind.TheVariants.{Cert}
 use Rattle.cca_inputs.specs.declared.status.Status.{Status}
 use Rattle.cca_inputs.specs.declared.status.Status.TheVariants.{No, Memory, Refused}
@@ -28,7 +29,7 @@ ShowsFacts book weights bytes facts =
 -- the bytes state a certificate, and this test is the first that fails for it by these weights, with its first place
 abbrev pub FailsATest : BookValue → List ℕ → List ℕ → Status → Type 0
 FailsATest book weights bytes status =
-    (c : CertValue) × CertAnswers book bytes (value c) × ((test place : ℕ) × FailsFirst book (weight_of weights) c test place × (status ≡ No test place))
+    (c : CertValue) × CertAnswers book bytes (value c) × ((test place : ℕ) × FailsFirst book (weight_of weights) c test place × (status ≡ No certs.Book test place))
 
 -- the bytes state no certificate of the book, or one for which a test fails
 abbrev pub StopsCheck : BookValue → List ℕ → List ℕ → Status → Type 0

@@ -12,7 +12,7 @@ ghost use Rattle.cca_inputs.specs.Reading.{InputStops, IsRead, OnlyLoads};
 ghost use Rattle.cca_inputs.specs.declared.status.FileKind.TheVariants.{Cert};
 
 use crate::stops::status_of_read;
-use crate::{FileKind, Status};
+use crate::{CertKind, FileKind, Status};
 use bid_book::BidBook;
 use cca_base::{Files, ReadStop};
 use cert_check::Verdict;
@@ -105,7 +105,11 @@ fn judged(alloc: Global, checker: &StreamCheck<'_>, room: &[i128]) -> Result<Cer
             let facts = checker.read_facts(alloc, room)?;
             Ok(facts)
         }
-        Ok(Verdict::No { test, place }) => Err(Status::No { test, place }),
+        Ok(Verdict::No { test, place }) => Err(Status::No {
+            of: CertKind::Book,
+            test,
+            place,
+        }),
         Err(stop) => Err(status_of_text(stop)),
     }
 }
@@ -116,8 +120,9 @@ fn judged(alloc: Global, checker: &StreamCheck<'_>, room: &[i128]) -> Result<Cer
 ///
 /// # Errors
 ///
-/// ReadFault of Cert, only where a load of the file failed in this call, and never where a room is told for the name; Limit of bytes, where the file has more than a certificate may
-/// have; Refused, where it states no certificate of the book; No with the first test that fails and its first place; Memory.
+/// ReadFault of Cert, only where a load of the file failed in this call, and never where a room is told for the name; Limit of bytes, where
+/// the file has more than a certificate may have; Refused, where it states no certificate of the book; No with the first test that fails
+/// and its first place; Memory.
 pub fn check_input<F: Files>(
     alloc: Global,
     files: &mut F,
