@@ -17,3 +17,4 @@ mod HeadlineLaws
 mod CompleteLogs
 mod WordsApart
 mod RunHeadline
+mod Rooms
