@@ -1,10 +1,9 @@
 -- A certificate that pricing writes is accepted by the checker, of a book and of the book of a log.
-use Rattle.std.specs.Prelude.{◌≡◌, ℕ, ℤ, false, ◌≤◌, ◌<◌, ◌^◌, Option, Some, None, Result, Ok, Err, slice_index_or, List, [], ◌∷◌, ◌++◌, codes, length, pos, reverse, ◌≤ℤ◌, refl, unsigned_abs}
+use Rattle.std.specs.Prelude.{◌≡◌, ℕ, ℤ, false, ◌≤◌, ◌<◌, ◌^◌, Option, Some, None, Result, Ok, Err, slice_index_or, List, [], ◌∷◌, ◌++◌, codes, length, pos, reverse, ◌≤ℤ◌, refl}
 use Rattle.std.proofs.Common.{inl, inr, sym, ◌∙◌, ap, subst, arith}
 use Rattle.std.proofs.lemmas.Bool.{cases_lt}
-use Rattle.std.proofs.lemmas.Int.{ints}
 use Rattle.line_text.specs.LineText.{Said, stated, faulty, beyond, Says, text_of}
-use Rattle.auction_model.specs.Book.{Book, net_of, market_of}
+use Rattle.auction_model.specs.Book.{Book, market_of}
 use Rattle.auction_model.specs.Prices.{Point, SamePoint, weight_of}
 use Rattle.book_form.specs.BookForm.{IsBook}
 use Rattle.book_form.specs.BookLines.{Excess, lines}

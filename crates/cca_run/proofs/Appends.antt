@@ -7,6 +7,7 @@ use Rattle.std.specs.Prelude.{take, drop, ◌-◌}
 use Rattle.std.proofs.Common.{append_assoc, get_or}
 use Rattle.std.proofs.lemmas.List.{take_all}
 use Rattle.cca_base.specs.Files.{Adds, CountsOnly, Folder, KeepsFiles}
+use Rattle.cca_base.specs.Sink.{HasRoom}
 use Rattle.cca_base.specs.declared.write.WriteStop.{WriteStop}
 use Rattle.cca_base.specs.declared.write.WriteStop.TheVariants.{Fault}
 use Rattle.cca_run.proofs.Moved.{all-on}
@@ -36,8 +37,8 @@ as-fault (Fault n) = (n, refl)
 
 -- of one text a front was appended
 pub part-one : (command : CommandValue) (text : FileText) (name : List ℕ) (old new : Folder) (n : ℕ) → output_as command text.kind ≡ Some name
-    → Rose (old.append_faults name) (new.append_faults name) → n < length text.text → Adds name old new text.text n → FailsAt command (text ∷ []) old new text.kind
-part-one command text name old new n output rose less adds = record {
+    → Rose (old.append_faults name) (new.append_faults name) → n < length text.text → Adds name old new text.text n → (HasRoom (old.room name) (length text.text) → ⊥) → FailsAt command (text ∷ []) old new text.kind
+part-one command text name old new n output rose less adds full = record {
   name = name;
   output = output;
   rose = rose;
@@ -53,6 +54,7 @@ part-one command text name old new n output rose less adds = record {
     count = n;
     part = less;
     front = adds;
+    no_room = full;
   };
 }
 
@@ -96,6 +98,7 @@ fails-first command text rest old new kind f =
         count = p.count;
         part = p.part;
         front = p.front;
+        no_room = p.no_room;
       };
     }
 
@@ -120,6 +123,7 @@ fails-later command text rest old mid new kind one counts f =
         count = p.count;
         part = p.part;
         front = p.front;
+        no_room = p.no_room;
       };
     }
 

@@ -2,14 +2,14 @@
 use Rattle.std.proofs.Common.{inl, inr, ◌≡◌, ◌⊎◌, ◌∙◌, ℕ, ◌≤◌, ◌<◌, IsTrue, Some, List, length, refl, sym, ap, subst}
 use Rattle.cca_base.specs.Faults.{Rose}
 use Rattle.cca_base.specs.Files.{Folder}
-use Rattle.cca_base.specs.Sink.{Output, Puts}
+use Rattle.cca_base.specs.Sink.{HasRoom, Output, Puts}
 use Rattle.cca_inputs.specs.Command.{CommandValue, inputs_of, output_as, outputs_of}
 use Rattle.cca_inputs.specs.Outcome.{Outcome, done}
 use Rattle.cca_inputs.specs.StatusLine.{status_line}
 use Rattle.cca_inputs.specs.Statuses.{IsDecided, IsHindered, KeepsAll}
 use Rattle.cca_inputs.specs.declared.file_text.FileText.{FileText}
 use Rattle.cca_inputs.specs.declared.status.FileKind.{FileKind}
-use Rattle.cca_inputs.specs.declared.status.FileKind.TheVariants.{Award, Log, Book, Cert, Weights, Out}
+use Rattle.cca_inputs.specs.declared.status.FileKind.TheVariants.{Award, Log, Book, Cert, Weights, Slots, Edits, Out}
 use Rattle.cca_inputs.specs.declared.status.Status.{Status}
 use Rattle.cca_inputs.specs.declared.status.Status.TheVariants.{Done, Words, ReadFault, WriteFault}
 use Rattle.cca_run.specs.Gives.{FilesGive}
@@ -49,9 +49,9 @@ all-appended command old new before now printed appended result all counts le pr
     never (inr w) h = absurd (subst IsHindered w.0 h)
 
     front : Prints before now printed Done result → result ≡ WriteFault Out → (text : List ℕ) × (n : ℕ) × (n < length text) × Puts before now text n
-        × ((text ≡ printed) ⊎ ((kind : FileKind) × FailsAt command appended old new kind × (text ≡ status_line (WriteFault kind))))
+        × ((text ≡ printed) ⊎ ((kind : FileKind) × FailsAt command appended old new kind × (text ≡ status_line (WriteFault kind)))) × (HasRoom before.room (length text) → ⊥)
     front (inl w) e = let x : Done ≡ WriteFault Out = sym w.0 ∙ e in absurd cc
-    front (inr w) e = let cut = w.2 in (printed, cut.0, cut.1, cut.2, inl refl)
+    front (inr w) e = let cut = w.2 in (printed, cut.0, cut.1, cut.2, inl refl, w.3)
 
 -- an append failed, and its line was printed or its front
 pub append-failed : (command : CommandValue) (old new : Folder) (before now : Output) (printed line : List ℕ) (appended : List FileText) (kind : FileKind) (result : Status) → FailsAt command appended old new kind
@@ -87,9 +87,9 @@ append-failed command old new before now printed line appended kind result fails
     whole (inr w) h = absurd (subst IsHindered w.0 h)
 
     front : Prints before now line (WriteFault kind) result → result ≡ WriteFault Out → (text : List ℕ) × (n : ℕ) × (n < length text) × Puts before now text n
-        × ((text ≡ printed) ⊎ ((other : FileKind) × FailsAt command appended old new other × (text ≡ status_line (WriteFault other))))
+        × ((text ≡ printed) ⊎ ((other : FileKind) × FailsAt command appended old new other × (text ≡ status_line (WriteFault other)))) × (HasRoom before.room (length text) → ⊥)
     front (inl w) e = let x : WriteFault kind ≡ WriteFault Out = sym w.0 ∙ e in let same : kind ≡ Out = cc in absurd (not-out same)
-    front (inr w) e = let cut = w.2 in (line, cut.0, cut.1, cut.2, inr (kind, fails, is))
+    front (inr w) e = let cut = w.2 in (line, cut.0, cut.1, cut.2, inr (kind, fails, is), w.3)
 
 -- the work was worked out, and the command ended
 module _ (command : CommandValue) (old mid new : Folder) (before now : Output) (printed : List ℕ) (appended : List FileText) (result : Status) (reads : OnlyReads command old mid)
@@ -127,6 +127,10 @@ module _ (command : CommandValue) (old mid new : Folder) (before now : Output) (
       by Cert w (inr f) = fails-to Cert f
       by Weights w (inl x) = let no : Weights ≡ Out = x.0 in absurd cc
       by Weights w (inr f) = fails-to Weights f
+      by Slots w (inl x) = let no : Slots ≡ Out = x.0 in absurd cc
+      by Slots w (inr f) = fails-to Slots f
+      by Edits w (inl x) = let no : Edits ≡ Out = x.0 in absurd cc
+      by Edits w (inr f) = fails-to Edits f
       by Out w (inl x) = x.1
       by Out w (inr f) = absurd (never-out command f.name f.output)
 
@@ -150,6 +154,7 @@ module _ (command : CommandValue) (old mid new : Folder) (before now : Output) (
         | inl whole ↦ inl (done printed appended, given told, whole)
         | inr x ↦ inr (WriteFault x.0, fails-to x.0 x.1, x.2)
       ],
+      f.5,
     );
     kept = λ k. no-other _ (λ kind w. absurd (subst KeepsAll w k)) (λ d. absurd (subst KeepsAll d k));
     files = inr (record {

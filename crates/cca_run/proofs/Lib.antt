@@ -19,3 +19,4 @@ mod HeadlineLaws
 mod CompleteLogs
 mod WordsApart
 mod RunHeadline
+mod Rooms

@@ -42,4 +42,5 @@ module _ (command : CommandValue) (old mid new : Folder) (kept : KeepsFiles old 
     count = p.count;
     part = p.part;
     front = p.front;
+    no_room = p.no_room;
   }

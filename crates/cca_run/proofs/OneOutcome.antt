@@ -112,7 +112,7 @@ module _ (one_book : (bytes : List ℕ) (x y : Said Book Excess) → Says IsBook
     where
       by : (said : Said (List NamedEdit) Excess) → EditsSay (length book.supply) bytes said → value edits ≡ edits_answer book said → AllByRecursion (λ e. length (edit_lots e) ≡ length book.supply) edits
       by (stated named) says is = let same : edits_of book named ≡ edits = cc in subst (λ (l : List Edit). AllByRecursion (λ e. length (edit_lots e) ≡ length book.supply) l) same (lots-of book (length book.supply) named says.valid)
-      by (faulty place) says is = absurd cc
+      by (faulty at) says is = absurd cc
       by (beyond e) says is = absurd cc
 
   -- a book that bytes state is within the limits
@@ -121,7 +121,7 @@ module _ (one_book : (bytes : List ℕ) (x y : Said Book Excess) → Says IsBook
     where
       by : (said : Said Book Excess) → Says IsBook lines bytes said → value book ≡ book_answer said → IsBookWithinLimits book
       by (stated b) says is = let same : b ≡ book = cc in subst IsBookWithinLimits same (record { form = says.valid; limits = says.within })
-      by (faulty place) says is = absurd cc
+      by (faulty at) says is = absurd cc
       by (beyond e) says is = absurd cc
 
   -- a book that bytes state keeps the rules of its form
@@ -130,7 +130,7 @@ module _ (one_book : (bytes : List ℕ) (x y : Said Book Excess) → Says IsBook
     where
       by : (said : Said Book Excess) → Says IsBook lines bytes said → value book ≡ book_answer said → IsBook book
       by (stated b) says is = let same : b ≡ book = cc in subst IsBook same says.valid
-      by (faulty place) says is = absurd cc
+      by (faulty at) says is = absurd cc
       by (beyond e) says is = absurd cc
 
   one-weights-answer : (book : Book) → IsBook book → (bytes : List ℕ) (x y : Answer (List ℕ)) → WeightsAnswers book bytes x → WeightsAnswers book bytes y → x ≡ y
@@ -142,7 +142,7 @@ module _ (one_book : (bytes : List ℕ) (x y : Said Book Excess) → Says IsBook
     where
       by : (said : Said (List ℕ) ⊥) → WeightsSay book bytes said → value weights ≡ weights_answer said → AreWeights (bidders_of book) weights
       by (stated w) says is = let same : w ≡ weights = cc in subst (AreWeights (bidders_of book)) same says.valid
-      by (faulty place) says is = absurd cc
+      by (faulty at) says is = absurd cc
       by (beyond none) says is = absurd none
 
   -- the market of a book that bytes state is lawful
@@ -156,7 +156,7 @@ module _ (one_book : (bytes : List ℕ) (x y : Said Book Excess) → Says IsBook
 
       by : (said : Said Book Excess) → Says IsBook lines bytes said → value book ≡ book_answer said → IsMarket (market_of book)
       by (stated b) says is = let same : b ≡ book = cc in subst (λ (x : Book). IsMarket (market_of x)) same (of b says)
-      by (faulty place) says is = absurd cc
+      by (faulty at) says is = absurd cc
       by (beyond e) says is = absurd cc
 
   one-rounds : (rounds : Bool) (book : Book) (weights z : List ℕ) (runs others : List Turn) (t u : List ℕ) → IsMarket (market_of book) → IsPricingRun (market_of book) (weight_of weights) z runs

@@ -39,7 +39,7 @@ few-placed bytes slots (said, says, is) = by said says is
 
     by : (said : Said SlotList Excess) → Says IsSlotText slot_lines bytes said → value slots ≡ slots_answer said → length slots.bidders < 2 ^ 16
     by (stated s) says is = let same : s ≡ slots = cc in subst (λ (x : SlotList). length x.bidders < 2 ^ 16) same (of s says)
-    by (faulty place) says is = absurd cc
+    by (faulty at) says is = absurd cc
     by (beyond e) says is = absurd cc
 
 -- what the laws of the crates below say

@@ -1,16 +1,19 @@
 -- What pricing a book gives, over plain values.
-use Rattle.std.proofs.Common.{inl, inr, ◌≡◌, ℕ, List, [], length, ap, subst, arith}
+use Rattle.std.proofs.Common.{inl, inr, ◌≡◌, ℕ, List, [], length, map, ap, subst, sym, arith}
 use Rattle.std.specs.Prelude.{◌^◌, ℤ, pos, negsuc, ◌∷◌, ◌≤ℤ◌}
 use Rattle.std.specs.List.{AllByRecursion}
 use Rattle.std.proofs.lemmas.Int.{ints}
 use Rattle.auction_model.specs.Book.{Book as BookValue, market_of}
 use Rattle.auction_model.specs.PricingRun.{IsPricingRun}
 use Rattle.limits.specs.declared.LimitKind.TheVariants.{Winners}
+use Rattle.cert_facts.specs.Facts.{AreFacts, HasFacts}
+use Rattle.cert_facts.specs.declared.shown.CertFacts.{CertFacts}
+use Rattle.cert_form.specs.Certificate.{CertValue}
 use Rattle.cert_form.specs.CertText.{IsCertificate}
 use Rattle.cert_form.specs.Says.{cert_text}
 use Rattle.cert_laws.specs.Priced.{IsPricedCert}
-use Rattle.cert_laws.specs.Sound.{cert_point}
-use Rattle.cert_laws.specs.Tests.{bidders_of, states}
+use Rattle.cert_laws.specs.Sound.{IsSound, cert_point}
+use Rattle.cert_laws.specs.Tests.{Holds, bidders_of, states}
 use Rattle.cert_text.specs.CertValues.{cert_value, IsFor}
 use Rattle.cert_text.specs.declared.certificate.Certificate.{Certificate}
 use Rattle.book_price.specs.Stops.{IsBookStop}
@@ -24,8 +27,9 @@ use Rattle.outcome.specs.Turns.{CanPrintTurn}
 use Rattle.row_laws.specs.Turns.{IsLastPoint}
 use Rattle.wide_num.specs.Range.{InRange}
 use Rattle.cca_inputs.specs.Outcome.{done, stopped}
+use Rattle.cca_inputs.specs.declared.file_text.FileText.{FileText}
 use Rattle.cca_inputs.specs.declared.price_form.PriceForm.{PriceForm}
-use Rattle.cca_run.specs.Gives.{ArePrinted, PriceGives, cert_file}
+use Rattle.cca_run.specs.Gives.{ArePrinted, IsYesText, PriceGives, VerdictGives, cert_file}
 use Rattle.cca_inputs.specs.declared.status.Status.TheVariants.{Limit}
 
 den-range : (d : ℤ) → pos 1 ≤ℤ d → d ≤ℤ pos (320 ^ 4) → InRange d
@@ -60,6 +64,25 @@ priced book weights form cert turns text appended shape is few run last printed 
       },
       ap (λ (t : List ℕ). done text (cert_file t ∷ [])) written,
     )
+
+-- a certificate for which all tests hold has the facts that are printed
+pub has-facts : (book : BookValue) (w : ℕ → ℕ) (cert : Certificate) → IsFor (bidders_of book) (states book) cert → Holds book w (cert_value cert) → HasFacts book (cert_value cert)
+has-facts book w cert shape holds = record {
+  certificate = subst (λ (b : ℕ). IsCertificate b (states book) (cert_value cert)) shape.bidders_are (subst (λ (s : ℕ). IsCertificate (length cert.choice) s (cert_value cert)) shape.states_are cert.rules);
+  sizes = holds.c1;
+  choice = holds.c2;
+  parts = holds.c4;
+  payments = holds.c5;
+}
+
+-- the turns can be printed beside the facts
+pub can-print-facts : (book : BookValue) (c : CertValue) (facts : CertFacts) (turns : List Turn) → AreFacts book c facts → AllByRecursion (CanPrintTurn c.choice) turns → AllByRecursion (CanPrintTurn facts.choice) turns
+can-print-facts book c facts turns are can = subst (λ (z : List ℕ). AllByRecursion (CanPrintTurn z) turns) (sym are.choice) can
+
+-- a certificate for which all tests hold gives yes
+pub accepts : (book : BookValue) (weights : List ℕ) (c : CertValue) (text : List ℕ) (appended : List FileText) → appended ≡ [] → Holds book (weight_of weights) c → IsSound book (weight_of weights) c
+    → IsYesText book c text → VerdictGives book weights c (done text appended) × (map (λ t. t.kind) appended ≡ [])
+accepts book weights c text appended none holds sound shown = (inl (holds, sound, (text, shown, ap (done text) none)), ap (map (λ (t : FileText). t.kind)) none)
 
 -- too many winners give the limit
 pub too-many : (book : BookValue) (weights : List ℕ) (form : PriceForm) (n : ℕ) → IsBookStop book weights (TooMany n) → PriceGives book weights form (stopped (Limit Winners n))

@@ -2,22 +2,26 @@
 use Rattle.std.proofs.Common.{inl, inr, ◌≡◌, ◌∙◌, ℕ, ◌≤◌, IsTrue, Option, Some, None, List, [], ◌∷◌, length, map, refl, sym, ap, subst, arith}
 use Rattle.std.specs.Prelude.{Contains, option_and_then, Result, Ok, Err, IsSome, reverse}
 use Rattle.std.specs.List.{AllByRecursion}
+use Rattle.std.proofs.lemmas.Bool.{cases_lt}
 use Rattle.cca_base.specs.Files.{Folder, KeepsFiles}
 use Rattle.cca_base.proofs.Reading.{keeps_more}
 use Rattle.cca_inputs.specs.Command.{CommandValue, contents_of, input_as, inputs_of, missing, output_as}
-use Rattle.cca_inputs.specs.Outcome.{Answer, FileAnswers, InputGives, Outcome, done, stopped, stopped_after, stops, value}
-use Rattle.cca_inputs.specs.Reading.{InputStops, OnlyLoads}
+use Rattle.cca_inputs.specs.Outcome.{Answer, AnswerGives, FileAnswers, InputGives, Outcome, done, stopped, stopped_after, stops, value}
+use Rattle.cca_inputs.specs.Reading.{Halts, InputStops, OnlyLoads}
 use Rattle.cca_inputs.specs.declared.file_text.FileText.{FileText}
 use Rattle.cca_inputs.specs.declared.status.FileKind.{FileKind}
 use Rattle.cca_inputs.specs.declared.status.Status.{Status}
-use Rattle.cca_inputs.specs.declared.status.Status.TheVariants.{ReadFault}
+use Rattle.cca_inputs.specs.declared.status.Status.TheVariants.{Memory, ReadFault}
 use Rattle.auction_model.specs.Book.{Book}
 use Rattle.auction_rules.specs.Terms.{Terms}
 use Rattle.auction_rules.specs.declared.Event.{Event}
 use Rattle.log_replay.specs.ReplyLines.{end_of}
 use Rattle.log_replay.specs.declared.results.ReplayStop.{ReplayStop}
 use Rattle.log_replay.specs.declared.results.ReplayStop.TheVariants.{Rounds, Price, Open}
-use Rattle.cca_run.specs.Gives.{BookOfLogGives, CommandGives, EndGives, FilesGive, replay_status}
+use Rattle.cert_form.specs.Certificate.{CertValue}
+use Rattle.cca_inputs.specs.Answers.{CertAnswers}
+use Rattle.cca_inputs.specs.Checked.{StopsCheck}
+use Rattle.cca_run.specs.Gives.{BookOfLogGives, CommandGives, EndGives, FilesGive, VerdictGives, replay_status}
 use Rattle.cca_inputs.specs.Statuses.{IsStop}
 use Rattle.cca_run.specs.Works.{AreOutputs, HasBook, IsWork, OnlyReads, StopsBy, Works, WorksOut, bare, text_before}
 use Rattle.cca_run.specs.declared.work.Stop.{Stop}
@@ -79,13 +83,17 @@ module _ {V : Type 0} (command : CommandValue) (old mid new : Folder) (seen : Li
         at.leads told contents agree.1 o (subst (λ (content : Option (List ℕ)). InputGives kind most says content (follows contents) o) (sym is) (value v, answers, gives));
   }
 
-  -- the next input stopped it
-  pub stops-next : (halts : List ℕ → Status → Type 0) → ((bytes : List ℕ) (s : Status) → halts bytes s → says bytes (stops s))
+  -- what the bytes of an input within the limit say so that the run stops with this status
+  abbrev Stopping : List ℕ → Status → Type 0
+  Stopping bytes s = (answer : Answer V) × says bytes answer × AnswerGives answer (follows (contents_of command old.file)) (stopped s)
+
+  -- the next input stopped it, or what its value gives did
+  pub stops-with : (halts : List ℕ → Status → Type 0) → ((bytes : List ℕ) (s : Status) → halts bytes s → Stopping bytes s)
       → missing kind (contents_of command old.file) kind ≡ None → Agree command old (missing kind (contents_of command old.file)) seen
-      → (s : Status) → InputStops kind most halts mid.told (mid.file name) (mid.load_faults name) (new.load_faults name) s → Works command old new (Err (bare s))
-  stops-next halts turn gone agree s stop = record { out = by stop; reads = reads-on command old mid new name within at.reads loads }
+      → (s : Status) → InputStops kind most halts mid.told (mid.file name) (mid.room name) (mid.load_faults name) (new.load_faults name) s → Works command old new (Err (bare s))
+  stops-with halts turn gone agree s stop = record { out = by stop; reads = reads-on command old mid new name within at.reads loads }
     where
-      by : InputStops kind most halts mid.told (mid.file name) (mid.load_faults name) (new.load_faults name) s → StopsBy command old new (bare s)
+      by : InputStops kind most halts mid.told (mid.file name) (mid.room name) (mid.load_faults name) (new.load_faults name) s → StopsBy command old new (bare s)
       by (inl memory) = inl (ap bare memory)
       by (inr (inl fault)) = inr (inl (
         kind,
@@ -94,6 +102,7 @@ module _ {V : Type 0} (command : CommandValue) (old mid new : Folder) (seen : Li
           name = name;
           input = input;
           rose = rose-from (old.load_faults name) (mid.load_faults name) (new.load_faults name) (at.reads.loads.not_less name) fault.1;
+          no_room = λ some. fault.2 (subst (λ (r : List ℕ → Option ℕ). IsSome (r name)) (sym at.reads.kept.room) some);
           reached = λ told. at.leads told (missing kind (contents_of command old.file)) agree (stopped (ReadFault kind))
               (subst (λ (content : Option (List ℕ)). InputGives kind most says content (follows (missing kind (contents_of command old.file))) (stopped (ReadFault kind))) (sym gone) refl);
         },
@@ -103,10 +112,21 @@ module _ {V : Type 0} (command : CommandValue) (old mid new : Folder) (seen : Li
         λ told.
             let h = given.1 (still-told told) in
             let is : contents_of command old.file kind ≡ Some h.bytes = same-file ∙ h.here in
-            let answers : FileAnswers most says h.bytes (stops s) = record { text = λ short. turn h.bytes s (h.text short); long = λ over. ap stops (h.long over) } in
             at.leads told (contents_of command old.file) (agree-own command old seen) (stopped s)
-            (subst (λ (content : Option (List ℕ)). InputGives kind most says content (follows (contents_of command old.file)) (stopped s)) (sym is) (stops s, answers, refl)),
+            (subst (λ (content : Option (List ℕ)). InputGives kind most says content (follows (contents_of command old.file)) (stopped s)) (sym is) (given-by h)),
       ))
+        where
+          given-by : (h : Halts most halts (mid.file name) s) → InputGives kind most says (Some h.bytes) (follows (contents_of command old.file)) (stopped s)
+          given-by h = elim (cases_lt most (length h.bytes)) [
+            | inl over ↦ (stops s, record { text = λ short. absurd (omega (arith, short, over)); long = λ more. ap stops (h.long more) }, refl)
+            | inr short ↦ (let t = turn h.bytes s (h.text short) in (t.0, record { text = λ less. t.1; long = λ over. absurd (omega (arith, short, over)) }, t.2))
+          ]
+
+  -- the next input stopped it
+  pub stops-next : (halts : List ℕ → Status → Type 0) → ((bytes : List ℕ) (s : Status) → halts bytes s → says bytes (stops s))
+      → missing kind (contents_of command old.file) kind ≡ None → Agree command old (missing kind (contents_of command old.file)) seen
+      → (s : Status) → InputStops kind most halts mid.told (mid.file name) (mid.room name) (mid.load_faults name) (new.load_faults name) s → Works command old new (Err (bare s))
+  stops-next halts turn gone agree s stop = stops-with halts (λ bytes status halt. (stops status, turn bytes status halt, refl)) gone agree s stop
 
 -- the kinds of texts are those of outputs
 outputs-of-kinds : (command : CommandValue) (texts : List FileText) (kinds : List FileKind) → map (λ t. t.kind) texts ≡ kinds → AllByRecursion (λ kind. IsSome (output_as command kind)) kinds → AreOutputs command texts
@@ -129,6 +149,10 @@ works command old new seen rest at kinds outputs result is = record { out = by r
     by (Ok work) is = (outputs-of-kinds command work.appended.items kinds is.1 outputs, given (done work.printed work.appended.items) is.0)
     by (Err stop) (inl memory) = inl memory
     by (Err stop) (inr x) = inr (inr (x.0, given _ x.1))
+
+-- behind some inputs there was no memory
+pub no-memory : (command : CommandValue) (old new : Folder) (seen : List FileKind) (rest : Contents → Outcome → Type 0) → IsAt command old new seen rest → Works command old new (Err (bare Memory))
+no-memory command old new seen rest at = record { out = inl refl; reads = at.reads }
 
 -- the log that was read leads to a book
 pub book-next : (command : CommandValue) (old new : Folder) (seen : List FileKind) (terms : Terms) (events : List Event) (follows : Contents → Book → Outcome → Type 0) (book : Book)
@@ -160,3 +184,9 @@ book-stops command old new seen terms events follows stop at (inr (why, is, told
       λ told. at.leads told (contents_of command old.file) (agree-own command old seen) (stopped (replay_status (length events) why))
           (subst (λ (end : Result Book ReplayStop). EndGives (length events) end (follows (contents_of command old.file)) (stopped (replay_status (length events) why))) (sym is) refl),
     )
+
+-- a certificate that was checked from its file stopped it
+pub check-turn : (book : Book) (weights bytes : List ℕ) (s : Status) → StopsCheck book weights bytes s
+    → (answer : Answer CertValue) × CertAnswers book bytes answer × AnswerGives answer (VerdictGives book weights) (stopped s)
+check-turn book weights bytes s (inl says) = (stops s, says, refl)
+check-turn book weights bytes s (inr (c, says, (test, place, first, is))) = (value c, says, inr (test, place, first, ap stopped is))

@@ -3,7 +3,7 @@ use Rattle.std.proofs.Common.{inl, inr, ◌≡◌, ◌∙◌, ℕ, ◌≤◌, �
 use Rattle.std.specs.Option.{option_map, IfSome}
 use Rattle.std.proofs.lemmas.List.{length-append, take-append-le}
 use Rattle.std.proofs.Math.Seq.{take-length, take-append-add}
-use Rattle.cca_base.specs.Sink.{Output, Puts}
+use Rattle.cca_base.specs.Sink.{HasRoom, Output, Puts}
 use Rattle.cca_inputs.specs.declared.status.FileKind.TheVariants.{Out}
 use Rattle.cca_inputs.specs.declared.status.Status.{Status}
 use Rattle.cca_inputs.specs.declared.status.Status.TheVariants.{WriteFault}
@@ -38,12 +38,23 @@ puts-on old mid new a b n p q = record {
 puts-first : (old new : Output) (a b : List ℕ) (n : ℕ) → n ≤ length a → Puts old new a n → Puts old new (a ++ b) n
 puts-first old new a b n le p = record { bytes = p.bytes ∙ ap (λ (t : List ℕ). option_map (λ x. x ++ t) old.bytes) (sym (take-append-le n a b le)); fits = p.fits; room = p.room }
 
+-- room for both is room for the first
+room-first : (room : Option ℕ) (a b : List ℕ) → HasRoom room (length (a ++ b)) → HasRoom room (length a)
+room-first None a b has = has
+room-first (Some r) a b has = omega (arith, has, length-append a b)
+
+-- and, behind the first, for the second
+room-behind : (x y : Option ℕ) (a b : List ℕ) → y ≡ option_map (λ r. r - length a) x → HasRoom x (length (a ++ b)) → HasRoom y (length b)
+room-behind None y a b is has = absurd has
+room-behind (Some r) y a b is has = subst (λ (o : Option ℕ). HasRoom o (length b)) (sym is) (omega (arith, has, length-append a b))
+
 -- the first wasn't written whole
 pub first-fails : (old new : Output) (a b : List ℕ) (status : Status) (whole : Bool) → whole ≡ false → Written old new a whole → Prints old new (a ++ b) status (WriteFault Out)
 first-fails old new a b status whole is written = by (subst (Written old new a) is written)
   where
     by : Written old new a false → Prints old new (a ++ b) status (WriteFault Out)
-    by w = let cut = w.1 in inr (refl, w.0, (cut.0, (let l = cut.1 in omega (arith, l, length-append a b)), puts-first old new a b cut.0 (let l = cut.1 in omega (arith, l)) cut.2))
+    by w = let cut = w.1 in
+        inr (refl, w.0, (cut.0, (let l = cut.1 in omega (arith, l, length-append a b)), puts-first old new a b cut.0 (let l = cut.1 in omega (arith, l)) cut.2), λ has. w.2 (room-first old.room a b has))
 
 -- the second wasn't written whole
 pub second-fails : (old mid new : Output) (a b : List ℕ) (status : Status) (one whole : Bool) → old.faults ≤ mid.faults → one ≡ true → whole ≡ false → Written old mid a one → Written mid new b whole
@@ -52,7 +63,7 @@ second-fails old mid new a b status one whole le first is p q = by (subst (Writt
   where
     by : Written old mid a true → Written mid new b false → Prints old new (a ++ b) status (WriteFault Out)
     by p w = let cut = w.1 in
-        inr (refl, rose-from old.faults mid.faults new.faults le w.0, (length a + cut.0, (let l = cut.1 in omega (arith, l, length-append a b)), puts-on old mid new a b cut.0 p cut.2))
+        inr (refl, rose-from old.faults mid.faults new.faults le w.0, (length a + cut.0, (let l = cut.1 in omega (arith, l, length-append a b)), puts-on old mid new a b cut.0 p cut.2), λ has. w.2 (room-behind old.room mid.room a b p.room has))
 
 -- both were written whole
 pub both-written : (old mid new : Output) (a b : List ℕ) (status : Status) (one other : Bool) → one ≡ true → other ≡ true → Written old mid a one → Written mid new b other → Prints old new (a ++ b) status status

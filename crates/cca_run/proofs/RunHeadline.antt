@@ -92,12 +92,16 @@ no-write None old new before now kinds.Log none fault = fault
 no-write None old new before now kinds.Book none fault = fault
 no-write None old new before now kinds.Cert none fault = fault
 no-write None old new before now kinds.Weights none fault = fault
+no-write None old new before now kinds.Slots none fault = fault
+no-write None old new before now kinds.Edits none fault = fault
 no-write None old new before now kinds.Out none fault = none.puts fault
 no-write (Some command) old new before now kinds.Award none fault = none.appends fault.name (output-among command kinds.Award fault.name fault.output) fault.rose
 no-write (Some command) old new before now kinds.Log none fault = none.appends fault.name (output-among command kinds.Log fault.name fault.output) fault.rose
 no-write (Some command) old new before now kinds.Book none fault = none.appends fault.name (output-among command kinds.Book fault.name fault.output) fault.rose
 no-write (Some command) old new before now kinds.Cert none fault = none.appends fault.name (output-among command kinds.Cert fault.name fault.output) fault.rose
 no-write (Some command) old new before now kinds.Weights none fault = none.appends fault.name (output-among command kinds.Weights fault.name fault.output) fault.rose
+no-write (Some command) old new before now kinds.Slots none fault = none.appends fault.name (output-among command kinds.Slots fault.name fault.output) fault.rose
+no-write (Some command) old new before now kinds.Edits none fault = none.appends fault.name (output-among command kinds.Edits fault.name fault.output) fault.rose
 no-write (Some command) old new before now kinds.Out none fault = none.puts fault
 
 -- without a fault a status is decided, or there was no memory

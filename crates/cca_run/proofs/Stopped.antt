@@ -2,7 +2,7 @@
 use Rattle.std.proofs.Common.{inl, inr, ◌≡◌, ◌⊎◌, ◌∙◌, ℕ, ◌<◌, IsTrue, Some, None, List, [], ◌++◌, length, refl, sym, ap, subst}
 use Rattle.cca_base.specs.Faults.{Rose}
 use Rattle.cca_base.specs.Files.{Folder, KeepsFiles}
-use Rattle.cca_base.specs.Sink.{Output, Puts}
+use Rattle.cca_base.specs.Sink.{HasRoom, Output, Puts}
 use Rattle.cca_inputs.specs.Command.{CommandValue, outputs_of}
 use Rattle.cca_inputs.specs.Outcome.{Outcome, stopped, stopped_after}
 use Rattle.cca_inputs.specs.StatusLine.{status_line}
@@ -22,10 +22,14 @@ module _ (before now : Output) (text : List ℕ) (status result : Status) (print
   abbrev Front : Type 0
   Front = (n : ℕ) × (n < length text) × Puts before now text n
 
-  as-result : (P : Type 0) → (result ≡ status → Puts before now text (length text) → P) → (result ≡ WriteFault Out → Rose before.faults now.faults → Front → P) → P
+  -- no room is told for the text
+  abbrev Full : Type 0
+  Full = HasRoom before.room (length text) → ⊥
+
+  as-result : (P : Type 0) → (result ≡ status → Puts before now text (length text) → P) → (result ≡ WriteFault Out → Rose before.faults now.faults → Front → Full → P) → P
   as-result P whole cut = elim prints [
     | inl w ↦ whole w.0 w.1
-    | inr w ↦ cut w.0 w.1 w.2
+    | inr w ↦ cut w.0 w.1 w.2 w.3
   ]
 
 -- the words say no command
@@ -35,12 +39,12 @@ module _ (folder : Folder) (before now : Output) (line : List ℕ) (result : Sta
 
   never-read : (kind : FileKind) → result ≡ ReadFault kind → ⊥
   never-read kind r = as-result before now line Words result prints ⊥
-      (λ e w. let x : Words ≡ ReadFault kind = sym e ∙ r in cc) (λ e rose cut. let x : WriteFault Out ≡ ReadFault kind = sym e ∙ r in cc)
+      (λ e w. let x : Words ≡ ReadFault kind = sym e ∙ r in cc) (λ e rose cut full. let x : WriteFault Out ≡ ReadFault kind = sym e ∙ r in cc)
 
   wrote-out : (kind : FileKind) → result ≡ WriteFault kind → (Out ≡ kind) × Rose before.faults now.faults
   wrote-out kind r = as-result before now line Words result prints _
       (λ e w. let x : Words ≡ WriteFault kind = sym e ∙ r in absurd cc)
-      (λ e rose cut. let x : WriteFault Out ≡ WriteFault kind = sym e ∙ r in (let same : Out ≡ kind = cc in same, rose))
+      (λ e rose cut full. let x : WriteFault Out ≡ WriteFault kind = sym e ∙ r in (let same : Out ≡ kind = cc in same, rose))
 
   pub no-command : RunEnds None folder folder before now result
   no-command = record {
@@ -48,16 +52,16 @@ module _ (folder : Folder) (before now : Output) (line : List ℕ) (result : Sta
     read_fault = λ kind r. absurd (never-read kind r);
     write_fault = λ kind w. let o = wrote-out kind w in subst (λ (k : FileKind). IsWriteFault None folder folder before now k) o.0 o.1;
     answer = λ told decided. as-result before now line Words result prints _
-        (λ e w. (stopped Words, refl, sym e, subst (λ (l : List ℕ). Puts before now l (length l)) is w, keeps)) (λ e rose cut. absurd (subst IsDecided e decided));
+        (λ e w. (stopped Words, refl, sym e, subst (λ (l : List ℕ). Puts before now l (length l)) is w, keeps)) (λ e rose cut full. absurd (subst IsDecided e decided));
     line = λ h. as-result before now line Words result prints _
         (λ e w. let same : line ≡ status_line result = is ∙ ap status_line (sym e) in subst (λ (l : List ℕ). Puts before now l (length l)) same w)
-        (λ e rose cut. absurd (elim h [
+        (λ e rose cut full. absurd (elim h [
           | inl x ↦ (let y : WriteFault Out ≡ Words = sym e ∙ x in cc)
           | inr x ↦ subst IsHindered e x
         ]));
     front = λ r. as-result before now line Words result prints _
         (λ e w. let x : Words ≡ WriteFault Out = sym e ∙ r in absurd cc)
-        (λ e rose cut. (line, cut.0, cut.1, cut.2, λ told. inl (stopped Words, refl, is)));
+        (λ e rose cut full. (line, cut.0, cut.1, cut.2, (λ told. inl (stopped Words, refl, is)), full));
     kept = λ k. keeps;
     files = keeps;
     loads = among-none [] folder.load_faults;
@@ -65,7 +69,7 @@ module _ (folder : Folder) (before now : Output) (line : List ℕ) (result : Sta
   }
 
   pub words-or-out : (result ≡ Words) ⊎ (result ≡ WriteFault Out)
-  words-or-out = as-result before now line Words result prints _ (λ e w. inl e) (λ e rose cut. inr e)
+  words-or-out = as-result before now line Words result prints _ (λ e w. inl e) (λ e rose cut full. inr e)
 
 -- the way to the work of a command stopped
 module _ (command : CommandValue) (old new : Folder) (before now : Output) (stop : Stop) (result : Status) (reads : OnlyReads command old new) (stops : StopsBy command old new stop)
@@ -97,14 +101,14 @@ module _ (command : CommandValue) (old new : Folder) (before now : Output) (stop
   put-failed : (kind : FileKind) → result ≡ WriteFault kind → (Out ≡ kind) × Rose before.faults now.faults
   put-failed kind r = as-result before now text stop.status result prints _
       (λ e w. absurd (never-wrote kind (sym e ∙ r)))
-      (λ e rose cut. let x : WriteFault Out ≡ WriteFault kind = sym e ∙ r in (let same : Out ≡ kind = cc in same, rose))
+      (λ e rose cut full. let x : WriteFault Out ≡ WriteFault kind = sym e ∙ r in (let same : Out ≡ kind = cc in same, rose))
 
   read-fault : (kind : FileKind) → result ≡ ReadFault kind → IsReadFault (Some command) old new kind
   read-fault kind r = as-result before now text stop.status result prints _
       (λ e w. by-way _ (λ m. let x : Memory ≡ ReadFault kind = sym (status-of _ m) ∙ sym e ∙ r in absurd cc)
       (λ other m f. let x : ReadFault other ≡ ReadFault kind = sym (status-of _ m) ∙ sym e ∙ r in let same : other ≡ kind = cc in subst (FailsToRead command old new) same f)
       (λ s g. absurd (subst IsStop (sym e ∙ r) s)))
-      (λ e rose cut. let x : WriteFault Out ≡ ReadFault kind = sym e ∙ r in absurd cc)
+      (λ e rose cut full. let x : WriteFault Out ≡ ReadFault kind = sym e ∙ r in absurd cc)
 
   -- a hindered stop prints its line alone
   line-alone : IsHindered stop.status → text ≡ status_line stop.status
@@ -127,23 +131,23 @@ module _ (command : CommandValue) (old new : Folder) (before now : Output) (stop
 
   pub stop-ends : RunEnds (Some command) old new before now result
   stop-ends = record {
-    words = λ r. as-result before now text stop.status result prints _ (λ e w. absurd (never-words (sym e ∙ r))) (λ e rose cut. let x : WriteFault Out ≡ Words = sym e ∙ r in absurd cc);
+    words = λ r. as-result before now text stop.status result prints _ (λ e w. absurd (never-words (sym e ∙ r))) (λ e rose cut full. let x : WriteFault Out ≡ Words = sym e ∙ r in absurd cc);
     read_fault = read-fault;
     write_fault = λ kind r. let o = put-failed kind r in subst (λ (k : FileKind). IsWriteFault (Some command) old new before now k) o.0 o.1;
     answer = λ told decided. as-result before now text stop.status result prints _
         (λ e w. by-way _ (λ m. absurd (subst IsDecided (e ∙ status-of _ m) decided)) (λ kind m f. absurd (subst IsDecided (e ∙ status-of _ m) decided))
         (λ s g. (stopped_after (text_before stop) stop.status, g told, sym e, w, reads.kept)))
-        (λ e rose cut. absurd (subst IsDecided e decided));
+        (λ e rose cut full. absurd (subst IsDecided e decided));
     line = λ h. as-result before now text stop.status result prints _
         (λ e w. let hindered : IsHindered stop.status = elim h [
           | inl x ↦ absurd (never-words (sym e ∙ x))
           | inr x ↦ subst IsHindered e x
         ] in let same : text ≡ status_line result = line-alone hindered ∙ ap status_line (sym e) in subst (λ (l : List ℕ). Puts before now l (length l)) same w)
-        (λ e rose cut. absurd (elim h [
+        (λ e rose cut full. absurd (elim h [
           | inl x ↦ (let y : WriteFault Out ≡ Words = sym e ∙ x in cc)
           | inr x ↦ subst IsHindered e x
         ]));
-    front = λ r. as-result before now text stop.status result prints _ (λ e w. absurd (never-wrote Out (sym e ∙ r))) (λ e rose cut. (text, cut.0, cut.1, cut.2, due));
+    front = λ r. as-result before now text stop.status result prints _ (λ e w. absurd (never-wrote Out (sym e ∙ r))) (λ e rose cut full. (text, cut.0, cut.1, cut.2, due, full));
     kept = λ k. reads.kept;
     files = inl reads.kept;
     loads = reads.loads;

@@ -3,3 +3,4 @@ pub mod Run
 pub mod Works
 pub mod Later
 pub mod Headline
+pub mod Rooms

@@ -1,8 +1,8 @@
 -- How a run ends: the causes of faults, and what is left in the files and in the output.
-use Rattle.std.specs.Prelude.{◌≡◌, ◌⊎◌, ◌<◌, ◌≤◌, ℕ, IsTrue, Option, Some, None, List, [], ◌∷◌, ◌++◌, Contains, length}
+use Rattle.std.specs.Prelude.{◌≡◌, ◌⊎◌, ◌<◌, ◌≤◌, ℕ, IsSome, IsTrue, Option, Some, None, List, [], ◌∷◌, ◌++◌, Contains, length}
 use Rattle.cca_base.specs.Faults.{Rose}
 use Rattle.cca_base.specs.Files.{Folder, KeepsFiles, Adds}
-use Rattle.cca_base.specs.Sink.{Output, Puts}
+use Rattle.cca_base.specs.Sink.{HasRoom, Output, Puts}
 use Rattle.cca_inputs.specs.Command.{CommandValue, command_of, contents_of, input_as, inputs_of, missing, output_as, outputs_of}
 use Rattle.cca_inputs.specs.Outcome.{Outcome, stopped}
 use Rattle.cca_inputs.specs.StatusLine.{status_line}
@@ -17,11 +17,12 @@ use Rattle.cca_run.specs.Gives.{CommandGives, FilesGive, Gives}
 abbrev pub IsReached : CommandValue → (FileKind → Option (List ℕ)) → FileKind → Type 0
 IsReached command contents kind = CommandGives command (missing kind contents) (stopped (ReadFault kind))
 
--- the command reads a file of this kind, a load of which failed, and all that comes before it passed
+-- the command reads a file of this kind, a load of which failed, where no room is told, and all that comes before it passed
 pub record FailsToRead (command : CommandValue) (old new : Folder) (kind : FileKind) : Type 0 where
   pub name : List ℕ
   pub input : input_as command kind ≡ Some name
   pub rose : Rose (old.load_faults name) (new.load_faults name)
+  pub no_room : IsSome (old.room name) → ⊥
   pub reached : IsTrue old.told → IsReached command (contents_of command old.file) kind
 
 abbrev pub IsReadFault : Option CommandValue → Folder → Folder → FileKind → Type 0
@@ -39,8 +40,8 @@ abbrev pub AppendsAll : CommandValue → List FileText → Folder → Folder →
 AppendsAll command [] old new = KeepsFiles old new
 AppendsAll command (first ∷ rest) old new = (between : Folder) × AppendsWhole command first old between × AppendsAll command rest between new
 
--- Of these texts the ones before that of this kind were appended whole, of that one a part from its front and not all, and of those behind
--- it nothing; no other file changed.
+-- Of these texts the ones before that of this kind were appended whole, of that one, for which no room was told that is enough, a part
+-- from its front and not all, and of those behind it nothing; no other file changed.
 pub record AppendsUpTo (command : CommandValue) (kind : FileKind) (appended : List FileText) (old new : Folder) : Type 0 where
   pub before : List FileText
   pub text : List ℕ
@@ -53,6 +54,7 @@ pub record AppendsUpTo (command : CommandValue) (kind : FileKind) (appended : Li
   pub count : ℕ
   pub part : count < length text
   pub front : Adds name between new text count
+  pub no_room : HasRoom (between.room name) (length text) → ⊥
 
 -- The command appends to a file of this kind, an append to which failed: all else was done, the texts before this one were appended whole,
 -- and of this one a part from its front.
@@ -130,11 +132,12 @@ pub record CountsAmong (names : List (List ℕ)) (old new : List ℕ → ℕ) : 
   pub not_less : (name : List ℕ) → old name ≤ new name
   pub elsewhere : (name : List ℕ) → (Contains names name → ⊥) → new name ≡ old name
 
--- the whole text was written and this status answered, or a front of it and a fault of the output, which was counted
+-- the whole text was written and this status answered, or a front of it, for which no room is told that is enough, and a fault of the
+-- output, which was counted
 abbrev pub Prints : Output → Output → List ℕ → Status → Status → Type 0
 Prints old new text status result =
     ((result ≡ status) × Puts old new text (length text))
-    ⊎ ((result ≡ WriteFault Out) × Rose old.faults new.faults × ((n : ℕ) × (n < length text) × Puts old new text n))
+    ⊎ ((result ≡ WriteFault Out) × Rose old.faults new.faults × ((n : ℕ) × (n < length text) × Puts old new text n) × (HasRoom old.room (length text) → ⊥))
 
 -- No fault was counted in the call: no count of failed loads of a file that the command reads rose, none of failed appends to a file that
 -- it appends to, nor that of the output.

@@ -8,7 +8,7 @@ use Rattle.log_replay.specs.ReplyLines.{end_of}
 use Rattle.log_replay.specs.declared.results.ReplayStop.{ReplayStop}
 use Rattle.cca_base.specs.Faults.{Rose}
 use Rattle.cca_base.specs.Files.{Folder, KeepsFiles}
-use Rattle.cca_base.specs.Sink.{Output, Puts}
+use Rattle.cca_base.specs.Sink.{HasRoom, Output, Puts}
 use Rattle.core_price.specs.declared.priced.PriceStop.{PriceStop}
 use Rattle.core_price.specs.declared.priced.PriceStop.TheVariants as price
 use Rattle.limits.specs.declared.LimitKind.TheVariants.{Winners}
@@ -92,10 +92,10 @@ abbrev pub AppendEnds : CommandValue → List FileText → Folder → Folder →
 AppendEnds command texts old new (Ok u) = AppendsAll command texts old new
 AppendEnds command texts old new (Err kind) = FailsAt command texts old new kind
 
--- whether the whole text was written; else a front of it and not all, and a fault of the output, which was counted
+-- whether the whole text was written; else a front of it and not all, for which no room is told, and a fault of the output, which was counted
 abbrev pub Written : Output → Output → List ℕ → Bool → Type 0
 Written old new text true = Puts old new text (length text)
-Written old new text false = Rose old.faults new.faults × ((n : ℕ) × (n < length text) × Puts old new text n)
+Written old new text false = Rose old.faults new.faults × ((n : ℕ) × (n < length text) × Puts old new text n) × (HasRoom old.room (length text) → ⊥)
 
 -- How a run ends, by its command if the words say one. The fields are the clauses of the top call.
 pub record RunEnds (command : Option CommandValue) (old new : Folder) (before now : Output) (result : Status) : Type 0 where
@@ -105,7 +105,7 @@ pub record RunEnds (command : Option CommandValue) (old new : Folder) (before no
   pub answer : IsTrue old.told → IsDecided result → (o : Outcome) × WordsGive command old.file o × (o.status ≡ result) × Puts before now o.printed (length o.printed) × Appended command o.appended old new
   pub line : (result ≡ Words) ⊎ IsHindered result → Puts before now (status_line result) (length (status_line result))
   pub front : result ≡ WriteFault Out → (text : List ℕ) × (n : ℕ) × (n < length text) × Puts before now text n
-      × (IsTrue old.told → ((o : Outcome) × WordsGive command old.file o × (text ≡ o.printed)) ⊎ ((status : Status) × IsHindrance command old new status × (text ≡ status_line status)))
+      × (IsTrue old.told → ((o : Outcome) × WordsGive command old.file o × (text ≡ o.printed)) ⊎ ((status : Status) × IsHindrance command old new status × (text ≡ status_line status))) × (HasRoom before.room (length text) → ⊥)
   pub kept : KeepsAll result → KeepsFiles old new
   pub files : Changes command old new
   pub loads : CountsAmong (inputs command) old.load_faults new.load_faults
@@ -119,7 +119,7 @@ pub record FinishEnds (command : CommandValue) (old new : Folder) (before now : 
   pub cause : (kind : FileKind) → result ≡ WriteFault kind → ((kind ≡ Out) × Rose before.faults now.faults) ⊎ (FailsAt command appended old new kind)
   pub line : IsHindered result → Puts before now (status_line result) (length (status_line result))
   pub front : result ≡ WriteFault Out → (text : List ℕ) × (n : ℕ) × (n < length text) × Puts before now text n
-      × ((text ≡ printed) ⊎ ((kind : FileKind) × FailsAt command appended old new kind × (text ≡ status_line (WriteFault kind))))
+      × ((text ≡ printed) ⊎ ((kind : FileKind) × FailsAt command appended old new kind × (text ≡ status_line (WriteFault kind)))) × (HasRoom before.room (length text) → ⊥)
   pub files : AppendsAll command appended old new ⊎ ((kind : FileKind) × AppendsUpTo command kind appended old new)
   pub counts : OnlyAppends command old new
   pub faults : before.faults ≤ now.faults

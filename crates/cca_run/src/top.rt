@@ -13,6 +13,7 @@ ghost use Rattle.cca_inputs.specs.declared.status.Status.{Status};
 ghost use Rattle.cca_run.specs.Gives.{FilesGive, Gives, cert_file};
 ghost use Rattle.cca_run.specs.Headline.{CanBeAwarded, IsAudited, IsAwarded};
 ghost use Rattle.cca_run.specs.Later.{HoldsCert, HoldsNothing};
+ghost use Rattle.cca_run.specs.Rooms.{HasRooms};
 ghost use Rattle.cca_run.specs.Run.{Appended, AppendsAll, Changes, CountsAmong, HasNoFault, IsDue, IsReadFault, IsWriteFault, inputs, outputs};
 ghost use Rattle.cca_run.specs.Works.{AreOutputs, FinishEnds, RunEnds};
 
@@ -125,6 +126,9 @@ pub fn run<F: Files, O: Sink>(alloc: Global, words: &[String], files: &mut F, ou
 
     // Where no fault was counted, the status is one that the words and the bytes decide, or want of memory.
     ensures complete { HasNoFault (command_of (map string_bytes words.now)) (F.folder files.old) (F.folder files.new) (O.output out.old) (O.output out.new) → (result ≡ Status.Memory) ⊎ IsDecided result }
+
+    // So it is over files and an output with room for all that the words and the bytes ask for.
+    ensures roomy { IsTrue (F.folder files.old).told → HasRooms (map string_bytes words.now) (F.folder files.old) (O.output out.old) → (result ≡ Status.Memory) ⊎ IsDecided result }
 
     // A fault has its cause, and all that comes before it passed.
     ensures read_fault { (kind : FileKind) → result ≡ Status.ReadFault kind → IsReadFault (command_of (map string_bytes words.now)) (F.folder files.old) (F.folder files.new) kind }

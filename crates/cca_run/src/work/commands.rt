@@ -8,16 +8,16 @@ ghost use Rattle.cca_run.specs.Works.{IsWork, Works};
 use crate::work::auction::{logged_book, replayed};
 use crate::work::made::made;
 use crate::work::placing::{place_verdict, placed};
-use crate::work::pricing::{price_alike, price_weighed};
+use crate::work::pricing::{ones_of, price_alike, price_weighed};
 use crate::work::reviewing::reviewed;
-use crate::work::verdict::{verdict_alike, verdict_weighed};
+use crate::work::verdict::accepted;
 use crate::work::win::win_of;
 use crate::work::{Stop, Work};
 use bid_book::BidBook;
 use cca_base::Files;
 use cca_inputs::{
-    AwardInput, BookInput, CertInput, Command, EditsInput, LogInput, PlaceCertInput, PriceForm,
-    SlotsInput, WeightsInput, read_input,
+    AwardInput, BookInput, Command, EditsInput, LogInput, PlaceCertInput, PriceForm, SlotsInput,
+    WeightsInput, check_input, read_input,
 };
 use log_file::packages_of_log;
 use std::alloc::Global;
@@ -59,8 +59,9 @@ fn check_work<F: Files>(alloc: Global, files: &mut F, book: &str, cert: &str) ->
     ensures { Works (check book.now cert.now) (F.folder files.old) (F.folder files.new) result }
 {
     let book = read_input(alloc, files, book, &BookInput)?;
-    let cert = read_input(alloc, files, cert, &CertInput { book: &book })?;
-    verdict_alike(alloc, &book, &cert)
+    let weights = ones_of(alloc, &book)?;
+    let facts = check_input(alloc, files, cert, &book, &weights)?;
+    accepted(alloc, &book, &facts)
 }
 
 fn weigh_work<F: Files>(
@@ -93,8 +94,8 @@ fn weigh_check_work<F: Files>(
 {
     let book = read_input(alloc, files, book, &BookInput)?;
     let weights = read_input(alloc, files, weights, &WeightsInput { book: &book })?;
-    let cert = read_input(alloc, files, cert, &CertInput { book: &book })?;
-    verdict_weighed(alloc, &book, &cert, weights.items())
+    let facts = check_input(alloc, files, cert, &book, weights.items())?;
+    accepted(alloc, &book, &facts)
 }
 
 fn auction_work<F: Files>(
@@ -147,8 +148,9 @@ fn audit_work<F: Files>(
     let events = read_input(alloc, files, log, &LogInput { award: &award })?;
     packages_of_log();
     let book = logged_book(alloc, award, &events)?;
-    let cert = read_input(alloc, files, cert, &CertInput { book: &book })?;
-    verdict_alike(alloc, &book, &cert)
+    let weights = ones_of(alloc, &book)?;
+    let facts = check_input(alloc, files, cert, &book, &weights)?;
+    accepted(alloc, &book, &facts)
 }
 
 fn place_work<F: Files>(

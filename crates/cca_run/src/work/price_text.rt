@@ -10,6 +10,7 @@ ghost use Rattle.cca_run.specs.Gives.{ArePriceLines, ArePrinted, AreRounds, IsPr
 
 use bid_book::BidBook;
 use cca_inputs::PriceForm;
+use cert_facts::facts;
 use cert_text::Certificate;
 use choices::Choice;
 use core_price::Turn;
@@ -49,7 +50,8 @@ fn price_lines(
 {
     book.kept();
     let mut text = rounds_part(alloc, &cert.choice, turns, rounds)?;
-    let prices = outcome_text(alloc, book, cert)?;
+    let facts = facts(alloc, book, cert)?;
+    let prices = outcome_text(alloc, book, &facts)?;
     text.add(prices.items())?;
     Ok(text)
 }
@@ -66,10 +68,11 @@ fn price_json(
     requires turns { AllByRecursion (CanPrintTurn cert.now.choice) turns.now }
     ensures { IfOk result (λ text. IsPriceJson rounds book.now cert.now.choice (cert_prices book.now (cert_value cert.now)) (cert_point (cert_value cert.now)) (turns_of cert.now.choice turns.now) text) }
 {
+    let facts = facts(alloc, book, cert)?;
     if rounds {
-        outcome_json(alloc, book, cert, Some(turns))
+        outcome_json(alloc, book, &facts, Some(turns))
     } else {
-        outcome_json(alloc, book, cert, None)
+        outcome_json(alloc, book, &facts, None)
     }
 }
 

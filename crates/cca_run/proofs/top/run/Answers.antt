@@ -1,6 +1,7 @@
 use Rattle.std.proofs.Common.{Option, map, string_bytes, subst}
 use Rattle.cca_inputs.specs.Command.{CommandValue}
 use Rattle.cca_run.specs.Works.{RunEnds}
+use Rattle.cca_run.proofs.Rooms.{run-roomy}
 use Rattle.cca_run.proofs.RunHeadline.{run-accepted, run-audit, run-award, run-awarded, run-complete, run-hands-on}
 use Rattle.cca_run.proofs.top.run.Goals as goal
 
@@ -9,7 +10,26 @@ returns-in-Some-clause-front g c =
     let old = g.F.Files.folder c.args.files.now in
     let new = g.F.Files.folder c.run_command.new.files in
     let ends = subst (λ (x : Option CommandValue). RunEnds x old new (g.O.Sink.output c.args.out.now) (g.O.Sink.output c.run_command.new.out) c.run_command.result) c.in-Some.ensures.command c.run_command.ensures.ends in
-    ends.front
+    λ fault. let f = ends.front fault in (f.0, f.1, f.2, f.3, f.4)
+
+pub returns-in-None-clause-front : goal.returns-in-None-clause-front
+returns-in-None-clause-front g c =
+    let folder = g.F.Files.folder c.args.files.now in
+    let ends = subst (λ (x : Option CommandValue). RunEnds x folder folder (g.O.Sink.output c.args.out.now) (g.O.Sink.output c.tell_words.new.out) c.tell_words.result) c.in-None.ensures.command c.tell_words.ensures.ends in
+    λ fault. let f = ends.front fault in (f.0, f.1, f.2, f.3, f.4)
+
+pub returns-in-Some-clause-roomy : goal.returns-in-Some-clause-roomy
+returns-in-Some-clause-roomy g c =
+    let old = g.F.Files.folder c.args.files.now in
+    let new = g.F.Files.folder c.run_command.new.files in
+    let ends = subst (λ (x : Option CommandValue). RunEnds x old new (g.O.Sink.output c.args.out.now) (g.O.Sink.output c.run_command.new.out) c.run_command.result) c.in-Some.ensures.command c.run_command.ensures.ends in
+    λ told has. run-roomy (map string_bytes c.args.words.now) old new _ _ told has c.run_command.result ends
+
+pub returns-in-None-clause-roomy : goal.returns-in-None-clause-roomy
+returns-in-None-clause-roomy g c =
+    let folder = g.F.Files.folder c.args.files.now in
+    let ends = subst (λ (x : Option CommandValue). RunEnds x folder folder (g.O.Sink.output c.args.out.now) (g.O.Sink.output c.tell_words.new.out) c.tell_words.result) c.in-None.ensures.command c.tell_words.ensures.ends in
+    λ told has. run-roomy (map string_bytes c.args.words.now) folder folder _ _ told has c.tell_words.result ends
 
 pub returns-in-Some-clause-read_fault : goal.returns-in-Some-clause-read_fault
 returns-in-Some-clause-read_fault g c =

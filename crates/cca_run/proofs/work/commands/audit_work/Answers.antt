@@ -2,14 +2,13 @@ use Rattle.std.proofs.Common.{refl, sym, ap, subst, ◌∙◌, arith, [], Err, r
 use Rattle.std.proofs.lemmas.Result.{err_from_is_err_and}
 use Rattle.limits.specs.declared.TheConstants.{AWARD_BYTES, LOG_BYTES, CERT_BYTES}
 use Rattle.log_file.specs.LogReading.{log_records}
-use Rattle.cert_text.specs.CertValues.{cert_value}
 use Rattle.cca_inputs.specs.Answers.{AwardAnswers, CertAnswers, LogAnswers}
 use Rattle.cca_inputs.specs.Command.{audit}
 use Rattle.cca_inputs.specs.declared.status.FileKind.TheVariants.{Award, Log, Cert}
 use Rattle.cca_run.specs.Gives.{BookOfLogGives, LogGives, CertGives, VerdictGives, ones}
 use Rattle.cca_run.specs.Works.{Works}
 use Rattle.cca_run.specs.declared.work.Stop.{Stop}
-use Rattle.cca_run.proofs.Progress.{begins, book-next, book-stops, reads-next, stops-next, works}
+use Rattle.cca_run.proofs.Progress.{begins, book-next, book-stops, check-turn, no-memory, reads-next, stops-next, stops-with, works}
 use Rattle.cca_run.proofs.work.commands.audit_work.Goals as goal
 
 pub returns-in_err-award : goal.returns-in_err-award
@@ -58,8 +57,8 @@ returns-in_err-book g c =
     let stopped = book-stops command old new _ terms events (λ contents. (λ b. CertGives b (contents Cert) (VerdictGives b (ones b)))) c.in_err-book.field-0.0 behind c.in_err-book.ensures in
     search rules
 
-pub returns-in_err-cert : goal.returns-in_err-cert
-returns-in_err-cert g c =
+pub returns-in_err-weights : goal.returns-in_err-weights
+returns-in_err-weights g c =
     let command = audit c.args.terms.now c.args.log.now c.args.cert.now in
     let old = g.F.Files.folder c.args.files.now in
     let mid = g.F.Files.folder c.read_input.new.files in
@@ -72,12 +71,33 @@ returns-in_err-cert g c =
     let events = c.in_ok-events.events in
     let behind = reads-next command old mid new _ Log LOG_BYTES (LogAnswers terms) (λ contents events. BookOfLogGives terms events (λ b. CertGives b (contents Cert) (VerdictGives b (ones b)))) c.args.log.now refl (1, omega arith, refl) at
     c.in_ok-events.ensures.loads events stated.bytes stated.short stated.says stated.here in
-    let end = g.F.Files.folder c.read_input-3.new.files in
     let book = c.in_ok-book.book in
     let found = book-next command old new _ terms events (λ contents. (λ b. CertGives b (contents Cert) (VerdictGives b (ones b)))) book behind c.in_ok-book.ensures in
-    let stopped = stops-next command old new end _ Cert CERT_BYTES (CertAnswers book) (λ contents. VerdictGives book (ones book)) c.args.cert.now refl (2, omega arith, refl) found
-    c.in_err-cert.ensures.loads _ (λ bytes s x. x) refl (refl, (refl, tt)) c.in_err-cert.field-0.0 c.in_err-cert.ensures.stop in
-    let is = err_from_is_err_and c.from_residual-in_err-cert.result c.from_residual-in_err-cert.ensures.1 in
+    let stopped = no-memory command old new _ _ found in
+    let is = err_from_is_err_and c.from_residual-in_err-weights.result c.from_residual-in_err-weights.ensures.1 in
+    subst (Works command old new) (sym (is.1 ∙ ap (λ (s : Stop). Err s) is.2)) stopped
+
+pub returns-in_err-facts : goal.returns-in_err-facts
+returns-in_err-facts g c =
+    let command = audit c.args.terms.now c.args.log.now c.args.cert.now in
+    let old = g.F.Files.folder c.args.files.now in
+    let mid = g.F.Files.folder c.read_input.new.files in
+    let new = g.F.Files.folder c.read_input-2.new.files in
+    let read = c.in_ok-award.ensures.value in
+    let terms = c.in_ok-award.award in
+    let at = reads-next command old old mid [] Award AWARD_BYTES AwardAnswers (λ contents t. LogGives t (contents Log) (λ events. BookOfLogGives t events (λ b. CertGives b (contents Cert) (VerdictGives b (ones b))))) c.args.terms.now refl (0, omega arith, refl) (begins command old)
+    c.in_ok-award.ensures.loads terms read.bytes read.short read.says read.here in
+    let stated = c.in_ok-events.ensures.value in
+    let events = c.in_ok-events.events in
+    let behind = reads-next command old mid new _ Log LOG_BYTES (LogAnswers terms) (λ contents events. BookOfLogGives terms events (λ b. CertGives b (contents Cert) (VerdictGives b (ones b)))) c.args.log.now refl (1, omega arith, refl) at
+    c.in_ok-events.ensures.loads events stated.bytes stated.short stated.says stated.here in
+    let end = g.F.Files.folder c.check_input.new.files in
+    let book = c.in_ok-book.book in
+    let found = book-next command old new _ terms events (λ contents. (λ b. CertGives b (contents Cert) (VerdictGives b (ones b)))) book behind c.in_ok-book.ensures in
+    let stop = rw (c.deref.ensures.value ∙ c.in_ok-weights.ensures) at c.in_err-facts.ensures.stop in
+    let stopped = stops-with command old new end _ Cert CERT_BYTES (CertAnswers book) (λ contents. VerdictGives book (ones book)) c.args.cert.now refl (2, omega arith, refl) found
+    c.in_err-facts.ensures.loads _ (check-turn book (ones book)) refl (refl, (refl, tt)) c.in_err-facts.field-0.0 stop in
+    let is = err_from_is_err_and c.from_residual-in_err-facts.result c.from_residual-in_err-facts.ensures.1 in
     subst (Works command old end) (sym (is.1 ∙ ap (λ (s : Stop). Err s) is.2)) stopped
 
 pub returns : goal.returns
@@ -94,11 +114,11 @@ returns g c =
     let events = c.in_ok-events.events in
     let behind = reads-next command old mid new _ Log LOG_BYTES (LogAnswers terms) (λ contents events. BookOfLogGives terms events (λ b. CertGives b (contents Cert) (VerdictGives b (ones b)))) c.args.log.now refl (1, omega arith, refl) at
     c.in_ok-events.ensures.loads events stated.bytes stated.short stated.says stated.here in
-    let end = g.F.Files.folder c.read_input-3.new.files in
+    let end = g.F.Files.folder c.check_input.new.files in
     let book = c.in_ok-book.book in
     let found = book-next command old new _ terms events (λ contents. (λ b. CertGives b (contents Cert) (VerdictGives b (ones b)))) book behind c.in_ok-book.ensures in
-    let tested = c.in_ok-cert.ensures.value in
-    let cert = cert_value c.in_ok-cert.cert in
+    let shown = c.in_ok-facts.ensures.value in
+    let c_is = rw (c.deref.ensures.value ∙ c.in_ok-weights.ensures) at shown.says in
     let last = reads-next command old new end _ Cert CERT_BYTES (CertAnswers book) (λ contents. VerdictGives book (ones book)) c.args.cert.now refl (2, omega arith, refl) found
-    c.in_ok-cert.ensures.loads cert tested.bytes tested.short tested.says.0 tested.here in
-    works command old end _ _ last [] tt c.verdict_alike.result c.verdict_alike.ensures
+    c.in_ok-facts.ensures.loads c_is.0 shown.bytes shown.short c_is.1 shown.here in
+    works command old end _ _ last [] tt c.accepted.result (c.accepted.ensures (ones book) c_is.0 c_is.2 c_is.3 c_is.4)

@@ -1,11 +1,10 @@
 use Rattle.std.proofs.Common.{refl, arith, [], rules}
 use Rattle.limits.specs.declared.TheConstants.{BOOK_BYTES, CERT_BYTES, WEIGHTS_BYTES}
-use Rattle.cert_text.specs.CertValues.{cert_value}
 use Rattle.cca_inputs.specs.Answers.{BookAnswers, CertAnswers, WeightsAnswers}
 use Rattle.cca_inputs.specs.Command.{weigh_check}
 use Rattle.cca_inputs.specs.declared.status.FileKind.TheVariants.{Book, Cert, Weights}
 use Rattle.cca_run.specs.Gives.{CertGives, VerdictGives, WeightsGive}
-use Rattle.cca_run.proofs.Progress.{begins, reads-next, stops-next, works}
+use Rattle.cca_run.proofs.Progress.{begins, check-turn, reads-next, stops-next, stops-with, works}
 use Rattle.cca_run.proofs.work.commands.weigh_check_work.Goals as goal
 
 pub returns-in_err-book : goal.returns-in_err-book
@@ -31,13 +30,13 @@ returns-in_err-weights g c =
     c.in_err-weights.ensures.loads _ (λ bytes s x. x) refl (refl, tt) c.in_err-weights.field-0.0 c.in_err-weights.ensures.stop in
     search rules
 
-pub returns-in_err-cert : goal.returns-in_err-cert
-returns-in_err-cert g c =
+pub returns-in_err-facts : goal.returns-in_err-facts
+returns-in_err-facts g c =
     let command = weigh_check c.args.book.now c.args.weights.now c.args.cert.now in
     let old = g.F.Files.folder c.args.files.now in
     let mid = g.F.Files.folder c.read_input.new.files in
     let new = g.F.Files.folder c.read_input-2.new.files in
-    let end = g.F.Files.folder c.read_input-3.new.files in
+    let end = g.F.Files.folder c.check_input.new.files in
     let read = c.in_ok-book.ensures.value in
     let book = c.in_ok-book.book in
     let at = reads-next command old old mid [] Book BOOK_BYTES BookAnswers (λ contents b. WeightsGive b (contents Weights) (λ w. CertGives b (contents Cert) (VerdictGives b w))) c.args.book.now refl (0, omega arith, refl) (begins command old)
@@ -46,8 +45,9 @@ returns-in_err-cert g c =
     let weights = c.in_ok-weights.weights in
     let behind = reads-next command old mid new _ Weights WEIGHTS_BYTES (WeightsAnswers book) (λ contents w. CertGives book (contents Cert) (VerdictGives book w)) c.args.weights.now refl (1, omega arith, refl) at
     c.in_ok-weights.ensures.loads weights weighed.bytes weighed.short weighed.says.0 weighed.here in
-    let stopped = stops-next command old new end _ Cert CERT_BYTES (CertAnswers book) (λ contents. VerdictGives book weights) c.args.cert.now refl (2, omega arith, refl) behind
-    c.in_err-cert.ensures.loads _ (λ bytes s x. x) refl (refl, (refl, tt)) c.in_err-cert.field-0.0 c.in_err-cert.ensures.stop in
+    let stop = rw c.items.ensures at c.in_err-facts.ensures.stop in
+    let stopped = stops-with command old new end _ Cert CERT_BYTES (CertAnswers book) (λ contents. VerdictGives book weights) c.args.cert.now refl (2, omega arith, refl) behind
+    c.in_err-facts.ensures.loads _ (check-turn book weights) refl (refl, (refl, tt)) c.in_err-facts.field-0.0 stop in
     search rules
 
 pub returns : goal.returns
@@ -56,7 +56,7 @@ returns g c =
     let old = g.F.Files.folder c.args.files.now in
     let mid = g.F.Files.folder c.read_input.new.files in
     let new = g.F.Files.folder c.read_input-2.new.files in
-    let end = g.F.Files.folder c.read_input-3.new.files in
+    let end = g.F.Files.folder c.check_input.new.files in
     let read = c.in_ok-book.ensures.value in
     let book = c.in_ok-book.book in
     let at = reads-next command old old mid [] Book BOOK_BYTES BookAnswers (λ contents b. WeightsGive b (contents Weights) (λ w. CertGives b (contents Cert) (VerdictGives b w))) c.args.book.now refl (0, omega arith, refl) (begins command old)
@@ -65,8 +65,8 @@ returns g c =
     let weights = c.in_ok-weights.weights in
     let behind = reads-next command old mid new _ Weights WEIGHTS_BYTES (WeightsAnswers book) (λ contents w. CertGives book (contents Cert) (VerdictGives book w)) c.args.weights.now refl (1, omega arith, refl) at
     c.in_ok-weights.ensures.loads weights weighed.bytes weighed.short weighed.says.0 weighed.here in
-    let tested = c.in_ok-cert.ensures.value in
-    let cert = cert_value c.in_ok-cert.cert in
+    let shown = c.in_ok-facts.ensures.value in
+    let c_is = rw c.items.ensures at shown.says in
     let last = reads-next command old new end _ Cert CERT_BYTES (CertAnswers book) (λ contents. VerdictGives book weights) c.args.cert.now refl (2, omega arith, refl) behind
-    c.in_ok-cert.ensures.loads cert tested.bytes tested.short tested.says.0 tested.here in
-    works command old end _ _ last [] tt c.verdict_weighed.result (rw c.items.ensures at c.verdict_weighed.ensures)
+    c.in_ok-facts.ensures.loads c_is.0 shown.bytes shown.short c_is.1 shown.here in
+    works command old end _ _ last [] tt c.accepted.result (c.accepted.ensures weights c_is.0 c_is.2 c_is.3 c_is.4)
