@@ -1,13 +1,12 @@
 -- The certificate of what pricing finds is in lowest terms.
-use Rattle.std.specs.Prelude.{◌≡◌, ℕ, zero, suc, ◌<◌, List, [], ◌∷◌, length, map, ℤ, pos, refl}
+use Rattle.std.specs.Prelude.{◌≡◌, ℕ, zero, suc, List, [], ◌∷◌, length, map, ℤ, pos, refl}
 use Rattle.std.specs.List.{AllByRecursion}
-use Rattle.std.proofs.Common.{ap, arith, subst, sym}
+use Rattle.std.proofs.Common.{ap, arith}
 use Rattle.auction_model.specs.Book.{Book, market_of}
 use Rattle.auction_model.specs.Market.{Market}
 use Rattle.cert_form.specs.Certificate.{RowValue}
 use Rattle.core_price.specs.Kept.{IsKept, firsts, seconds}
 use Rattle.core_price.specs.Lowest.{DividesAll, IsLowest}
-use Rattle.core_price.specs.Priced.{AreShownBy}
 use Rattle.core_price.specs.declared.priced.Priced.{Priced}
 use Rattle.core_price.specs.declared.priced.PricedRow.{PricedRow}
 use Rattle.row_laws.specs.Winners.{for_bidders, winners_in}

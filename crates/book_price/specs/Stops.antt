@@ -1,5 +1,5 @@
 -- Why a book is not priced.
-use Rattle.std.specs.Prelude.{◌≡◌, ℕ, ◌<◌, List}
+use Rattle.std.specs.Prelude.{◌≡◌, ℕ, List}
 use Rattle.auction_model.specs.Book.{Book, market_of}
 use Rattle.auction_model.specs.Greatest.{IsWinning}
 use Rattle.core_price.specs.declared.priced.PriceStop.{PriceStop}

@@ -1,4 +1,4 @@
-use Rattle.std.proofs.Common.{◌≡◌, ◌∙◌, sym, rules}
+use Rattle.std.proofs.Common.{◌∙◌, sym}
 use Rattle.auction_model.specs.Book.{market_of}
 use Rattle.auction_model.specs.Greatest.{IsWinning}
 use Rattle.value_table.proofs.Plain.{plain-winning}

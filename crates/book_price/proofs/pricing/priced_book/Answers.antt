@@ -1,13 +1,12 @@
-use Rattle.std.proofs.Common.{◌≡◌, ◌∙◌, List, ap, map, refl, subst, sym, ℕ}
+use Rattle.std.proofs.Common.{◌≡◌, ◌∙◌, List, ap, refl, subst, sym, ℕ}
 use Rattle.std.specs.List.{AllByRecursion}
 use Rattle.auction_model.specs.Book.{market_of}
 use Rattle.auction_model.specs.Prices.{weight_of}
 use Rattle.auction_model.specs.PricingRun.{IsPricingRun}
 use Rattle.cert_form.specs.Certificate.{CertValue}
-use Rattle.core_price.specs.Priced.{IsPriced}
 use Rattle.core_price.specs.Turns.{IsPointOfTurn, turns_of}
 use Rattle.core_price.specs.Weights.{FewWin}
-use Rattle.book_price.specs.Found.{AreFound, cert_found}
+use Rattle.book_price.specs.Found.{cert_found}
 use Rattle.book_price.specs.Reduced.{IsReduced}
 use Rattle.book_price.proofs.FoundLaws.{found-by}
 use Rattle.book_price.proofs.LastTurn.{point-is_last}
