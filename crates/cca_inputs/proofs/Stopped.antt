@@ -8,7 +8,6 @@ use Rattle.limits.specs.declared.LimitKind.{LimitKind}
 use Rattle.bid_book.specs.declared.BookStop.{BookStop}
 use Rattle.bid_book.specs.declared.BookStop.TheVariants as book
 use Rattle.cert_laws.specs.Tests.{bidders_of, states}
-use Rattle.cert_text.specs.Stops.{StopsAt}
 use Rattle.cert_text.specs.declared.stop.CertStop.{CertStop}
 use Rattle.cert_text.specs.declared.stop.CertStop.TheVariants as cert
 use Rattle.auction_rules.specs.Terms.{Terms}
@@ -42,13 +41,6 @@ pub book-stop : (bytes : List ℕ) (stop : BookStop)
 book-stop bytes (book.Form place) form limit = inr (tt, (faulty place, form place refl, refl))
 book-stop bytes (book.Limit kind count) form limit = inr (tt, (beyond (kind, count), limit kind count refl, refl))
 book-stop bytes book.Memory form limit = inl refl
-
--- the stop of a certificate is want of memory, or what its bytes answer
-pub cert-stop : (b : BookValue) (bytes : List ℕ) (stop : CertStop) → StopsAt (bidders_of b) (states b) bytes stop
-    → (cert_status stop ≡ Memory) ⊎ (IsStop (cert_status stop) × CertAnswers b bytes (stops (cert_status stop)))
-cert-stop b bytes (cert.Form place) says = inr (tt, (faulty place, says, refl))
-cert-stop b bytes (cert.Range place) says = inr (tt, (beyond place, says, refl))
-cert-stop b bytes cert.Memory says = inl refl
 
 -- the stop of an award is want of memory, or what its bytes answer
 pub award-stop : (bytes : List ℕ) (stop : AwardStop) → award_reading.IsStop (award_reading.reading bytes) stop

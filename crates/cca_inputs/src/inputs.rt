@@ -2,7 +2,6 @@
 
 pub(crate) mod award_input;
 pub(crate) mod book_input;
-pub(crate) mod cert_input;
 pub(crate) mod edits_input;
 pub(crate) mod log_input;
 pub(crate) mod place_cert_input;

@@ -17,7 +17,6 @@ pub use file_text::FileText;
 pub use input::{Input, read_input};
 pub use inputs::award_input::AwardInput;
 pub use inputs::book_input::BookInput;
-pub use inputs::cert_input::CertInput;
 pub use inputs::edits_input::EditsInput;
 pub use inputs::log_input::LogInput;
 pub use inputs::place_cert_input::PlaceCertInput;
