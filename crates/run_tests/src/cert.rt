@@ -119,7 +119,11 @@ fn says_yes_to_certificates(rt: HostRuntime) -> Result<(), Fail> {
 }
 
 fn no(test: u8, place: u64) -> Status {
-    Status::No { of: CertKind::Book, test, place }
+    Status::No {
+        of: CertKind::Book,
+        test,
+        place,
+    }
 }
 
 fn refused(place: u64) -> Status {

@@ -45,7 +45,12 @@ struct Ended {
 }
 
 // A run in which at most 100 bytes of a file and 5 of the output go in one call.
-fn run_failing(alloc: Global, words: &[&str], held: Held<'_>, failing: Failing) -> Result<Ended, AllocError> {
+fn run_failing(
+    alloc: Global,
+    words: &[&str],
+    held: Held<'_>,
+    failing: Failing,
+) -> Result<Ended, AllocError> {
     let words = words_of(alloc, words)?;
     let mut files = no_files(alloc, &words)?;
     fill(&mut files, &words, 1, held.first)?;
@@ -96,7 +101,13 @@ fn loads_fail(
 
 // Where the put of any number fails, what went out before is a front of the clean text, 5 bytes for each put, and the files are as after
 // the clean run.
-fn puts_fail(rt: &impl Abort, alloc: Global, words: &[&str], held: Held<'_>, puts: u64) -> Result<(), Fail> {
+fn puts_fail(
+    rt: &impl Abort,
+    alloc: Global,
+    words: &[&str],
+    held: Held<'_>,
+    puts: u64,
+) -> Result<(), Fail> {
     let clean = run_failing(alloc, words, held, CLEAN)?;
     assert_eq!(rt; clean.puts, puts);
     let mut done = 0;
@@ -128,7 +139,11 @@ fn appends_fail(
     let mut done = 0;
     for append in 1..clean.appends + 1 {
         let ended = run_failing(alloc, words, held, Failing { append, ..CLEAN })?;
-        let left = if words.len() > 3 { &ended.third } else { &ended.second };
+        let left = if words.len() > 3 {
+            &ended.third
+        } else {
+            &ended.second
+        };
         let front = text.get(..done).expect(rt, "a front");
         assert_eq!(rt; ended.status, Status::WriteFault { file: kind });
         assert_eq!(rt; ended.printed.as_slice(), line.as_bytes());
@@ -159,7 +174,13 @@ const AWARD_FAULT: &str = "cca: read fault award\n";
 const LOG_FAULT: &str = "cca: read fault log\n";
 
 // How many loads a clean run makes.
-fn makes_loads(rt: &impl Abort, alloc: Global, words: &[&str], held: Held<'_>, loads: u64) -> Result<(), Fail> {
+fn makes_loads(
+    rt: &impl Abort,
+    alloc: Global,
+    words: &[&str],
+    held: Held<'_>,
+    loads: u64,
+) -> Result<(), Fail> {
     let clean = run_failing(alloc, words, held, CLEAN)?;
     assert_eq!(rt; clean.status, Status::Done);
     assert_eq!(rt; clean.loads, loads);
@@ -190,7 +211,15 @@ fn price_stands_each_fault(rt: HostRuntime) -> Result<(), Fail> {
     let cert = joined(alloc, DAY_CRAMTON_CERT)?;
     makes_loads(&rt, alloc, PRICE, held, 3)?;
     loads_fail(&rt, alloc, PRICE, held, FileKind::Book, BOOK_FAULT, 1, 4)?;
-    appends_fail(&rt, alloc, PRICE, held, FileKind::Cert, "cca: write fault cert\n", &cert)?;
+    appends_fail(
+        &rt,
+        alloc,
+        PRICE,
+        held,
+        FileKind::Cert,
+        "cca: write fault cert\n",
+        &cert,
+    )?;
     puts_fail(&rt, alloc, PRICE, held, 20)
 }
 
@@ -220,9 +249,26 @@ fn auction_stands_each_fault(rt: HostRuntime) -> Result<(), Fail> {
         third: None,
     };
     makes_loads(&rt, alloc, AUCTION, held, 7)?;
-    loads_fail(&rt, alloc, AUCTION, held, FileKind::Award, AWARD_FAULT, 1, 5)?;
+    loads_fail(
+        &rt,
+        alloc,
+        AUCTION,
+        held,
+        FileKind::Award,
+        AWARD_FAULT,
+        1,
+        5,
+    )?;
     loads_fail(&rt, alloc, AUCTION, held, FileKind::Log, LOG_FAULT, 5, 8)?;
-    appends_fail(&rt, alloc, AUCTION, held, FileKind::Book, "cca: write fault book\n", LOWERED_BOOK.as_bytes())?;
+    appends_fail(
+        &rt,
+        alloc,
+        AUCTION,
+        held,
+        FileKind::Book,
+        "cca: write fault book\n",
+        LOWERED_BOOK.as_bytes(),
+    )?;
     puts_fail(&rt, alloc, AUCTION, held, 19)
 }
 
@@ -240,13 +286,30 @@ fn award_and_audit_stand_each_fault(rt: HostRuntime) -> Result<(), Fail> {
     let cert = clean.third.as_deref().unwrap_or(b"");
     loads_fail(&rt, alloc, AWARD, held, FileKind::Award, AWARD_FAULT, 1, 5)?;
     loads_fail(&rt, alloc, AWARD, held, FileKind::Log, LOG_FAULT, 5, 8)?;
-    appends_fail(&rt, alloc, AWARD, held, FileKind::Cert, "cca: write fault cert\n", cert)?;
+    appends_fail(
+        &rt,
+        alloc,
+        AWARD,
+        held,
+        FileKind::Cert,
+        "cca: write fault cert\n",
+        cert,
+    )?;
     puts_fail(&rt, alloc, AWARD, held, 20)?;
     let tested = Held {
         third: Some(cert),
         ..held
     };
-    loads_fail(&rt, alloc, AUDIT, tested, FileKind::Award, AWARD_FAULT, 1, 5)?;
+    loads_fail(
+        &rt,
+        alloc,
+        AUDIT,
+        tested,
+        FileKind::Award,
+        AWARD_FAULT,
+        1,
+        5,
+    )?;
     loads_fail(&rt, alloc, AUDIT, tested, FileKind::Log, LOG_FAULT, 5, 8)?;
     makes_loads(&rt, alloc, AUDIT, tested, 11)?;
     loads_fail(&rt, alloc, AUDIT, tested, FileKind::Cert, CERT_FAULT, 8, 12)?;

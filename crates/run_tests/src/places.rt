@@ -16,8 +16,7 @@ const PLACE_CHECK: &[&str] = &["place-check", "SLOTS", "CERT"];
 const SLOTS: &str =
     "slots 1\nband 4\nbidder x 2\nplace 1 10\nbidder y 1\nplace 4 8\nbidder z 1\nplace 2 12\nend\n";
 
-const ROUNDS: &str =
-    "round 1 point 4 2 row 1 2 choice 0 0 1 excess 6\nround 2 point 7 5 end\n";
+const ROUNDS: &str = "round 1 point 4 2 row 1 2 choice 0 0 1 excess 6\nround 2 point 7 5 end\n";
 
 const PLACEMENT: &str =
     "placed x 1 2\nplaced z 3 1\nplaced y 4 1\nwinner x 1 bid 10 vickrey 4 pays 7\nwinner y 4 bid 8 vickrey 2 pays 5\nvalue 18\nrevenue 12\n";

@@ -279,7 +279,14 @@ fn refuses_other_words(rt: HostRuntime) -> Result<(), Fail> {
 fn ends_with_codes(rt: HostRuntime) {
     let table: [(Status, u8); 8] = [
         (Status::Done, 0),
-        (Status::No { of: CertKind::Book, test: 8, place: 2 }, 1),
+        (
+            Status::No {
+                of: CertKind::Book,
+                test: 8,
+                place: 2,
+            },
+            1,
+        ),
         (Status::Words, 2),
         (refused(42), 3),
         (

@@ -78,7 +78,14 @@ fn tests_by_weights(rt: HostRuntime) -> Result<(), Fail> {
     let book = DAY_CRAMTON.as_bytes();
     let cert = joined(alloc, DAY_CRAMTON_CERT)?;
     let heavy = run_three(alloc, WEIGH_CHECK, book, ONE_HEAVY.as_bytes(), Some(&cert))?;
-    assert_eq!(rt; heavy.status, Status::No { of: CertKind::Book, test: 8, place: 3 });
+    assert_eq!(rt;
+        heavy.status,
+        Status::No {
+            of: CertKind::Book,
+            test: 8,
+            place: 3
+        }
+    );
     assert_eq!(rt; heavy.printed.as_slice(), b"no C8 3\n".as_slice());
     let alike = run_three(alloc, WEIGH_CHECK, book, ALL_ALIKE.as_bytes(), Some(&cert))?;
     let yes = joined(alloc, &["yes\n", PLAIN_PRICES])?;
