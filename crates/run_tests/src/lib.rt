@@ -22,7 +22,7 @@ mod places;
 #[cfg(test)]
 mod price;
 #[cfg(test)]
-mod review;
+mod reviews;
 #[cfg(test)]
 mod settings;
 #[cfg(test)]
