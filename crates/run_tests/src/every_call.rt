@@ -111,8 +111,12 @@ fn puts_fail(
     let clean = run_failing(alloc, words, held, CLEAN)?;
     assert_eq!(rt; clean.puts, puts);
     let mut done = 0;
-    for put in 1..puts + 1 {
-        let ended = run_failing(alloc, words, held, Failing { put, ..CLEAN })?;
+    for before in 0..puts {
+        let failing = Failing {
+            put: before + 1,
+            ..CLEAN
+        };
+        let ended = run_failing(alloc, words, held, failing)?;
         let front = clean.printed.get(..done).expect(rt, "a front");
         let out = FileKind::Out;
         assert_eq!(rt; ended.status, Status::WriteFault { file: out });
@@ -137,8 +141,12 @@ fn appends_fail(
 ) -> Result<(), Fail> {
     let clean = run_failing(alloc, words, held, CLEAN)?;
     let mut done = 0;
-    for append in 1..clean.appends + 1 {
-        let ended = run_failing(alloc, words, held, Failing { append, ..CLEAN })?;
+    for before in 0..clean.appends {
+        let failing = Failing {
+            append: before + 1,
+            ..CLEAN
+        };
+        let ended = run_failing(alloc, words, held, failing)?;
         let front = text.get(..done).expect(rt, "a front");
         let is_left = if words.len() > 3 {
             ended.third.as_deref().unwrap_or(b"") == front
