@@ -1,8 +1,11 @@
 // Each load, append and put of a clean run fails in turn.
 use crate::auction::{LOWERED, SAMPLE};
 use crate::cert::DAY_CRAMTON_CERT;
+use crate::places::{BACK, FRONT, MIDDLE, ORDER, PAY, PLACE, PLACE_CHECK, SLOTS};
 use crate::price::{CHECK, PRICE};
+use crate::reviews::{EDITS, REVIEW};
 use crate::settings::{DAY_CRAMTON, fill, joined, left_at, no_files, words_of};
+use crate::weigh::{ALL_ALIKE, WEIGH, WEIGH_CHECK};
 use cca_base::MemSink;
 use cca_run::{FileKind, Status, run};
 use std::alloc::{AllocError, Global};
@@ -181,6 +184,14 @@ const AWARD_FAULT: &str = "cca: read fault award\n";
 
 const LOG_FAULT: &str = "cca: read fault log\n";
 
+const WEIGHTS_FAULT: &str = "cca: read fault weights\n";
+
+const SLOTS_FAULT: &str = "cca: read fault slots\n";
+
+const EDITS_FAULT: &str = "cca: read fault edits\n";
+
+const CERT_WRITE_FAULT: &str = "cca: write fault cert\n";
+
 // How many loads a clean run makes.
 fn makes_loads(
     rt: &impl Abort,
@@ -225,7 +236,7 @@ fn price_stands_each_fault(rt: HostRuntime) -> Result<(), Fail> {
         PRICE,
         held,
         FileKind::Cert,
-        "cca: write fault cert\n",
+        CERT_WRITE_FAULT,
         &cert,
     )?;
     puts_fail(&rt, alloc, PRICE, held, 20)
@@ -300,7 +311,7 @@ fn award_and_audit_stand_each_fault(rt: HostRuntime) -> Result<(), Fail> {
         AWARD,
         held,
         FileKind::Cert,
-        "cca: write fault cert\n",
+        CERT_WRITE_FAULT,
         cert,
     )?;
     puts_fail(&rt, alloc, AWARD, held, 20)?;
@@ -322,4 +333,81 @@ fn award_and_audit_stand_each_fault(rt: HostRuntime) -> Result<(), Fail> {
     makes_loads(&rt, alloc, AUDIT, tested, 11)?;
     loads_fail(&rt, alloc, AUDIT, tested, FileKind::Cert, CERT_FAULT, 8, 12)?;
     puts_fail(&rt, alloc, AUDIT, tested, 21)
+}
+
+#[test]
+fn weigh_and_weigh_check_stand_each_fault(rt: HostRuntime) -> Result<(), Fail> {
+    let alloc = rt.alloc();
+    let cert = joined(alloc, DAY_CRAMTON_CERT)?;
+    let held = Held {
+        first: Some(DAY_CRAMTON.as_bytes()),
+        second: Some(ALL_ALIKE.as_bytes()),
+        third: None,
+    };
+    let weights = FileKind::Weights;
+    makes_loads(&rt, alloc, WEIGH, held, 5)?;
+    loads_fail(&rt, alloc, WEIGH, held, FileKind::Book, BOOK_FAULT, 1, 4)?;
+    loads_fail(&rt, alloc, WEIGH, held, weights, WEIGHTS_FAULT, 4, 6)?;
+    let kind = FileKind::Cert;
+    appends_fail(&rt, alloc, WEIGH, held, kind, CERT_WRITE_FAULT, &cert)?;
+    puts_fail(&rt, alloc, WEIGH, held, 20)?;
+    let tested = Held {
+        third: Some(&cert),
+        ..held
+    };
+    let command = WEIGH_CHECK;
+    makes_loads(&rt, alloc, command, tested, 11)?;
+    loads_fail(
+        &rt,
+        alloc,
+        command,
+        tested,
+        FileKind::Book,
+        BOOK_FAULT,
+        1,
+        4,
+    )?;
+    loads_fail(&rt, alloc, command, tested, weights, WEIGHTS_FAULT, 4, 6)?;
+    loads_fail(&rt, alloc, command, tested, kind, CERT_FAULT, 6, 12)?;
+    puts_fail(&rt, alloc, command, tested, 21)
+}
+
+#[test]
+fn place_and_place_check_stand_each_fault(rt: HostRuntime) -> Result<(), Fail> {
+    let alloc = rt.alloc();
+    let cert = joined(alloc, &[FRONT, ORDER, MIDDLE, PAY, BACK])?;
+    let held = Held {
+        first: Some(SLOTS.as_bytes()),
+        second: None,
+        third: None,
+    };
+    let (slots, kind) = (FileKind::Slots, FileKind::Cert);
+    makes_loads(&rt, alloc, PLACE, held, 2)?;
+    loads_fail(&rt, alloc, PLACE, held, slots, SLOTS_FAULT, 1, 3)?;
+    appends_fail(&rt, alloc, PLACE, held, kind, CERT_WRITE_FAULT, &cert)?;
+    puts_fail(&rt, alloc, PLACE, held, 26)?;
+    let tested = Held {
+        second: Some(&cert),
+        ..held
+    };
+    let command = PLACE_CHECK;
+    makes_loads(&rt, alloc, command, tested, 6)?;
+    loads_fail(&rt, alloc, command, tested, slots, SLOTS_FAULT, 1, 3)?;
+    loads_fail(&rt, alloc, command, tested, kind, CERT_FAULT, 3, 7)?;
+    puts_fail(&rt, alloc, command, tested, 27)
+}
+
+#[test]
+fn review_stands_each_fault(rt: HostRuntime) -> Result<(), Fail> {
+    let alloc = rt.alloc();
+    let held = Held {
+        first: Some(DAY_CRAMTON.as_bytes()),
+        second: Some(EDITS.as_bytes()),
+        third: None,
+    };
+    let edits = FileKind::Edits;
+    makes_loads(&rt, alloc, REVIEW, held, 5)?;
+    loads_fail(&rt, alloc, REVIEW, held, FileKind::Book, BOOK_FAULT, 1, 4)?;
+    loads_fail(&rt, alloc, REVIEW, held, edits, EDITS_FAULT, 4, 6)?;
+    puts_fail(&rt, alloc, REVIEW, held, 31)
 }

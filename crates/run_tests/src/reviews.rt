@@ -7,9 +7,9 @@ use std::alloc::Global;
 use std::process::Abort;
 use std::test::Fail;
 
-const REVIEW: &[&str] = &["review", "BOOK", "EDITS"];
+pub const REVIEW: &[&str] = &["review", "BOOK", "EDITS"];
 
-const EDITS: &str =
+pub const EDITS: &str =
     "edits 1\nraise b3 1 1 50\nadd b4 0 1 23\ndrop b1 1 0\nraise b3 1 1 50\nadd north 1 0 5\nend\n";
 
 const REVIEWED: &str =

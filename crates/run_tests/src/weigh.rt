@@ -8,17 +8,17 @@ use std::alloc::Global;
 use std::process::Abort;
 use std::test::Fail;
 
-const WEIGH: &[&str] = &["weigh", "BOOK", "WEIGHTS", "CERT"];
+pub const WEIGH: &[&str] = &["weigh", "BOOK", "WEIGHTS", "CERT"];
 
 const WEIGH_ROUNDS: &[&str] = &["weigh", "BOOK", "WEIGHTS", "CERT", "--rounds"];
 
-const WEIGH_CHECK: &[&str] = &["weigh-check", "BOOK", "WEIGHTS", "CERT"];
+pub const WEIGH_CHECK: &[&str] = &["weigh-check", "BOOK", "WEIGHTS", "CERT"];
 
 /// The second of five bidders weighs 3.
 const ONE_HEAVY: &str =
     "weights 1\nweight b1 1\nweight b2 3\nweight b3 1\nweight b4 1\nweight b5 1\nend\n";
 
-const ALL_ALIKE: &str =
+pub const ALL_ALIKE: &str =
     "weights 1\nweight b1 1\nweight b2 1\nweight b3 1\nweight b4 1\nweight b5 1\nend\n";
 
 const HEAVY_ROUNDS: &str =
