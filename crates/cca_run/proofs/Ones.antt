@@ -9,6 +9,7 @@ use Rattle.core_price.specs.Weights.{FewWin, ManyWin, WeighAlike, weights_in}
 use Rattle.row_laws.specs.Winners.{winners_in}
 use Rattle.cca_run.specs.Gives.{ones}
 
+-- for each bidder of a book 1 is a weight
 pub ones-weigh : (book : Book) → AreWeights (bidders_of book) (ones book)
 ones-weigh book = record {
   long = length-replicate {A = ℕ} (bidders_of book) 1;
@@ -16,6 +17,7 @@ ones-weigh book = record {
   most = λ k lt. (let e = get_or-replicate {A = ℕ} (bidders_of book) k 1 0 lt in omega (arith, e));
 }
 
+-- few enough and too many don't win both
 pub not_few_and_many : (z weights : List ℕ) → FewWin z weights → ManyWin z weights → ⊥
 not_few_and_many z weights few (inl six) = let f = few.0 in absurd (omega (arith, f, six))
 not_few_and_many z weights few (inr more) = by few.1
@@ -34,9 +36,11 @@ weight-one (suc x ∷ z) (suc n) le (suc i) lt = weight-one z n (omega arith) i 
 alike-ones : (book : Book) (z : List ℕ) → length z ≡ bidders_of book → WeighAlike z (ones book)
 alike-ones book z long i lt = weight-one z (bidders_of book) (omega (arith, long)) i lt
 
+-- where at most six bidders win, few enough do with weights of 1
 pub six-few : (book : Book) (z : List ℕ) → length z ≡ bidders_of book → winners_in z ≤ 6 → FewWin z (ones book)
 six-few book z long six = (six, inl (alike-ones book z long))
 
+-- where too many bidders win with weights of 1, more than six do
 pub many-six : (book : Book) (z : List ℕ) → length z ≡ bidders_of book → ManyWin z (ones book) → 6 < winners_in z
 many-six book z long (inl more) = more
 many-six book z long (inr more) = absurd (more.1 (alike-ones book z long))
