@@ -54,7 +54,7 @@ drawn-points : (state : ℕ) (own : List ℕ) → IsOwn own → cost_of made_ter
 drawn-points state own is =
     subst (λ (p : List ℕ). cost_of made_terms.points (drawn_package state p) ≤ cost_of made_terms.points p) (sym is.are) (points-within state is.a is.b is.c is.e is.some)
 
--- what a bidder that stays asks for at last is within its own package, and one of this kind
+-- what a bidder that stays asks for at last is of the same kind as its own package
 pub reduced-own : (own : List ℕ) → IsOwn own → IsOwn (reduced own)
 reduced-own own is = record {
   a = 1;

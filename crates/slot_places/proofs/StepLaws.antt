@@ -62,7 +62,7 @@ idle-from s k (x ∷ c) all =
     ])
     (idle-from s (suc k) c (λ i inside in_set. all (suc i) (omega (arith, inside)) (let e : suc (k + suc i) ≡ suc (suc k + i) = omega arith in rw e in_set)))
 
--- the sum with another number of one bidder outside
+-- what counts alike for all bidders behind a place has the same sum
 pub sum-same : (f g : ℕ → ℕ → ℤ) (k : ℕ) (c : List ℕ) → ((j i : ℕ) → k < j → f j i ≡ g j i) → sum_after f k c ≡ sum_after g k c
 sum-same f g k [] same = refl
 sum-same f g k (i ∷ c) same = rw (same (suc k) i (omega arith), sum-same f g (suc k) c (λ j h low. same j h (omega (arith, low)))) refl
