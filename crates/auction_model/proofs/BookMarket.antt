@@ -5,6 +5,7 @@ use Rattle.std.proofs.lemmas.Bool.{and_parts, and_from, eq-eqb, le-leb}
 use Rattle.auction_model.specs.Package.{together, is_within, less}
 use Rattle.auction_model.specs.Menu.{Menu, is_known_after, packages_after, fits_after}
 use Rattle.auction_model.specs.Book.{Book, menu_of, market_of, bids_of, net_of}
+use Rattle.auction_model.specs.Greatest.{IsWinning}
 use Rattle.auction_model.specs.Lawful.{IsMarket}
 use Rattle.auction_model.proofs.PackageLaws.{within-together}
 use Rattle.auction_model.proofs.ChoiceLaws.{known-length, known-at}
@@ -47,6 +48,10 @@ fewer-taken m k (x ∷ c) (suc i) s none t =
     let p = and_parts (is_within own s) (is_within (packages_after m (suc k) c) (less s own)) (sym (within-together own (packages_after m (suc k) c) s) ∙ t) in
     within-together own (packages_after m (suc k) (set c i 0)) s
     ∙ and_from (is_within own s) (is_within (packages_after m (suc k) (set c i 0)) (less s own)) p.0 (fewer-taken m (suc k) c i (less s own) none p.1)
+
+-- a winning choice has a number for each bidder
+pub winning-count : (book : Book) (choice : List ℕ) → IsWinning (market_of book) choice → length choice ≡ length book.bidders
+winning-count book choice is = omega (arith, known-length (menu_of book) 0 choice (fits-known (menu_of book) book.supply choice is.passed))
 
 pub market-of_book : (book : Book) → length book.bidders < 2 ^ 16 → ((j i : ℕ) → i ≤ length (bids_of book j) → pos 0 ≤ℤ net_of book j i) → IsMarket (market_of book)
 market-of_book book few not_negative = record {

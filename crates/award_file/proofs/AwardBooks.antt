@@ -14,6 +14,7 @@ use Rattle.line_text.specs.LineText.{first_excess}
 use Rattle.line_text.proofs.Lines.{first_excess-append}
 use Rattle.auction_model.specs.Book.{BookBid, Bidder, Book}
 use Rattle.auction_model.specs.Package.{ComesBefore}
+use Rattle.auction_model.proofs.ListLaws.{each-push}
 use Rattle.book_form.specs.BookForm.{AreBids, IsBidder, AreBidders, IsName, empty_package}
 use Rattle.book_form.specs.BookLines.{Excess, supply_excess, bid_excess, bidder_excess, bid_lines, bidder_line, bidder_lines, head_lines, IsBookWithinLimits}
 use Rattle.auction_rules.specs.declared.Event.{Event}
@@ -23,6 +24,7 @@ use Rattle.auction_rules.specs.Rounds.{listing}
 use Rattle.auction_rules.specs.Lawful.{AreLimited, IsLawfulBid}
 use Rattle.auction_rules.specs.BookOfLog.{bid_lots, bids_in_book, book_bidder, book_by, book_of_log}
 use Rattle.auction_rules.proofs.States.{length-listing}
+use Rattle.bid_book.proofs.PutLaws.{HasFew, lines-within}
 use Rattle.bid_book.proofs.SupplyLaws.{offer_of, supply_within}
 use Rattle.award_file.specs.Award.{IsAward, names_of, entrant_with}
 use Rattle.award_file.proofs.Names.{name-at}
@@ -108,12 +110,8 @@ unused : (terms : Terms) (bids : ℕ → List BookBid) (m n : ℕ) → IsAward t
     → AllByRecursion (λ (b : Bidder). b.name ≢ (entrant terms (suc n)).name) (listing (book_bidder terms bids) m)
 unused terms bids zero n award few inside = tt
 unused terms bids (suc m) n award few inside =
-    push-each (λ (b : Bidder). b.name ≢ (entrant terms (suc n)).name) (listing (book_bidder terms bids) m) (book_bidder terms bids (suc m))
+    each-push (λ (b : Bidder). b.name ≢ (entrant terms (suc n)).name) (listing (book_bidder terms bids) m) (book_bidder terms bids (suc m))
     (unused terms bids m n award (omega arith) inside) (apart terms m n award (omega arith) inside)
-  where
-    push-each : {A : Type 0} (P : A → Type 0) (xs : List A) (x : A) → AllByRecursion P xs → P x → AllByRecursion P (xs ++ x ∷ [])
-    push-each P [] x each last = (last, tt)
-    push-each P (y ∷ xs) x each last = (each.0, push-each P xs x each.1 last)
 
 bidders-push : (supply reserves : List ℕ) (earlier xs : List Bidder) (x : Bidder) → AreBidders supply reserves earlier xs → IsBidder supply reserves (earlier ++ xs) x
     → AreBidders supply reserves earlier (xs ++ x ∷ [])
@@ -133,49 +131,20 @@ module _ (terms : Terms) (bids : ℕ → List BookBid) (award : IsAward terms) (
 
 -- ---- the limits
 
-bids-few : (before : ℕ) (bids : List BookBid) → before + length bids ≤ 600 → first_excess (bid_lines before bids) ≡ None
-bids-few before [] few = refl
-bids-few before (b ∷ bids) few =
-    let here : bid_excess (before + 1) ≡ None = grind (arith, nat_tests) in
-    rw here (bids-few (before + 1) bids (omega arith))
-
-bidders-few : (before : ℕ) (bidders : List Bidder) → before + length bidders ≤ 16 → AllByRecursion (λ (b : Bidder). length b.bids ≤ 600) bidders → first_excess (bidder_lines before bidders) ≡ None
-bidders-few before [] few each = refl
-bidders-few before (b ∷ bidders) few each =
-    let here : bidder_excess (before + 1) ≡ None = grind (arith, nat_tests) in
-    let own : first_excess (bidder_line before b.name ∷ bid_lines 0 b.bids) ≡ None = rw here (bids-few 0 b.bids (omega (arith, each.0))) in
-    first_excess-append (bidder_line before b.name ∷ bid_lines 0 b.bids) (bidder_lines (before + 1) bidders)
-    ∙ ap (λ (o : Option Excess). option_or o (first_excess (bidder_lines (before + 1) bidders))) own
-    ∙ bidders-few (before + 1) bidders (omega arith) each.1
-
-listed-few : (terms : Terms) (bids : ℕ → List BookBid) (n : ℕ) → ((j : ℕ) → length (bids j) ≤ 600) → AllByRecursion (λ (b : Bidder). length b.bids ≤ 600) (listing (book_bidder terms bids) n)
+listed-few : (terms : Terms) (bids : ℕ → List BookBid) (n : ℕ) → ((j : ℕ) → length (bids j) ≤ 600) → AllByRecursion HasFew (listing (book_bidder terms bids) n)
 listed-few terms bids zero few = tt
-listed-few terms bids (suc n) few = push-few (listing (book_bidder terms bids) n) (book_bidder terms bids (suc n)) (listed-few terms bids n few) (few (suc n))
-  where
-    push-few : (xs : List Bidder) (x : Bidder) → AllByRecursion (λ (b : Bidder). length b.bids ≤ 600) xs → length x.bids ≤ 600 → AllByRecursion (λ (b : Bidder). length b.bids ≤ 600) (xs ++ x ∷ [])
-    push-few [] x each last = (last, tt)
-    push-few (y ∷ xs) x each last = (each.0, push-few xs x each.1 last)
-
--- no line of the book exceeds a limit
-lines-within : (book : Book) → supply_excess book.supply ≡ None → first_excess (bidder_lines 0 book.bidders) ≡ None
-    → first_excess ((head_lines book ++ bidder_lines 0 book.bidders) ++ (codes "end", None) ∷ []) ≡ None
-lines-within book supply bidders =
-    let head : first_excess (head_lines book) ≡ None = rw supply refl in
-    first_excess-append (head_lines book ++ bidder_lines 0 book.bidders) ((codes "end", None) ∷ [])
-    ∙ ap (λ (o : Option Excess). option_or o None)
-    (first_excess-append (head_lines book) (bidder_lines 0 book.bidders) ∙ ap (λ (o : Option Excess). option_or o (first_excess (bidder_lines 0 book.bidders))) head ∙ bidders)
+listed-few terms bids (suc n) few = each-push HasFew (listing (book_bidder terms bids) n) (book_bidder terms bids (suc n)) (listed-few terms bids n few) (few (suc n))
 
 book_by-within : (terms : Terms) (bids : ℕ → List BookBid) → IsAward terms → AreKnown terms bids → IsBookWithinLimits (book_by terms bids)
 book_by-within terms bids award known =
-    let few : 0 + length (listing (book_bidder terms bids) (length terms.bidders)) ≤ 16 = omega (arith, length-listing (book_bidder terms bids) (length terms.bidders), award.few_bidders) in
+    let few : length (listing (book_bidder terms bids) (length terms.bidders)) ≤ 16 = omega (arith, length-listing (book_bidder terms bids) (length terms.bidders), award.few_bidders) in
     record {
       form = record {
         supply = offer_of terms.supply award.supply;
         reserves = record { count = award.reserves; each = recursion_from_All _ terms.reserves award.most_reserve };
         bidders = bidders-are terms bids award known (length terms.bidders) (omega arith);
       };
-      limits = lines-within (book_by terms bids) (supply_within terms.supply award.supply)
-          (bidders-few 0 (listing (book_bidder terms bids) (length terms.bidders)) few (listed-few terms bids (length terms.bidders) known.few));
+      limits = lines-within (book_by terms bids) (supply_within terms.supply award.supply) few (listed-few terms bids (length terms.bidders) known.few);
     }
 
 -- the book of a log

@@ -2,11 +2,11 @@
 use Rattle.std.proofs.Common.{◌≡◌, ℕ, ◌≤◌, ◌<◌, ◌^◌, List, [], ◌∷◌, ◌++◌, length, get_or, refl, sym, ap, ◌∙◌, arith, append_assoc}
 use Rattle.std.specs.List.{AllByRecursion, All}
 use Rattle.std.specs.Fmt.{decimal}
-use Rattle.std.proofs.lemmas.List.{append-nil}
 use Rattle.std.proofs.lemmas.List.Elements.{All-nil, All-cons, All-head, All-tail}
 use Rattle.wide_num.proofs.Decimal.{decimal_one}
 use Rattle.text_lines.specs.Decimals.{decimals_text}
 use Rattle.text_lines.specs.Fields.{FieldEnds}
+use Rattle.book_form.proofs.TextLaws.{numbers-push}
 use Rattle.bid_book.specs.Stops.{AreNumbers, IsField}
 use Rattle.text_lines.proofs.DecimalFields.{one_field, number_own, decimals_stop}
 
@@ -17,10 +17,6 @@ each_all P (x ∷ xs) all = All-cons P x xs all.0 (each_all P xs all.1)
 pub all_each : {X : Type 0} (P : X → Type 0) (xs : List X) → All P xs → AllByRecursion P xs
 all_each P [] all = tt
 all_each P (x ∷ xs) all = (All-head P x xs all, all_each P xs (All-tail P x xs all))
-
-pub numbers_push : (had : List ℕ) (n : ℕ) → decimals_text (had ++ n ∷ []) ≡ decimals_text had ++ 32 ∷ decimal n
-numbers_push [] n = append-nil (32 ∷ decimal n)
-numbers_push (m ∷ had) n = ap (λ (l : List ℕ). 32 ∷ decimal m ++ l) (numbers_push had n) ∙ sym (append_assoc (32 ∷ decimal m) (decimals_text had) (32 ∷ decimal n))
 
 -- these numbers are read, and the rest spells those that follow
 pub record GoesOn (had rest ns : List ℕ) : Type 0 where
@@ -63,7 +59,7 @@ pub spelled_further : (text had rest field more : List ℕ) (n : ℕ) → text �
 spelled_further text had rest field more n spelled is field_is =
     spelled ∙ ap (λ (l : List ℕ). decimals_text had ++ l) (is.spelled ∙ ap (λ (l : List ℕ). 32 ∷ l ++ more) field_is)
     ∙ sym (append_assoc (decimals_text had) (32 ∷ decimal n) more)
-    ∙ ap (λ (l : List ℕ). l ++ more) (sym (numbers_push had n))
+    ∙ ap (λ (l : List ℕ). l ++ more) (sym (numbers-push had n))
 
 pub not_spaced : (rest : List ℕ) (ns : List ℕ) → 0 < length rest → ((behind : List ℕ) → rest ≡ 32 ∷ behind → ⊥) → rest ≡ decimals_text ns → ⊥
 not_spaced rest [] long other is = omega (arith, ap length is)

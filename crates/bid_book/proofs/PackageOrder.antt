@@ -57,6 +57,7 @@ last_lots-at before (b ∷ c ∷ bs) some =
     let place : suc (length (c ∷ bs) - 1) ≡ length (b ∷ c ∷ bs) - 1 = omega arith in
     last_lots-at b.lots (c ∷ bs) (omega arith) ∙ ap (λ (k : ℕ). (get_or (b ∷ c ∷ bs) k no_bid).lots) place
 
+-- the package of a bid is that at its place
 pub lots_at : (book : Book) (j i : ℕ) → 0 < i → lots_of book j i ≡ (get_or (bids_of book j) (i - 1) no_bid).lots
 lots_at book j zero some = absurd (omega arith)
 lots_at book j (suc i) some = ap (λ (k : ℕ). (get_or (bids_of book j) k no_bid).lots) (omega arith)

@@ -1,15 +1,14 @@
 -- Bids in the order of their packages: where one is put in.
-use Rattle.std.specs.Prelude.{◌≡◌, ℕ, zero, suc, ◌+◌, ◌≤◌, ◌<◌, true, false, List, [], ◌∷◌, length, get_or, refl}
+use Rattle.std.specs.Prelude.{◌≡◌, ℕ, zero, suc, ◌≤◌, ◌<◌, true, false, List, [], ◌∷◌, length, get_or, refl}
 use Rattle.std.proofs.Common.{inl, inr, set, sym, ◌∙◌, ap, subst, arith}
 use Rattle.std.specs.List.{insert}
 use Rattle.std.proofs.lemmas.Bool.{cases_Bool, cases_order, false≢true}
-use Rattle.std.proofs.lemmas.Bool.Decides.{nat_tests}
 use Rattle.auction_model.specs.Book.{BookBid, no_bid}
 use Rattle.auction_model.specs.Package.{ComesBefore}
 use Rattle.auction_rules.specs.Lines.{with_entry}
 use Rattle.auction_rules.specs.PackageTests.{is_before, is_same}
 use Rattle.auction_rules.proofs.KeptStandings.{not_same-sym}
-use Rattle.auction_rules.proofs.PackageLaws.{comes-is_before, is_before-comes, is_before-not_same, is_before-total, is_before-trans, is_same-refl, is_same-true}
+use Rattle.auction_rules.proofs.PackageLaws.{is_before-comes, is_before-not_same, is_before-total, is_before-trans, is_same-refl, is_same-true}
 use Rattle.bid_book.specs.Changes.{InPackageOrder, IsPlaceIn}
 
 -- a package doesn't come before itself

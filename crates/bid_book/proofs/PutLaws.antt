@@ -1,8 +1,8 @@
 -- The rules of a book go on to hold where a bid that keeps them is put in, and where a bid is taken out.
-use Rattle.std.specs.Prelude.{◌≡◌, ◌≢◌, ◌⊎◌, ℕ, zero, suc, ◌+◌, ◌-◌, ◌≤◌, ◌<◌, true, IsTrue, Option, None, List, [], ◌∷◌, ◌++◌, codes, length, get_or, map, replicate, refl}
+use Rattle.std.specs.Prelude.{◌≡◌, ◌≢◌, ℕ, zero, suc, ◌+◌, ◌-◌, ◌≤◌, ◌<◌, true, Option, None, List, [], ◌∷◌, ◌++◌, codes, length, get_or, map, replicate, refl}
 use Rattle.std.proofs.Math.ListN.{length-set}
-use Rattle.std.proofs.Common.{inl, inr, set, sym, ◌∙◌, ap, subst, arith, append_assoc}
-use Rattle.std.specs.List.{AllByRecursion, insert, remove}
+use Rattle.std.proofs.Common.{inl, inr, set, sym, ◌∙◌, ap, subst, arith}
+use Rattle.std.specs.List.{AllByRecursion, remove}
 use Rattle.std.specs.Option.{option_or}
 use Rattle.std.proofs.lemmas.Bool.{cases_Bool}
 use Rattle.std.proofs.lemmas.Bool.Decides.{nat_tests}
@@ -11,12 +11,11 @@ use Rattle.std.proofs.lemmas.List.Edits.{length-remove}
 use Rattle.line_text.specs.LineText.{first_excess}
 use Rattle.line_text.proofs.Lines.{first_excess-append}
 use Rattle.auction_model.specs.Book.{Book, BookBid, Bidder, no_bid, no_bidder, bidder_of, bids_of}
-use Rattle.auction_model.specs.Package.{ComesBefore, is_within}
+use Rattle.auction_model.specs.Package.{ComesBefore}
 use Rattle.auction_rules.specs.Lines.{with_entry}
 use Rattle.auction_rules.specs.PackageTests.{is_before, is_same}
 use Rattle.auction_rules.proofs.PackageLaws.{comes-is_before, is_before-comes, is_before-total, is_same-true}
-use Rattle.auction_rules.proofs.KeptStandings.{not_same-sym}
-use Rattle.book_form.specs.BookForm.{AreBids, AreBidders, IsBid, IsBidder, IsBook, empty_package}
+use Rattle.book_form.specs.BookForm.{AreBids, AreBidders, IsBid, empty_package}
 use Rattle.book_form.specs.BookLines.{Excess, supply_excess, bid_excess, bidder_excess, bid_lines, bidder_line, bidder_lines, head_lines, lines, IsBookWithinLimits}
 use Rattle.bid_book.specs.Changes.{CanPut, InPackageOrder, with_bids, with_put, without_bid}
 use Rattle.bid_book.specs.Kept.{IsBidBook}
@@ -125,7 +124,7 @@ bids-few before (b ∷ bids) few =
     let here : bid_excess (before + 1) ≡ None = grind (arith, nat_tests) in
     rw here (bids-few (before + 1) bids (omega arith))
 
-abbrev HasFew : Bidder → Type 0
+abbrev pub HasFew : Bidder → Type 0
 HasFew b = length b.bids ≤ 600
 
 bidders-few : (before : ℕ) (bidders : List Bidder) → before + length bidders ≤ 16 → AllByRecursion HasFew bidders → first_excess (bidder_lines before bidders) ≡ None

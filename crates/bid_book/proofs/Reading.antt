@@ -3,7 +3,7 @@ use Rattle.std.proofs.Common.{inl, inr, ◌≡◌, ℕ, zero, suc, ◌+◌, ◌�
 use Rattle.std.specs.Prelude.{codes}
 use Rattle.std.specs.List.{AllByRecursion}
 use Rattle.std.proofs.lemmas.List.{append-nil, take_at, take_all, length-replicate}
-use Rattle.line_text.proofs.Runs.{Runs, Reads, runs_append}
+use Rattle.line_text.proofs.Runs.{Runs, Reads, StepsBehind, runs_append, runs_behind}
 use Rattle.auction_model.specs.Book.{BookBid, Bidder, Book}
 use Rattle.book_form.specs.BookForm.{IsOffer, IsBid, AreBids, empty_package, IsBidder, AreBidders, IsBook}
 use Rattle.book_form.specs.BookLines.{Line, bidder_excess, bid_excess, bid_line, bid_lines, bidder_line, bidder_lines, supply_line, reserve_line, head_lines, lines}
@@ -39,7 +39,7 @@ IsSound (Listing book) = IsBook book
 IsSound (Ended book) = IsBook book
 
 -- a step keeps a stage sound, and its line stands behind the next stage
-step_behind : (s t : Stage) (l : List ℕ) → IsSound s → Step s l t → IsSound t × (behind t ≡ behind s ++ (l, excess t) ∷ [])
+step_behind : StepsBehind IsSound Step excess behind
 step_behind s t l = by_stage s
   where
     F : List Line → List ℕ → Stage → Type 0
@@ -57,14 +57,6 @@ step_behind s t l = by_stage s
     by_stage (Listing book) sound (inl last) = move (listed book) (codes "end") (Ended book) last.0 last.1 (sound, refl)
     by_stage (Listing book) sound (inr step) = move (listed book) l (Listing step.0) refl step.2 (adds_one book step.0 l sound step.1)
     by_stage (Ended book) sound step = absurd step
-
-runs_behind : (ms : List Line) (s t : Stage) → IsSound s → Runs Step excess s ms t → IsSound t × (behind t ≡ behind s ++ ms)
-runs_behind [] s t sound run = (subst IsSound run sound, ap behind (sym run) ∙ sym (append-nil (behind s)))
-runs_behind (m ∷ ms) s t sound run =
-    let first = step_behind s run.0 m.0 sound run.2 in
-    let rest = runs_behind ms run.0 t first.0 run.4 in
-    let beside : (m.0, excess run.0) ≡ m = λ i. (m.0, sym run.3 i) in
-    (rest.0, rest.1 ∙ ap (λ (r : List Line). r ++ ms) (first.1 ∙ ap (λ (x : Line). behind s ++ x ∷ []) beside) ∙ append_assoc (behind s) (m ∷ []) ms)
 
 -- each stage has the front of a text behind it: a book with as much as is read, and nothing else
 
@@ -194,7 +186,7 @@ pub reads : Reads IsSound Step excess begin finish IsBook lines
 reads = record {
   complete = complete;
   sound = λ ms s run.
-      let is = runs_behind ms begin s tt run in
+      let is = runs_behind IsSound Step excess behind step_behind ms begin s tt run in
       let front = front_of s is.0 in
       (front.book, front.count, front.valid, front.same ∙ is.1);
   begins = tt;

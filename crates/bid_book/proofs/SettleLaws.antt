@@ -61,7 +61,7 @@ values-same from to same = sym (values-bare to) ∙ ap (map bid_value) same ∙ 
 
 -- ---- the values of a changed list
 
-map-insert : {A B : Type 0} (f : A → B) (xs : List A) (i : ℕ) (x : A) → map f (insert xs i x) ≡ insert (map f xs) i (f x)
+pub map-insert : {A B : Type 0} (f : A → B) (xs : List A) (i : ℕ) (x : A) → map f (insert xs i x) ≡ insert (map f xs) i (f x)
 map-insert f xs i x =
     map-append f (take i xs) (x ∷ drop i xs)
     ∙ ap (λ (l : List _). l ++ f x ∷ map f (drop i xs)) (sym (take-map f i xs))

@@ -1,13 +1,13 @@
 -- How a text grows line by line to that of a book.
-use Rattle.std.specs.Prelude.{◌≡◌, ℕ, suc, ◌+◌, ◌≤◌, ◌<◌, List, [], ◌∷◌, ◌++◌, None, codes, drop, get_or, length}
+use Rattle.std.specs.Prelude.{◌≡◌, ℕ, suc, ◌+◌, ◌<◌, List, [], ◌∷◌, ◌++◌, None, codes, drop, get_or, length}
 use Rattle.std.specs.Fmt.{decimal}
 use Rattle.std.proofs.Common.{refl, sym, ap, ◌∙◌, arith, append_assoc}
-use Rattle.std.proofs.lemmas.List.{append-nil, at_drop_more, drop_all}
+use Rattle.std.proofs.lemmas.List.{append-nil}
 use Rattle.line_text.specs.LineText.{text_of, Says, stated}
 use Rattle.line_text.proofs.Lines.{text_of-append}
 use Rattle.auction_model.specs.Book.{Book, BookBid, Bidder, no_bid, no_bidder, bidder_of, bids_of, bid_of, lots_of}
 use Rattle.book_form.specs.BookForm.{IsBook}
-use Rattle.book_form.specs.BookLines.{Line, bid_line, bid_lines, bidder_line, bidder_lines, lines}
+use Rattle.book_form.specs.BookLines.{bid_line, bid_lines, bidder_line, bidder_lines, lines}
 use Rattle.text_lines.specs.Decimals.{decimals_text}
 use Rattle.text_lines.proofs.Runs.{one_more}
 use Rattle.book_form.proofs.TextLaws.{numbers-append}

@@ -1,5 +1,5 @@
 -- Why a line is not taken, and what the numbers of a line are.
-use Rattle.std.specs.Prelude.{◌≡◌, ◌≢◌, ℕ, ◌≤◌, List, [], ◌∷◌, ◌++◌}
+use Rattle.std.specs.Prelude.{◌≡◌, ◌≢◌, ℕ, ◌≤◌, List, ◌∷◌, ◌++◌}
 use Rattle.std.specs.List.{AllByRecursion}
 use Rattle.limits.specs.declared.TheConstants.{MOST_AMOUNT}
 use Rattle.limits.specs.declared.LimitKind.TheVariants.{Categories, Lots, States}

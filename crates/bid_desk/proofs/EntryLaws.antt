@@ -12,6 +12,8 @@ use Rattle.auction_rules.specs.Replies.{has_entry}
 use Rattle.auction_rules.proofs.Drafts.{AllAfter-trans}
 use Rattle.auction_rules.proofs.PackageLaws.{is_same-true, is_same-refl, is_before-not_same, is_before-trans, is_before-total}
 use Rattle.auction_rules.proofs.KeptStandings.{absent-before, not_same-sym}
+use Rattle.bid_book.proofs.PlaceLaws.{not-before}
+use Rattle.bid_book.proofs.SettleLaws.{map-insert, map-remove}
 use Rattle.lots.specs.declared.«package».Bid.{Bid}
 use Rattle.relative_cap.specs.Asked.{IsEntry}
 use Rattle.relative_cap.specs.OwnRounds.{bid_value, entry_lots}
@@ -43,15 +45,6 @@ kept-order categories list kept = subst InOrder (lots-values list) kept.order
 -- being the same goes both ways
 same-sym : (p q : List ℕ) → is_same p q ≡ true → is_same q p ≡ true
 same-sym p q same = subst (λ (x : List ℕ). is_same x p ≡ true) (is_same-true p q same) (is_same-refl p)
-
--- a package that comes after another doesn't come before it
-not-before : (p q : List ℕ) → is_before p q ≡ true → is_before q p ≡ false
-not-before p q early =
-    elim (cases_Bool (is_before q p)) [
-      | inl late ↦
-          let no : false ≡ true = sym (is_before-not_same p p (is_before-trans p q p early late)) ∙ is_same-refl p in absurd (false≢true no)
-      | inr other ↦ other
-    ]
 
 -- ---- the entry at a place, and the place of one that is put in
 
@@ -180,17 +173,6 @@ slot-end categories list lots place kept is past = free-by categories list lots 
 
 -- ---- values of a changed list
 
-pub map-insert : {A B : Type 0} (f : A → B) (xs : List A) (i : ℕ) (x : A) → i ≤ length xs → map f (insert xs i x) ≡ insert (map f xs) i (f x)
-map-insert f xs zero x last = refl
-map-insert f [] (suc i) x last = absurd (omega arith)
-map-insert f (y ∷ xs) (suc i) x last = ap (λ (l : List _). f y ∷ l) (map-insert f xs i x (omega arith))
-
-pub map-remove : {A B : Type 0} (f : A → B) (xs : List A) (i : ℕ) → map f (remove xs i) ≡ remove (map f xs) i
-map-remove f [] zero = refl
-map-remove f [] (suc i) = refl
-map-remove f (x ∷ xs) zero = refl
-map-remove f (x ∷ xs) (suc i) = ap (λ (l : List _). f x ∷ l) (map-remove f xs i)
-
 -- an entry that is overwritten by one for a copy of the package
 pub put-taken : (list : List Bid) (lots copy : List ℕ) (amount place : ℕ) → IsTakenAt (map bid_value list) lots place → copy ≡ lots
     → map bid_value (set list place (record { «package» = copy; amount = amount })) ≡ with_entry lots amount (map bid_value list)
@@ -203,7 +185,7 @@ put-taken list lots copy amount place is same =
 pub put-free : (list : List Bid) (lots copy : List ℕ) (amount place : ℕ) → IsFreeAt (map bid_value list) lots place → copy ≡ lots
     → map bid_value (insert list place (record { «package» = copy; amount = amount })) ≡ with_entry lots amount (map bid_value list)
 put-free list lots copy amount place is same =
-    map-insert bid_value list place (record { «package» = copy; amount = amount }) (omega (arith, is.last, length-map list bid_value))
+    map-insert bid_value list place (record { «package» = copy; amount = amount })
     ∙ ap (λ (p : List ℕ). insert (map bid_value list) place (entry_of p amount)) same
     ∙ sym (is.put amount)
 

@@ -8,3 +8,7 @@ use Rattle.text_lines.specs.Decimals.{decimals_text}
 pub numbers-append : (ms ns : List ℕ) → decimals_text (ms ++ ns) ≡ decimals_text ms ++ decimals_text ns
 numbers-append [] ns = refl
 numbers-append (m ∷ ms) ns = ap (λ (l : List ℕ). 32 ∷ decimal m ++ l) (numbers-append ms ns) ∙ sym (append_assoc (32 ∷ decimal m) (decimals_text ms) (decimals_text ns))
+
+-- one number more
+pub numbers-push : (ns : List ℕ) (n : ℕ) → decimals_text (ns ++ n ∷ []) ≡ decimals_text ns ++ 32 ∷ decimal n
+numbers-push ns n = numbers-append ns (n ∷ []) ∙ ap (λ (l : List ℕ). decimals_text ns ++ l) (append-nil (32 ∷ decimal n))

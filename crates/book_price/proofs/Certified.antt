@@ -12,7 +12,7 @@ use Rattle.auction_model.specs.Menu.{fits_after, is_known_after, packages_after,
 use Rattle.auction_model.specs.Package.{is_within}
 use Rattle.auction_model.specs.Prices.{IsCorePoint, allowed_without, weight_of}
 use Rattle.auction_model.specs.Table.{IsEntry, IsExactTable, entry_at}
-use Rattle.auction_model.proofs.BookMarket.{market-of_book}
+use Rattle.auction_model.proofs.BookMarket.{market-of_book, winning-count}
 use Rattle.auction_model.proofs.PlaceLaws.{left_at-whole}
 use Rattle.auction_model.proofs.SkipLaws.{fits-skip}
 use Rattle.bid_book.specs.Kept.{IsBidBook}
@@ -37,7 +37,7 @@ use Rattle.value_table.specs.BookTable.{menu_without}
 use Rattle.value_table.specs.TableValue.{TableValue}
 use Rattle.value_table.proofs.SingleLaws.{greatest-is}
 use Rattle.vickrey.specs.VickreyValue.{IsTableWithout, VickreyValue}
-use Rattle.vickrey.proofs.VickreyLaws.{greatest-all, winner-known, winners-count}
+use Rattle.vickrey.proofs.VickreyLaws.{greatest-all, winner-known}
 use Rattle.book_price.specs.Found.{AreFound, cert_found}
 use Rattle.book_price.specs.Made.{parts_from, row_from}
 use Rattle.book_price.proofs.First.{none-earlier}
@@ -63,7 +63,7 @@ module _ (book : Book) (z : List ℕ) (whole : TableValue) (alone : VickreyValue
   lawful = market-of_book book (omega (arith, kept.bidders)) kept.not_negative
 
   pub long : length z ≡ bidders_of book
-  long = winners-count book z found.winning
+  long = winning-count book z found.winning
 
   -- what pricing promises
   own : IsPriced (market_of book) z weights alone.singles priced

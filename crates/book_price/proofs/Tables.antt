@@ -46,11 +46,6 @@ module _ (book : Book) where
       exact-same (menu_without book 0) (menu_of book) (lowered (pos 1) (net_of book) table.surplus) (net_of book) book.supply table.lines refl
       (λ k s c. fits-without_none (menu_of book) k s c) (λ k c. sum-plain (net_of book) table.surplus k c (λ j. refl) (λ j. plain.zeros (j - 1))) exact
 
-  zeros-at : (n k : ℕ) → get_or (replicate n (pos 0)) k (pos 0) ≡ pos 0
-  zeros-at zero k = refl
-  zeros-at (suc n) zero = refl
-  zeros-at (suc n) (suc k) = zeros-at n k
-
   -- the table without a bidder, for the net amounts
   pub table_of-others : (j : ℕ) (lines : List (List ℤ)) → IsTableWithout book j lines → IsExactTable (without (menu_of book) j) (net_of book) book.supply lines
   table_of-others j lines exact =

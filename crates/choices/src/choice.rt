@@ -29,6 +29,14 @@ impl Choice {
         Choice { numbers }
     }
 
+    /// The choice of these numbers, copied.
+    pub fn from_slice(alloc: Global, numbers: &[u16]) -> Result<Choice, AllocError>
+        ensures { IfOk result (λ choice. choice ≡ numbers.now) }
+    {
+        let numbers = Numbers::from_slice(alloc, numbers)?;
+        Ok(Choice { numbers })
+    }
+
     /// The number that bidder `j` is given.
     pub fn number(&self, j: u16) -> u16
         requires { (0 < j) × (j ≤ length self.now) }

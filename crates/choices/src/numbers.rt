@@ -28,6 +28,14 @@ impl Numbers {
         }
     }
 
+    /// A list of these numbers.
+    pub fn from_slice(alloc: Global, numbers: &[u16]) -> Result<Numbers, AllocError>
+        ensures { IfOk result (λ list. list ≡ numbers.now) }
+    {
+        let numbers = Vec::from_slice(alloc, numbers)?;
+        Ok(Numbers { numbers })
+    }
+
     /// The same list once more.
     pub fn copied(&self, alloc: Global) -> Result<Numbers, AllocError>
         ensures { IfOk result (λ list. list ≡ self.now) }

@@ -6,8 +6,9 @@ use Rattle.std.specs.List.{AllByRecursion}
 use Rattle.std.proofs.lemmas.List.{append-nil}
 use Rattle.auction_model.proofs.ListLaws.{each-push}
 use Rattle.auction_model.specs.Book.{Book}
-use Rattle.book_form.specs.BookForm.{IsName, IsNameByte}
-use Rattle.book_form.proofs.TextLaws.{numbers-append}
+use Rattle.book_form.specs.BookForm.{IsName}
+use Rattle.book_form.proofs.NameLaws.{name_own}
+use Rattle.book_form.proofs.TextLaws.{numbers-push}
 use Rattle.text_lines.proofs.DecimalFields.{NoSpace, number_own, one_field}
 use Rattle.text_lines.specs.Decimals.{decimals_text}
 use Rattle.text_lines.specs.Fields.{FieldEnds}
@@ -18,20 +19,6 @@ use Rattle.edits_file.specs.Stages.{BeginsWithCounts, BeginsWithNumber, IsHead, 
 -- counts that a line may state
 abbrev pub AreLow : List ℕ → Type 0
 AreLow lots = AllByRecursion (λ n. n ≤ 65535) lots
-
-name_byte : (c : ℕ) → IsNameByte c → c ≢ 32
-name_byte c (inl letter) is = omega (arith, letter, is)
-name_byte c (inr (inl digit)) is = omega (arith, digit, is)
-name_byte c (inr (inr low)) is = omega (arith, low, is)
-
-name_bytes : (cs : List ℕ) → AllByRecursion IsNameByte cs → NoSpace cs
-name_bytes [] all = tt
-name_bytes (c ∷ cs) all = (name_byte c all.0, name_bytes cs all.1)
-
--- no space stands in a name
-name_own : (name : List ℕ) → IsName name → NoSpace name
-name_own [] is = absurd is
-name_own (c ∷ cs) is = ((λ space. omega (arith, is.0, space)), name_bytes cs is.1)
 
 -- numbers behind spaces end the field before them
 pub ends_front : (ns rest : List ℕ) → FieldEnds rest → FieldEnds (decimals_text ns ++ rest)
@@ -66,10 +53,6 @@ heads_one name other xs ys a b is_name is_other same lx ly ea eb is =
     let rest = counts_one xs ys a b same lx ly ea eb parts.1 in
     (parts.0, rest.0, rest.1)
 
--- an amount behind the counts
-pub amount_behind : (lots : List ℕ) (amount : ℕ) → decimals_text (lots ++ amount ∷ []) ≡ decimals_text lots ++ 32 ∷ decimal amount
-amount_behind lots amount = numbers-append lots (amount ∷ []) ∙ ap (λ (l : List ℕ). decimals_text lots ++ l) (append-nil (32 ∷ decimal amount))
-
 -- what the first field of a text is, where it is a number
 pub number_field : (text behind field after rest : List ℕ) (n most : ℕ) → text ≡ codes " " ++ behind → behind ≡ field ++ after → NoSpace field → FieldEnds after → most < 2 ^ 64 → BeginsWithNumber most text n rest
     → (field ≡ decimal n) × (after ≡ rest)
@@ -90,7 +73,7 @@ pub counts_more : (k n : ℕ) (text had rest more : List ℕ) → BeginsWithCoun
 counts_more k n text had rest more are is = record {
   count = omega (arith, are.count, length-append had (n ∷ []));
   each = each-push _ had n are.each is.low;
-  spelled = are.spelled ∙ ap (λ (l : List ℕ). decimals_text had ++ l) is.spelled ∙ sym (append_assoc (decimals_text had) (32 ∷ decimal n) more) ∙ ap (λ (l : List ℕ). l ++ more) (sym (amount_behind had n));
+  spelled = are.spelled ∙ ap (λ (l : List ℕ). decimals_text had ++ l) is.spelled ∙ sym (append_assoc (decimals_text had) (32 ∷ decimal n) more) ∙ ap (λ (l : List ℕ). l ++ more) (sym (numbers-push had n));
   ends = is.ends;
 }
 
@@ -141,7 +124,7 @@ pub bid_head : (book : Book) (fields : List ℕ) (bidder : ℕ) (lots : List ℕ
 bid_head book fields bidder lots amount is = record {
   name = is.name;
   named = is.named;
-  spelled = is.spelled ∙ ap (λ (l : List ℕ). is.name ++ l) (amount_behind lots amount);
+  spelled = is.spelled ∙ ap (λ (l : List ℕ). is.name ++ l) (numbers-push lots amount);
   ends = refl;
   bidder_is = is.bidder_is;
 }
@@ -168,7 +151,7 @@ made_bid book fields bidder lots rest amount head is = record {
   name = head.name;
   named = head.named;
   top = is.low;
-  spelled = head.spelled ∙ ap (λ (l : List ℕ). head.name ++ l) (ap (λ (l : List ℕ). decimals_text lots ++ l) (is.spelled ∙ append-nil (32 ∷ decimal amount)) ∙ sym (amount_behind lots amount));
+  spelled = head.spelled ∙ ap (λ (l : List ℕ). head.name ++ l) (ap (λ (l : List ℕ). decimals_text lots ++ l) (is.spelled ∙ append-nil (32 ∷ decimal amount)) ∙ sym (numbers-push lots amount));
   bidder_is = head.bidder_is;
 }
 

@@ -14,7 +14,8 @@ use Rattle.text_lines.specs.Decimals.{decimals_text}
 use Rattle.wide_num.proofs.Decimal.{decimal_one}
 use Rattle.edits_file.specs.EditsForm.{NamedEdit, add, raise, remove, NamesPackage, IsNamedEdit, IsSpelledAmount, edit_text}
 use Rattle.edits_file.specs.Stages.{States, StatesBid, StatesPackage}
-use Rattle.edits_file.proofs.FieldLaws.{AreLow, amount_behind, heads_one}
+use Rattle.book_form.proofs.TextLaws.{numbers-push}
+use Rattle.edits_file.proofs.FieldLaws.{AreLow, heads_one}
 
 pub first_word : IsLine (codes "edits 1")
 first_word = ((λ is. absurd (omega arith)), ((λ is. absurd (omega arith)), ((λ is. absurd (omega arith)), ((λ is. absurd (omega arith)), ((λ is. absurd (omega arith)), ((λ is. absurd (omega arith)), ((λ is. absurd (omega arith)), tt)))))))
@@ -76,7 +77,7 @@ bid_one : (categories : ℕ) (name other p q : List ℕ) (m n : ℕ) → NamesPa
     → name ++ decimals_text (p ++ m ∷ []) ≡ other ++ decimals_text (q ++ n ∷ []) → (name ≡ other) × (p ≡ q) × (m ≡ n)
 bid_one categories name other p q m n a b tm tn is =
     let parts = heads_one name other p q (32 ∷ decimal m) (32 ∷ decimal n) a.name_is b.name_is (a.count ∙ sym b.count) a.each b.each refl refl
-    (ap (λ (l : List ℕ). name ++ l) (sym (amount_behind p m)) ∙ is ∙ ap (λ (l : List ℕ). other ++ l) (amount_behind q n)) in
+    (ap (λ (l : List ℕ). name ++ l) (sym (numbers-push p m)) ∙ is ∙ ap (λ (l : List ℕ). other ++ l) (numbers-push q n)) in
     let rest : 32 ∷ decimal m ≡ 32 ∷ decimal n = parts.2 in
     let digits : decimal m ≡ decimal n = cc in
     (parts.0, parts.1, decimal_one m n (omega (arith, tm)) (omega (arith, tn)) digits)

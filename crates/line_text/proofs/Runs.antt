@@ -34,6 +34,20 @@ module _ {S O : Type 0} (Step : S → List ℕ → S → Type 0) (excess : S →
       let beside : l.1 ≡ m.1 = a.3 ∙ ap excess stages ∙ sym b.3 in
       ((λ i. (same.0 i, beside i) ∷ rest.0 i), rest.1)
 
+module _ {S O : Type 0} (Sound : S → Type 0) (Step : S → List ℕ → S → Type 0) (excess : S → Option O) (behind : S → List (List ℕ × Option O)) where
+  -- a step keeps a stage sound, and its line stands behind the next stage
+  abbrev pub StepsBehind : Type 0
+  StepsBehind = (s t : S) (l : List ℕ) → Sound s → Step s l t → Sound t × (behind t ≡ behind s ++ (l, excess t) ∷ [])
+
+  -- then the lines of a run stand behind its end
+  pub runs_behind : StepsBehind → (ms : List (List ℕ × Option O)) (s t : S) → Sound s → Runs Step excess s ms t → Sound t × (behind t ≡ behind s ++ ms)
+  runs_behind step [] s t sound run = (subst Sound run sound, ap behind (sym run) ∙ sym (append-nil (behind s)))
+  runs_behind step (m ∷ ms) s t sound run =
+      let first = step s run.0 m.0 sound run.2 in
+      let rest = runs_behind step ms run.0 t first.0 run.4 in
+      let beside : (m.0, excess run.0) ≡ m = λ i. (m.0, sym run.3 i) in
+      (rest.0, rest.1 ∙ ap (λ (r : List (List ℕ × Option O)). r ++ ms) (first.1 ∙ ap (λ (x : List ℕ × Option O). behind s ++ x ∷ []) beside) ∙ append_assoc (behind s) (m ∷ []) ms)
+
 -- The reader reads this form: over the lines of a value it comes to the value's end, and where it has come from the
 -- beginning, the lines are the front of some text. From an end it goes no further.
 pub record Reads {S V O : Type 0} (Sound : S → Type 0) (Step : S → List ℕ → S → Type 0) (excess : S → Option O) (begin : S) (finish : V → S) (IsValid : V → Type 0) (lines : V → List (List ℕ × Option O)) : Type 0 where

@@ -2,10 +2,8 @@
 use Rattle.std.specs.Prelude.{◌≡◌, ℕ, ◌+◌, ◌-◌, ◌≤◌, ◌<◌, Bool, IsTrue, List, [], length, get_or, ℤ, ◌≤ℤ◌, refl}
 use Rattle.std.proofs.Common.{sym, ◌∙◌, ap, subst, arith}
 use Rattle.std.proofs.lemmas.Int.{ints}
-use Rattle.auction_model.specs.Book.{Book, BookBid, market_of, menu_of}
+use Rattle.auction_model.specs.Book.{Book, BookBid}
 use Rattle.auction_model.specs.Greatest.{IsFirstGreatest, IsGreatestValue, IsWinning}
-use Rattle.auction_model.proofs.BookMarket.{fits-known}
-use Rattle.auction_model.proofs.ChoiceLaws.{known-length}
 use Rattle.bid_book.specs.Changes.{with_bids}
 use Rattle.review.specs.declared.edit.Edit.{Edit}
 use Rattle.review.specs.declared.edit.Edit.TheVariants.{Add, Raise, Remove}
@@ -52,10 +50,6 @@ pub bidders-edit : (book : Book) (edit : Edit) → 0 < edit_bidder edit → leng
 bidders-edit book (Add j lots amount) some = bidders-same book j _ some
 bidders-edit book (Raise j lots amount) some = bidders-same book j _ some
 bidders-edit book (Remove j lots) some = bidders-same book j _ some
-
--- a winning choice has a number for each bidder
-pub winning-count : (book : Book) (choice : List ℕ) → IsWinning (market_of book) choice → length choice ≡ length book.bidders
-winning-count book choice is = omega (arith, known-length (menu_of book) 0 choice (fits-known (menu_of book) book.supply choice is.passed))
 
 -- the first of the greatest has the greatest value
 pub greatest-is : (passes : List ℕ → Bool) (value : List ℕ → ℤ) (c : List ℕ) (most : ℤ) → IsFirstGreatest passes value c → IsGreatestValue passes value most → most ≡ value c

@@ -201,10 +201,6 @@ amount-passed lots (b ∷ bids) (suc i) inside other = amount-passed lots bids i
 pub bid-next : (book : Book) (j i : ℕ) → bid_of book j (i + 1) ≡ get_or (bids_of book j) i no_bid
 bid-next book j i = let up : i + 1 ≡ suc i = omega arith in rw up refl
 
-pub bid-place : (book : Book) (j i : ℕ) → 0 < i → lots_of book j i ≡ (get_or (bids_of book j) (i - 1) no_bid).lots
-bid-place book j zero some = absurd (omega (arith, some))
-bid-place book j (suc i) some = ap (λ (k : ℕ). (get_or (bids_of book j) k no_bid).lots) (omega arith)
-
 -- each edit that is answered Ok
 pub edit-fit : (book : Book) (edit : Edit) → edit_reply book edit ≡ reply.Ok → IsFit book (edit_bidder edit) (edit_lots edit)
 edit-fit book (Add j lots amount) is = fit-of book j lots (ok-step (unfit book j lots) (present (amount_for lots (bids_of book j)) ∷ below_reserve book lots amount ∷ amount_top amount ∷ full (bids_of book j) ∷ []) (never-unfit book j lots) is).0

@@ -14,7 +14,8 @@ use Rattle.slot_places.specs.SlotForm.{width_together, band_excess, bidder_exces
 use Rattle.slot_places.specs.declared.read.Stage.{Stage}
 use Rattle.slot_places.specs.declared.read.Stage.TheVariants.{Listing}
 use Rattle.slot_places.specs.Stages.{Step, Adds, AddsBidder, AddsPlace, IsEntrant, IsNextPlace, bidder_with, with_bidders, with_bid}
-use Rattle.slot_places.proofs.LineLaws.{bidder_no_place, name_own, two_parts}
+use Rattle.book_form.proofs.NameLaws.{name_own}
+use Rattle.slot_places.proofs.LineLaws.{bidder_no_place, two_parts}
 
 -- a text whose first field ends without a space has one field
 pub one_only : (text field behind : List ℕ) → text ≡ field ++ behind → NoSpace field → FieldEnds behind → ((more : List ℕ) → behind ≡ codes " " ++ more → ⊥) → (first second : List ℕ) → NoSpace first → text ≡ first ++ 32 ∷ second → ⊥

@@ -6,7 +6,8 @@ use Rattle.std.specs.Fmt.{decimal}
 use Rattle.std.proofs.lemmas.List.{append_cancel_left}
 use Rattle.wide_num.proofs.Decimal.{decimal_one}
 use Rattle.line_text.specs.LineText.{IsLine}
-use Rattle.book_form.specs.BookForm.{IsName, IsNameByte}
+use Rattle.book_form.specs.BookForm.{IsName}
+use Rattle.book_form.proofs.NameLaws.{name_own}
 use Rattle.bid_book.proofs.Spelled.{number_line, name_line}
 use Rattle.line_text.proofs.Lines.{line_append}
 use Rattle.text_lines.proofs.DecimalFields.{NoSpace, one_field, number_own}
@@ -14,20 +15,6 @@ use Rattle.bid_book.proofs.OneLine.{end_no_bidder}
 use Rattle.slot_places.specs.Slots.{SlotBid, SlotList}
 use Rattle.slot_places.specs.SlotForm.{band_line, bidder_line, place_line}
 use Rattle.slot_places.specs.Stages.{with_bid, bidder_with, with_bidders, IsEntrant, AddsBidder, AddsPlace, Adds}
-
-name_byte : (c : ℕ) → IsNameByte c → c ≢ 32
-name_byte c (inl letter) is = omega (arith, letter, is)
-name_byte c (inr (inl digit)) is = omega (arith, digit, is)
-name_byte c (inr (inr low)) is = omega (arith, low, is)
-
-name_bytes : (cs : List ℕ) → AllByRecursion IsNameByte cs → NoSpace cs
-name_bytes [] all = tt
-name_bytes (c ∷ cs) all = (name_byte c all.0, name_bytes cs all.1)
-
--- no space stands in a name
-pub name_own : (name : List ℕ) → IsName name → NoSpace name
-name_own [] is = absurd is
-name_own (c ∷ cs) is = ((λ space. omega (arith, is.0, space)), name_bytes cs is.1)
 
 pub slots_word : IsLine (codes "slots 1")
 slots_word = ((λ is. absurd (omega arith)), ((λ is. absurd (omega arith)), ((λ is. absurd (omega arith)), ((λ is. absurd (omega arith)), ((λ is. absurd (omega arith)), ((λ is. absurd (omega arith)), ((λ is. absurd (omega arith)), tt)))))))

@@ -16,7 +16,7 @@ use bid_book::BidBook;
 use cert_check::BIDDER_ROOM;
 use cert_facts::{CertFacts, Singles};
 use cert_pieces::Due;
-use choices::{Choice, Numbers, Single, value_among, worth};
+use choices::{Choice, Single, value_among, worth};
 use std::alloc::{AllocError, Global};
 use wide_num::NumList;
 
@@ -110,16 +110,5 @@ fn choice_in(alloc: Global, book: &BidBook, due: Due, room: &[i128]) -> Result<C
     let mut numbers = [0u16; BIDDER_ROOM];
     let bidders = book.bidders();
     put_choice(book, due, room, &mut numbers);
-    choice_of(alloc, &numbers[..bidders])
-}
-
-/// The choice of these numbers.
-fn choice_of(alloc: Global, from: &[u16]) -> Result<Choice, AllocError>
-    ensures { IfOk result (λ choice. choice ≡ from.now) }
-{
-    let mut numbers = Numbers::new(alloc);
-    for number in from {
-        numbers.push(*number)?;
-    }
-    Ok(Choice::new(numbers))
+    Choice::from_slice(alloc, &numbers[..bidders])
 }

@@ -11,12 +11,12 @@ use Rattle.auction_model.specs.Package.{is_within, less, IsNothingFrom}
 use Rattle.auction_model.specs.Place.{states_of, place_of, left_at}
 use Rattle.auction_model.specs.Steps.{raised}
 use Rattle.auction_model.specs.Table.{IsLine}
-use Rattle.auction_model.proofs.DominatedLaws.{less-within, fits-more}
+use Rattle.auction_model.proofs.DominatedLaws.{less-within-self, fits-more}
 use Rattle.auction_model.proofs.LineLaws.{IsLineUpTo, int_max-left}
 use Rattle.auction_model.proofs.PackageLaws.{less-empty}
 use Rattle.auction_model.proofs.PlaceLaws.{states-positive, length-left_at, left_at-within, left_at-whole, left_at-less, place_of-left_at, place-less, place-less-below, place-below, within-within}
 use Rattle.auction_model.proofs.TableLaws.{fits_up_to, parts, from_parts}
-use Rattle.auction_model.proofs.TrimLaws.{trim-within}
+use Rattle.auction_model.proofs.TrimLaws.{trim-place, trim-within}
 use Rattle.value_table.specs.Growing.{Grows, HasCorners}
 
 -- of more lots more is left
@@ -28,10 +28,6 @@ less-more (b ∷ l) (c ∷ m) (a ∷ p) same h =
     let t = and_parts (nat_le b c) (is_within l m) h in
     and_from (nat_le (b - a) (c - a)) (is_within (less l p) (less m p)) (le-leb (b - a) (c - a) (omega (arith, leb-true b c t.0))) (less-more l m p (omega (arith, same)) t.1)
 
--- what a package leaves is within what there was
-less-inside : (l p : List ℕ) → IsTrue (is_within (less l p) l)
-less-inside l p = rw (less-empty l) at (less-within l p [] refl)
-
 module _ (supply p : List ℕ) (s : ℕ) (low : s < states_of supply) where
   -- the place of a package that fits at s has no more than s
   low-within : IsTrue (is_within p (left_at supply s)) → IsTrue (is_within (left_at supply (place_of supply p)) (left_at supply s))
@@ -40,11 +36,11 @@ module _ (supply p : List ℕ) (s : ℕ) (low : s < states_of supply) where
       let t = place_of supply (less l p) in
       let t_low : t < states_of supply = place-less-below supply p s low in
       let t_is : left_at supply t ≡ less l p = left_at-less supply p s low in
-      let inside : IsTrue (is_within (left_at supply t) l) = subst (λ (k : List ℕ). IsTrue (is_within k l)) (sym t_is) (less-inside l p) in
+      let inside : IsTrue (is_within (left_at supply t) l) = subst (λ (k : List ℕ). IsTrue (is_within k l)) (sym t_is) (less-within-self l p) in
       let back : place_of supply (less l (left_at supply t)) + place_of supply (left_at supply t) ≡ s = place-less supply (left_at supply t) s low inside in
       let same : place_of supply (less l (left_at supply t)) ≡ place_of supply p = omega (arith, place-less supply p s low fits, back, place_of-left_at supply t t_low) in
       subst (λ (k : ℕ). IsTrue (is_within (left_at supply k) l)) same
-      (subst (λ (k : List ℕ). IsTrue (is_within k l)) (sym (left_at-less supply (left_at supply t) s low)) (less-inside l (left_at supply t)))
+      (subst (λ (k : List ℕ). IsTrue (is_within k l)) (sym (left_at-less supply (left_at supply t) s low)) (less-within-self l (left_at supply t)))
 
   -- the highest place that a package leaves has no less than is left at s
   high-within : IsTrue (is_within p supply) → IsTrue (is_within (left_at supply (place_of supply (less (left_at supply s) p))) (left_at supply (states_of supply - 1 - place_of supply p)))
@@ -139,19 +135,6 @@ module _ (m : Menu) (counts : ℕ → ℕ → ℤ) (supply : List ℕ) (k : ℕ)
 -- the same where each number is the whole number itself
 pub plain-grows : (supply : List ℕ) (line : List ℤ) → Grows supply line → Grows supply (map (λ z. z) line)
 plain-grows supply line grows = subst (Grows supply) (sym (map-id line)) grows
-
--- a package of nothing has the first place
-nothing-place : (supply p : List ℕ) → IsNothingFrom 0 p → place_of supply p ≡ 0
-nothing-place [] p h = refl
-nothing-place (b ∷ supply) [] h = refl
-nothing-place (b ∷ supply) (a ∷ p) h = rw (h 0 (omega arith), nothing-place supply p (λ k low. h (suc k) (omega arith))) (omega arith)
-
--- a package without its empty end has the same place
-trim-place : (n : ℕ) (supply p : List ℕ) → IsNothingFrom n p → place_of supply (take n p) ≡ place_of supply p
-trim-place n [] p h = refl
-trim-place zero (b ∷ supply) p h = sym (nothing-place (b ∷ supply) p h)
-trim-place (suc n) (b ∷ supply) [] h = refl
-trim-place (suc n) (b ∷ supply) (a ∷ p) h = ap (λ m. a * states_of supply + m) (trim-place n supply p (λ k low. h (suc k) (omega arith)))
 
 -- so a bid without its empty end has the same corners
 pub trim-corners : (n : ℕ) (supply p : List ℕ) (first : ℕ) (line below : List ℤ) → IsNothingFrom n p → HasCorners supply p first line below → HasCorners supply (take n p) first line below

@@ -12,6 +12,7 @@ use Rattle.auction_model.specs.Place.{place_of, left_at}
 use Rattle.auction_model.specs.Steps.{sum_with, IsFirstNumber}
 use Rattle.auction_model.specs.Table.{IsEntry, IsLine}
 use Rattle.bid_book.specs.Kept.{IsBidBook}
+use Rattle.auction_model.proofs.ListLaws.{zeros-at}
 use Rattle.auction_model.proofs.PlainLaws.{fits-without_none, sum-plain}
 use Rattle.auction_model.proofs.TableLaws.{IsGreatestValue-same}
 use Rattle.value_table.specs.SideLines.{IsLeftLine}
@@ -20,12 +21,6 @@ use Rattle.value_table.proofs.Plain.{plain-range}
 use Rattle.value_table.proofs.SideLaws.{turned-range}
 use Rattle.value_table.proofs.LeftLaws.{left-entry, turned-entry}
 
--- a part of zeros has no other number
-zeros-all : (n k : ℕ) → get_or (replicate n (pos 0)) k (pos 0) ≡ pos 0
-zeros-all zero k = refl
-zeros-all (suc n) zero = refl
-zeros-all (suc n) (suc k) = zeros-all n k
-
 zeros-front : (xs : List ℤ) (n k : ℕ) → ((i : ℕ) → get_or xs i (pos 0) ≡ pos 0) → get_or (take n xs) k (pos 0) ≡ pos 0
 zeros-front xs zero k all = refl
 zeros-front [] (suc n) k all = refl
@@ -33,7 +28,7 @@ zeros-front (x ∷ xs) (suc n) zero all = all 0
 zeros-front (x ∷ xs) (suc n) (suc k) all = zeros-front xs n k (λ i. all (suc i))
 
 pub zeros-part : (m n k : ℕ) → get_or (take n (replicate m (pos 0))) k (pos 0) ≡ pos 0
-zeros-part m n k = zeros-front (replicate m (pos 0)) n k (zeros-all m)
+zeros-part m n k = zeros-front (replicate m (pos 0)) n k (zeros-at m)
 
 -- plain sums stay in the range, with the bidders as in the book or turned round
 pub zeros-range : (book : Book) (turned : Bool) (surplus : List ℤ) → IsBidBook book → ((k : ℕ) → get_or surplus k (pos 0) ≡ pos 0) → IsOrderInRange turned book 0 (pos 1) surplus

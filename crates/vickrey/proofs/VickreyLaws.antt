@@ -12,7 +12,7 @@ use Rattle.auction_model.specs.Menu.{fits_after}
 use Rattle.auction_model.specs.Lowered.{lowered}
 use Rattle.auction_model.specs.Prices.{allowed_without, IsVickreyPrice}
 use Rattle.auction_model.specs.Table.{IsEntry}
-use Rattle.auction_model.proofs.BookMarket.{fits-known}
+use Rattle.auction_model.proofs.BookMarket.{fits-known, winning-count}
 use Rattle.auction_model.proofs.ChoiceLaws.{known-length, known-of}
 use Rattle.auction_model.proofs.PlainLaws.{IsFirstGreatest-same, fits-without_none, sum-plain}
 use Rattle.auction_model.proofs.SkipLaws.{entry-skip, first-skip}
@@ -72,14 +72,11 @@ price-is book z j others all own won used is e without =
     back : (others all own : ℤ) → ((others -ℤ (all -ℤ own)) +ℤ all) -ℤ own ≡ others
     back others all own = omega (arith, ints)
 
--- a winning choice has a number for each bidder, and each is known
-pub winners-count : (book : Book) (z : List ℕ) → IsWinning (market_of book) z → length z ≡ length book.bidders
-winners-count book z won = let e = known-length (menu_of book) 0 z (fits-known (menu_of book) book.supply z won.passed) in omega (arith, e)
-
+-- in a winning choice each number is known
 pub winner-known : (book : Book) (z : List ℕ) (j : ℕ) → IsWinning (market_of book) z → zero < j → j ≤ length book.bidders → number_of z j ≤ length (bids_of book j)
 winner-known book z j won some inside =
     let same : j - 1 + 1 ≡ j = omega arith in
-    rw same at (known-of (menu_of book) z (j - 1) (fits-known (menu_of book) book.supply z won.passed) (omega (arith, winners-count book z won)))
+    rw same at (known-of (menu_of book) z (j - 1) (fits-known (menu_of book) book.supply z won.passed) (omega (arith, winning-count book z won)))
 
 pub own-small : (book : Book) (z : List ℕ) (j : ℕ) (own : ℤ) → IsBidBook book → IsWinning (market_of book) z → zero < j → j ≤ length book.bidders → own ≡ worth_in (market_of book) z j → unsigned_abs own ≤ 2 ^ 42
 own-small book z j own kept won some inside is = rw is (net-small book j (number_of z j) kept (winner-known book z j won some inside))

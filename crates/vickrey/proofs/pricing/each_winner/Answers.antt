@@ -4,13 +4,14 @@ use Rattle.auction_model.specs.Book.{market_of}
 use Rattle.choices.specs.declared.chooser.Single.{Single}
 use Rattle.choices.specs.Singles.{winners_after, IsSingle}
 use Rattle.value_table.specs.TableValue.{TableValue}
+use Rattle.auction_model.proofs.BookMarket.{winning-count}
 use Rattle.auction_model.proofs.ListLaws.{each-push}
-use Rattle.vickrey.proofs.VickreyLaws.{winners-count, winners-skip, winners-take, tables-more}
+use Rattle.vickrey.proofs.VickreyLaws.{winners-skip, winners-take, tables-more}
 use Rattle.vickrey.proofs.pricing.each_winner.Goals as goal
 use Rattle.vickrey.proofs.pricing.each_winner.Goals.{then-number-ne0+in_ok-one+in_ok-push+in_ok-push-2, else-number-ne0}
 
 pub number-requires : goal.number-requires
-number-requires c = (omega arith, omega (arith, c.bidders-k-end.ensures.bidders, winners-count c.args.book.now c.args.winners.now c.requires.winners))
+number-requires c = (omega arith, omega (arith, c.bidders-k-end.ensures.bidders, winning-count c.args.book.now c.args.winners.now c.requires.winners))
 
 pub loop-k-preserved : goal.loop-k-preserved
 loop-k-preserved c =
@@ -19,7 +20,7 @@ loop-k-preserved c =
     let k = c.loop-k.k in
     let winner = λ (s : Single). s.winner in
     let lines = λ (t : TableValue). t.lines in
-    let inside : k < length z = omega (arith, c.bidders-k-end.ensures.bidders, winners-count book z c.requires.winners) in
+    let inside : k < length z = omega (arith, c.bidders-k-end.ensures.bidders, winning-count book z c.requires.winners) in
     let back : k + 1 - 1 ≡ k = omega arith in
     let number : c.number.result ≡ get_or z k 0 = c.number.ensures ∙ ap (λ n. get_or z n 0) back in
     let was = c.loop-k.invariant in
@@ -48,7 +49,7 @@ loop-k-preserved c =
 pub returns-clause-singles : goal.returns-clause-singles
 returns-clause-singles c =
     let z = c.args.winners.now in
-    let all : length z ≤ c.loop-k.k = omega (arith, c.bidders-k-end.ensures.bidders, winners-count c.args.book.now z c.requires.winners) in
+    let all : length z ≤ c.loop-k.k = omega (arith, c.bidders-k-end.ensures.bidders, winning-count c.args.book.now z c.requires.winners) in
     rw c.new.ensures.singles (record {
       winners = c.loop-k.invariant.winners ∙ ap (winners_after 0) (take_all c.loop-k.k z all);
       each = c.loop-k.invariant.each;
@@ -57,5 +58,5 @@ returns-clause-singles c =
 pub returns-clause-tables : goal.returns-clause-tables
 returns-clause-tables c =
     let z = c.args.winners.now in
-    let all : length z ≤ c.loop-k.k = omega (arith, c.bidders-k-end.ensures.bidders, winners-count c.args.book.now z c.requires.winners) in
+    let all : length z ≤ c.loop-k.k = omega (arith, c.bidders-k-end.ensures.bidders, winning-count c.args.book.now z c.requires.winners) in
     rw c.new.ensures.tables (rw take_all at c.loop-k.invariant.tables)

@@ -1,4 +1,4 @@
-use Rattle.std.proofs.Common.{◌≡◌, ◌<◌, ◌≤◌, ◌-◌, ℕ, List, get_or, length, map, sym, ap, subst, ◌∙◌, arith}
+use Rattle.std.proofs.Common.{◌≡◌, ◌≤◌, ◌-◌, ℕ, List, get_or, length, map, sym, ap, subst, ◌∙◌, arith}
 use Rattle.std.proofs.lemmas.Bool.{false≢true}
 use Rattle.std.proofs.lemmas.List.{length-map}
 use Rattle.auction_model.specs.Book.{Book, BookBid, bids_of, no_bid}
@@ -6,7 +6,6 @@ use Rattle.bid_book.specs.Changes.{InPackageOrder}
 use Rattle.bid_book.specs.Fields.{bid_value, HasNet}
 use Rattle.bid_book.specs.Kept.{IsBidBook}
 use Rattle.bid_book.specs.Lists.{bid_of}
-use Rattle.bid_book.specs.Sound.{IsSoundBid}
 use Rattle.bid_book.proofs.BookReads.{bidders-read}
 use Rattle.bid_book.proofs.Changed.{own_bids, own_categories, own_nets, bids_are, bids_same, changed_nets, same_nets, changed_betters, on-err, same_betters}
 use Rattle.bid_book.proofs.PackageOrder.{lots_at}

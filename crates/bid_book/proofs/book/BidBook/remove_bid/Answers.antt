@@ -1,9 +1,9 @@
-use Rattle.std.proofs.Common.{◌≡◌, ◌<◌, ◌≤◌, ◌-◌, length, map, sym, ap, subst, ◌∙◌, arith}
+use Rattle.std.proofs.Common.{◌≤◌, ◌-◌, length, sym, subst, arith}
 use Rattle.std.specs.List.{remove}
-use Rattle.auction_model.specs.Book.{BookBid, bids_of}
+use Rattle.auction_model.specs.Book.{bids_of}
 use Rattle.bid_book.specs.Fields.{HasNet}
 use Rattle.bid_book.specs.Kept.{IsBidBook}
-use Rattle.bid_book.proofs.BookReads.{bidders-read, count-read}
+use Rattle.bid_book.proofs.BookReads.{bidders-read}
 use Rattle.bid_book.proofs.Changed.{own_bids, own_nets, bids_are, changed_nets, changed_betters}
 use Rattle.bid_book.proofs.PutLaws.{less-within}
 use Rattle.bid_book.proofs.SettleLaws.{All-remove, nets-same, taken-list}

@@ -1,9 +1,7 @@
-use Rattle.std.proofs.Common.{◌≡◌, ◌≤◌, ◌<◌, ℕ, true, false, List, length, get_or, map, sym, ap, ◌∙◌, subst, arith, below_more}
-use Rattle.std.specs.Prelude.{IsTrue}
+use Rattle.std.proofs.Common.{◌≡◌, ℕ, true, false, List, length, get_or, map, sym, ap, ◌∙◌, arith, below_more}
 use Rattle.std.proofs.lemmas.Bool.{false≢true}
 use Rattle.std.proofs.lemmas.List.{get_or-map, length-map}
 use Rattle.auction_model.specs.Book.{BookBid, no_bid}
-use Rattle.auction_model.specs.Package.{ComesBefore}
 use Rattle.auction_rules.specs.PackageTests.{is_before}
 use Rattle.auction_rules.proofs.PackageLaws.{comes-is_before}
 use Rattle.bid_book.specs.Fields.{bid_value}

@@ -1,8 +1,6 @@
-use Rattle.std.proofs.Common.{◌≡◌, ◌<◌, ◌≤◌, List, true, false, length, get_or, map, sym, ◌∙◌, subst, arith}
+use Rattle.std.proofs.Common.{◌<◌, length, map, sym, ◌∙◌, arith}
 use Rattle.std.proofs.lemmas.Bool.{false≢true}
 use Rattle.std.proofs.lemmas.List.{length-map}
-use Rattle.auction_model.specs.Book.{no_bid}
-use Rattle.bid_book.specs.Changes.{IsPlaceIn}
 use Rattle.bid_book.specs.Fields.{bid_value}
 use Rattle.bid_book.proofs.PlaceLaws.{place-there}
 use Rattle.bid_book.proofs.SettleLaws.{put-set, put-insert}

@@ -1,10 +1,11 @@
 use Rattle.std.proofs.Common.{◌≡◌, ◌-◌, ℕ, List, length, sym, ap, subst, ◌∙◌, rules, arith}
 use Rattle.std.proofs.lemmas.Grind.{common_steps}
 use Rattle.auction_model.specs.Book.{Book}
+use Rattle.auction_model.proofs.BookMarket.{winning-count}
 use Rattle.review.specs.declared.edit.EditReply.TheVariants as reply
 use Rattle.review.specs.Edits.{edit_bidder, edit_reply, edited}
 use Rattle.review.specs.ReviewValue.{AreLeftLines, AreRightLines, lines_of}
-use Rattle.review.proofs.EditLaws.{bidders-edit, left-edit, right-edit, winning-count}
+use Rattle.review.proofs.EditLaws.{bidders-edit, left-edit, right-edit}
 use Rattle.review.proofs.ReplyLaws.{edit-fit}
 use Rattle.review.proofs.review.Review.edit.Goals as goal
 
