@@ -12,9 +12,7 @@ use Rattle.wide_num.proofs.Decimal.{IsDigit}
 use Rattle.cert_form.specs.Lines.{signed}
 use Rattle.cert_pieces.specs.declared.line.fields.Field.{Field}
 use Rattle.cert_pieces.specs.declared.line.form.Form.TheVariants.{Signed}
-use Rattle.cert_pieces.specs.declared.line.phase.Kept.{Kept}
 use Rattle.cert_pieces.specs.Fields.{IsField, behind_space}
-use Rattle.cert_pieces.specs.Forms.{Keeps}
 use Rattle.cert_pieces.specs.LineParts.{IsPart}
 use Rattle.cert_pieces.specs.Pieces.{between}
 use Rattle.cert_pieces.proofs.Following.{follows, keeps_more, kept_now}

@@ -1,10 +1,12 @@
 // Whole numbers of a piece, one behind the other.
-ghost use Rattle.std.specs.Prelude.{◌≡◌, ◌≤◌, ◌<◌, ℕ, List, ◌++◌, length, get_or, ℤ, Bool, IfSome};
+ghost use Rattle.std.specs.Prelude.{◌≡◌, ◌≤◌, ◌<◌, ◌^◌, ℕ, List, ◌++◌, length, get_or, ℤ, Bool, IfSome, IsTrue};
 ghost use Rattle.cert_pieces.specs.declared.line.form.Form.{Form};
 ghost use Rattle.line_text.specs.LineText.{IsLine};
 ghost use Rattle.cert_pieces.specs.Fields.{IsField, behind_space};
 ghost use Rattle.cert_pieces.specs.LineParts.{IsPart};
 ghost use Rattle.cert_pieces.specs.Pieces.{between};
+
+use crate::line::digits::SMALL;
 
 /// A number that isn't below 0, and where it ends.
 #[derive(Clone, Copy)]
@@ -12,9 +14,6 @@ pub(crate) struct Field {
     pub(crate) size: u64,
     pub(crate) end: usize,
 }
-
-/// 10^18. With one more digit the size still has 64 bits.
-const SMALL: u64 = 1_000_000_000_000_000_000;
 
 /// Reads a number of at most nineteen digits and without a minus from a place of a piece on, up to the space behind it. Gives `None`
 /// where no such number stands there whole.
@@ -38,15 +37,20 @@ fn read_field(piece: &[u8], at: usize) -> Option<Field>
             }
             return Some(Field { size, end: i });
         }
-        if size == 0 {
-            return None;
-        }
-        if size >= SMALL {
+        if !may_go_on(size) {
             return None;
         }
         size = 10 * size + (byte - b'0') as u64;
     }
     None
+}
+
+/// Whether one more digit may stand behind those of a number: not behind 0, nor where its size might leave 64 bits.
+fn may_go_on(size: u64) -> bool
+    ensures some { IsTrue result → 0 < size }
+    ensures small { IsTrue result → size < 10 ^ 18 }
+{
+    0 < size && size < SMALL
 }
 
 /// How many numbers are kept, and where the last of them ends with its space.
