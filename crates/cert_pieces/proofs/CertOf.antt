@@ -1,13 +1,12 @@
 -- Lines that follow the plan and are in range are those of a certificate.
-use Rattle.std.proofs.Common.{◌≡◌, ℕ, suc, zero, ◌≤◌, ◌<◌, Bool, true, false, List, [], ◌∷◌, ◌++◌, length, replicate, refl, sym, ap, subst, ◌∙◌, arith, append_assoc}
-use Rattle.std.proofs.lemmas.Bool.Decides.{nat_tests}
+use Rattle.std.proofs.Common.{◌≡◌, ℕ, suc, zero, ◌≤◌, List, [], ◌∷◌, ◌++◌, length, replicate, refl, sym, ap, subst, ◌∙◌, arith, append_assoc}
 use Rattle.std.proofs.lemmas.Int.{ints}
-use Rattle.std.specs.Prelude.{ℤ, pos, negsuc, codes, map, ◌^◌, ◌||◌, nat_le, unsigned_abs}
+use Rattle.std.specs.Prelude.{ℤ, pos, negsuc, codes, map}
 use Rattle.cert_pieces.specs.Standing.{AllIn}
 use Rattle.cert_form.specs.Certificate.{CertValue, WithoutValue, RowValue}
 use Rattle.cert_form.specs.Plan.{Follows}
 use Rattle.cert_form.specs.Lines.{Line, Kind, Numbers, kind, these, signed, chosen, headed, counted, members, Fits, FitNumbers, AreNumbers, Rise, after, after_numbers, just_line, table_plan, parts_plan, rows_plan, version_lines, version_plan, body_plan, IsCertText}
-use Rattle.text_lines.specs.Range.{any_out, is_out, AllInRange}
+use Rattle.text_lines.specs.Range.{AllInRange}
 use Rattle.cert_text.proofs.PlanSteps.{all_in}
 use Rattle.cert_form.proofs.Version.{version_is}
 use Rattle.cert_form.specs.CertText.{line, as_numbers, choice_line, table_lines, part_lines, row_lines, body_lines, cert_lines, AtMost, AreTableLines, AreWithouts, AreMembers, AreRows, IsCertificate}

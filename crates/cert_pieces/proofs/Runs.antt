@@ -1,7 +1,7 @@
 -- Runs of digits in a piece.
-use Rattle.std.proofs.Common.{◌≡◌, ◌≢◌, ℕ, suc, zero, ◌+◌, ◌-◌, ◌*◌, ◌≤◌, ◌<◌, Bool, List, [], ◌∷◌, ◌++◌, length, take, drop, get_or, refl, sym, ap, subst, ◌∙◌, arith, append_assoc, length-take, length-drop, drop-drop}
+use Rattle.std.proofs.Common.{◌≡◌, ◌≢◌, ℕ, suc, zero, ◌+◌, ◌-◌, ◌≤◌, ◌<◌, Bool, List, [], ◌∷◌, ◌++◌, length, take, drop, get_or, refl, sym, ap, subst, ◌∙◌, arith, append_assoc, length-take, length-drop, drop-drop}
 use Rattle.std.proofs.Math.Seq.{take-add}
-use Rattle.std.proofs.lemmas.List.{append-nil, take_more, get_or-drop}
+use Rattle.std.proofs.lemmas.List.{take_more, get_or-drop}
 use Rattle.std.specs.Prelude.{ℤ, pos, negsuc, unsigned_abs}
 use Rattle.line_text.specs.LineText.{IsLine}
 use Rattle.line_text.proofs.Lines.{line_append}
@@ -18,7 +18,6 @@ use Rattle.cert_pieces.specs.declared.line.Outcome.{Outcome}
 use Rattle.cert_pieces.specs.declared.line.Outcome.TheVariants.{Open, Whole, Fault}
 use Rattle.cert_pieces.specs.LineParts.{IsPart, Becomes, ReadsOn}
 use Rattle.text_lines.proofs.FieldRuns.{numbers-push}
-use Rattle.cert_pieces.proofs.Fronts.{numeral_push}
 
 -- one byte more of a piece
 pub between_more : (at i : ℕ) (piece : List ℕ) → at ≤ i → i < length piece → between at (i + 1) piece ≡ between at i piece ++ get_or piece i 0 ∷ []

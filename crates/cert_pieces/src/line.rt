@@ -8,12 +8,14 @@ ghost use Rattle.cert_pieces.specs.LineParts.{IsPart, Becomes, Accepts, ReadsOn}
 ghost use Rattle.cert_pieces.specs.Tallies.{IsKept};
 
 pub(crate) mod digits;
+pub(crate) mod fields;
 pub(crate) mod form;
 pub(crate) mod numbers;
 pub(crate) mod phase;
 pub(crate) mod tally;
 
 use crate::line::digits::{is_zero, read_digits};
+use crate::line::fields::put_fields;
 use crate::line::form::Form;
 use crate::line::numbers::{is_whole, may_follow};
 use crate::line::phase::{Kept, Phase, Step, advance};
@@ -103,6 +105,47 @@ impl LinePart {
         true
     }
 
+    /// Takes what stands at the front of a piece and needs no step for each byte: whole numbers, and then digits. Gives where they end.
+    pub(crate) fn take_front(
+        &mut self,
+        form: Form,
+        out: &mut [i128],
+        piece: &[u8],
+        at: usize,
+    ) -> usize
+        requires room { room_for form ≤ length out.old }
+        requires at { at ≤ length piece.now }
+        ensures from { at ≤ result }
+        ensures to { result ≤ length piece.now }
+        ensures line { IsLine (between at result piece.now) }
+        ensures part { (word : List ℕ) (bytes : List ℕ) → IsPart word form self.old out.old bytes → IsPart word form self.new out.new (bytes ++ between at result piece.now) }
+        ensures room { length out.new ≡ length out.old }
+    {
+        let mid = self.take_fields(form, out, piece, at);
+        self.take_digits(piece, mid)
+    }
+
+    /// Takes the whole numbers at the front of a piece, where one has to begin in a line of signed ones. Gives where they end.
+    fn take_fields(&mut self, form: Form, out: &mut [i128], piece: &[u8], at: usize) -> usize
+        requires room { room_for form ≤ length out.old }
+        requires at { at ≤ length piece.now }
+        ensures from { at ≤ result }
+        ensures to { result ≤ length piece.now }
+        ensures line { IsLine (between at result piece.now) }
+        ensures part { (word : List ℕ) (bytes : List ℕ) → IsPart word form self.old out.old bytes → IsPart word form self.new out.new (bytes ++ between at result piece.now) }
+        ensures room { length out.new ≡ length out.old }
+    {
+        let Form::Signed(most) = form else {
+            return at;
+        };
+        let Phase::Space = self.phase else {
+            return at;
+        };
+        let fields = put_fields(out, self.count, most, piece, at);
+        self.count = fields.count;
+        fields.end
+    }
+
     /// Takes the digits at the front of a piece, where the line is in a number. Gives where they end.
     pub(crate) fn take_digits(&mut self, piece: &[u8], at: usize) -> usize
         requires { at ≤ length piece.now }
@@ -156,7 +199,7 @@ pub(crate) fn read_line(
     let mut part = part;
     let mut end = at;
     while end < piece.len() {
-        end = part.take_digits(piece, end);
+        end = part.take_front(form, out, piece, end);
         if end < piece.len() {
             let outcome = part.take(form, word, out, piece[end]);
             if outcome != Outcome::Open {

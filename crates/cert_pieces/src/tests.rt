@@ -17,6 +17,9 @@ const SAMPLE: &str = "cert 1\nden 1\nvalue 48\nchoice 1 1 0 0 0\ntable\n\
     pay 17 15 0 0 0\nrows 1\nrow 1 2\nmult 1 3\nchoice 0 0 1 0 0\nlowered\n\
     t 0 15 17 32\nt 0 15 14 32\nt 0 12 14 32\nt 0 12 14 26\nt 0 12 0 12\nt 0 0 0 0\nend\n";
 
+/// The sample before its first table.
+const BEFORE_TABLE: &str = "cert 1\nden 1\nvalue 48\nchoice 1 1 0 0 0\ntable\n";
+
 /// How many bidders and states the sample is for.
 const SAMPLE_SHAPE: Shape = Shape {
     bidders: 5,
@@ -77,6 +80,18 @@ fn says(
     assert_eq!(rt; in_pieces(alloc, shape, text, more)?, told);
     assert_eq!(rt; at_once(alloc, shape, text)?, told);
     Ok(())
+}
+
+// Asserts the same of a table that begins with this line, in short and in long pieces.
+fn table_says(
+    rt: &impl Abort,
+    alloc: Global,
+    line: &str,
+    stop: TextStop,
+) -> Result<(), AllocError> {
+    let text = format!(in alloc; "{}{line}", BEFORE_TABLE)?;
+    says(rt, alloc, SAMPLE_SHAPE, text.as_bytes(), 5, Err(stop))?;
+    says(rt, alloc, SAMPLE_SHAPE, text.as_bytes(), 99, Err(stop))
 }
 
 #[test]
@@ -156,6 +171,26 @@ fn reads_the_head_of_the_second_version(rt: HostRuntime) -> Result<(), AllocErro
     ];
     for (text, stop) in cases {
         says(&rt, rt.alloc(), THIRTEEN, text.as_bytes(), 3, Err(*stop))?;
+    }
+    Ok(())
+}
+
+#[test]
+fn reads_each_field_of_a_table(rt: HostRuntime) -> Result<(), AllocError> {
+    let cases: &[(&str, TextStop)] = &[
+        ("t 0 020 28 48\n", TextStop::Form(45)),
+        ("t 0 20 28 48 1\n", TextStop::Form(45)),
+        ("t 0 20  28 48\n", TextStop::Form(45)),
+        ("t 0 -5 0 48\nx", TextStop::Form(57)),
+        ("t 0 1234567890123456789 28 48\nx", TextStop::Form(75)),
+        ("t 0 12345678901234567890 28 48\nx", TextStop::Form(76)),
+        (
+            "t 0 1329227995784915872903807060280344576 28 48\n",
+            TextStop::Range(45),
+        ),
+    ];
+    for (line, stop) in cases {
+        table_says(&rt, rt.alloc(), line, *stop)?;
     }
     Ok(())
 }

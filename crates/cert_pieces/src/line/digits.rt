@@ -83,7 +83,7 @@ pub(crate) fn read_digits(piece: &[u8], at: usize, tally: Tally) -> DigitRun
 }
 
 /// 10^18. With one more digit the size still has 64 bits.
-const SMALL: u64 = 1_000_000_000_000_000_000;
+pub(crate) const SMALL: u64 = 1_000_000_000_000_000_000;
 
 /// The tally of a size of 64 bits.
 fn small(size: u64) -> Tally
