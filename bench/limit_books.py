@@ -23,6 +23,11 @@ def build_plain(name):
     return program
 
 
+def read(name):
+    with open(name) as f:
+        return f.read()
+
+
 def timed(words, may_fail=False):
     """The CPU time of a run in milliseconds, and what it prints."""
     before = resource.getrusage(resource.RUSAGE_CHILDREN)

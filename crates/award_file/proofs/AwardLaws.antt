@@ -206,12 +206,15 @@ award-of t h supply few apart =
       caps = subst (λ n. All (IsCap n) (walk.terms_of t).caps) (sym count) caps.1;
     }
 
+-- the supply of stated terms has at least one category, each of 1 to 999 lots
 pub offer-stated : (terms : Terms) → IsStated terms → IsOffer terms.supply
 offer-stated terms h = subst (λ (x : Terms). IsOffer x.supply) h.is (offer-of h.stated h.passes)
 
+-- the tick and the thresholds of stated terms keep what a step table keeps
 pub steps-stated : (terms : Terms) → IsStated terms → IsSteps (steps_of terms)
 steps-stated terms h = subst (λ (x : Terms). IsSteps (steps_of x)) h.is (steps-of h.stated h.passes)
 
+-- stated terms with a supply, at most 16 bidders and no name twice keep what an award keeps
 pub award-stated : (terms : Terms) → IsStated terms → IsSupply terms.supply → length terms.bidders ≤ 16 → AreNamedApart terms.bidders → IsAward terms
 award-stated terms h supply few apart =
     subst (λ (x : Terms). IsSupply x.supply → length x.bidders ≤ 16 → AreNamedApart x.bidders → IsAward x) h.is (award-of h.stated h.passes) supply few apart

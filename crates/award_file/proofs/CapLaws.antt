@@ -9,6 +9,7 @@ use Rattle.award_file.specs.declared.caps.SpectrumCap.{SpectrumCap as KeptCap}
 use Rattle.award_file.specs.Award.{IsCap}
 use Rattle.award_file.specs.Fields.{cap_value, cap_values}
 
+-- what is left of a weighted sum is the weight of the next category for its lots and holding, and the rest
 pub weight-step : (weights counts holding : List ℕ) (i sum : ℕ) → i < length counts → length weights ≡ length counts → length holding ≡ length counts
     → sum + cost_of (drop i weights) (together (drop i counts) (drop i holding))
     ≡ (sum + get_or weights i 0 * (get_or counts i 0 + get_or holding i 0)) + cost_of (drop (i + 1) weights) (together (drop (i + 1) counts) (drop (i + 1) holding))

@@ -21,11 +21,13 @@ three-hold true false c i j k entry h = absurd (cc h)
 three-hold true true false i j k entry h = absurd (cc h)
 three-hold true true true i j k entry h = (refl, refl, refl)
 
+-- where none of four rules is broken, all four hold
 pub four-hold : (a b c d : Bool) (i j k l entry : ℕ) → first_fault (unless a i entry ∷ unless b j entry ∷ unless c k entry ∷ unless d l entry ∷ []) ≡ None
     → (a ≡ true) × (b ≡ true) × (c ≡ true) × (d ≡ true)
 four-hold false b c d i j k l entry h = absurd (cc h)
 four-hold true b c d i j k l entry h = let more = three-hold b c d j k l entry h in (refl, more.0, more.1, more.2)
 
+-- where none of five rules is broken, all five hold
 pub five-hold : (a b c d e : Bool) (i j k l m entry : ℕ) → first_fault (unless a i entry ∷ unless b j entry ∷ unless c k entry ∷ unless d l entry ∷ unless e m entry ∷ []) ≡ None
     → (a ≡ true) × (b ≡ true) × (c ≡ true) × (d ≡ true) × (e ≡ true)
 five-hold false b c d e i j k l m entry h = absurd (cc h)
@@ -53,6 +55,7 @@ found-in : (low high : ℕ) (found : Option Data) → is_some (option_and_then (
 found-in low high None h = absurd (false≢true h)
 found-in low high (Some d) h = whole low high (as_integer d) h
 
+-- a number that a key states within bounds is from low to high
 pub number-in : (low high : ℕ) (key : List ℕ) (t : Members) → is_some (number_at low high key t) ≡ true → IsFrom low high (number_at low high key t)
 number-in low high key t h = found-in low high (get_member key t) h
 
@@ -85,10 +88,12 @@ row-from : (count high : ℕ) (found : Option (List ℕ)) → AreLow high found 
 row-from count high None all h = absurd (false≢true h)
 row-from count high (Some ns) all h = counted count high ns (length ns == count) refl all h
 
+-- a value that is a row is so many numbers, none above high
 pub row-in : (count high : ℕ) (d : Data) → is_some (row_of count high d) ≡ true → IsRow count high (unwrap_or (row_of count high d) [])
 row-in count high (array ds) h = row-from count high (numbers_of high ds) (all-low high ds) h
 row-in count high _ h = absurd (false≢true h)
 
+-- a row that a key states is so many numbers, none above high
 pub row-at : (count high : ℕ) (found : Option Data) → is_some (option_and_then (row_of count high) found) ≡ true → IsRow count high (unwrap_or (option_and_then (row_of count high) found) [])
 row-at count high None h = absurd (false≢true h)
 row-at count high (Some d) h = row-in count high d h
@@ -96,6 +101,7 @@ row-at count high (Some d) h = row-in count high d h
 zeros-low : (n high : ℕ) → AllByRecursion (λ m. m ≤ high) (replicate n 0)
 zeros-low n high = recursion_from_All (λ m. m ≤ high) (replicate n 0) (All-replicate (λ m. m ≤ high) n 0 (omega arith))
 
+-- a holding, stated or left out, has a number of at most 999 for each category
 pub holding-at : (count : ℕ) (found : Option Data) → is_some (holding_in count found) ≡ true → IsRow count 999 (unwrap_or (holding_in count found) [])
 holding-at count None h = (length-replicate {A = ℕ} count 0, zeros-low count 999)
 holding-at count (Some d) h = row-in count 999 d h
@@ -110,6 +116,7 @@ name-from : (before : List (List ℕ)) (found : Option (List ℕ)) → is_new be
 name-from before None h = absurd (false≢true h)
 name-from before (Some s) h = named before s (is_name s) refl h
 
+-- a stated name that is new has the form of a name
 pub name-in : (before : List (List ℕ)) (t : Members) → is_new before (name_at t) ≡ true → IsName (name_or_none t)
 name-in before t h = name-from before (string_at (codes "name") t) h
 

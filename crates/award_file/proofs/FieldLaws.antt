@@ -35,6 +35,7 @@ bytes-test : (cs : List ℕ) → AllByRecursion IsNameByte cs → list_all is_na
 bytes-test [] h = refl
 bytes-test (c ∷ cs) h = rw (byte-tests c h.0, bytes-test cs h.1)
 
+-- what passes the test of names is a name
 pub name-is : (s : List ℕ) → is_name s ≡ true → IsName s
 name-is [] h = absurd (false≢true h)
 name-is (c ∷ cs) h =
@@ -43,6 +44,7 @@ name-is (c ∷ cs) h =
     let short : nat_le (length cs) 19 ≡ true = more.1 in
     (letter-is c parts.0, bytes-are cs more.0, grind (arith, nat_tests))
 
+-- each name passes the test of names
 pub name-tests : (s : List ℕ) → IsName s → is_name s ≡ true
 name-tests [] h = absurd h
 name-tests (c ∷ cs) h = rw (letter-tests c h.0, bytes-test cs h.1) (grind (arith, nat_tests, h.2))
@@ -56,14 +58,17 @@ same-test false s h =
       | inr fails ↦ sym fails
     ]
 
+-- a string that passes the test of names is the name that is stated
 pub name-passes : (s : List ℕ) → is_name s ≡ true → option_and_then (where_passes is_name) (Some s) ≡ Some s
 name-passes s h = rw h
 
+-- a string that fails the test of names states no name
 pub name-fails : (s : List ℕ) → is_name s ≡ false → option_and_then (where_passes is_name) (Some s) ≡ None
 name-fails s h = rw h
 
 -- ---- lists of tables
 
+-- of elements that are all tables the first counts as one, and the others are all tables
 pub tables-more : (d : Data) (ds : Items) → are_tables (item d ds) ≡ true → (are_tables ds ≡ true) × (length (tables_of (item d ds)) ≡ suc (length (tables_of ds)))
 tables-more (table t) ds h = (h, refl)
 tables-more _ ds h = absurd (false≢true h)

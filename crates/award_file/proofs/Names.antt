@@ -25,6 +25,7 @@ prefix_len-map : {A B : Type 0} (p : B → Bool) (f : A → B) (xs : List A) →
 prefix_len-map p f [] = refl
 prefix_len-map p f (x ∷ xs) = rw (prefix_len-map p f xs)
 
+-- the first image that passes a test stands at the place of the first element whose image passes it
 pub position-map : {A B : Type 0} (p : B → Bool) (f : A → B) (xs : List A) → position p (map f xs) ≡ position (λ x. p (f x)) xs
 position-map p f xs = rw (prefix_len-map (λ b. not (p b)) f xs, length-map xs f)
 

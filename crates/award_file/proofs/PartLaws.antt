@@ -15,6 +15,7 @@ use Rattle.award_file.specs.Fields.{cap_values}
 use Rattle.award_file.specs.Parts.{category_values, counts, terms_value}
 use Rattle.award_file.specs.Reading.{IsLimit, bidders_excess}
 
+-- the supplies of the categories are the counts of lots that were read
 pub counts-are : (read : List Read) → map (λ c. c.supply) (category_values read) ≡ counts read
 counts-are [] = refl
 counts-are (c ∷ cs) = ap (λ (ns : List ℕ). c.supply ∷ ns) (counts-are cs)
@@ -50,5 +51,6 @@ first-limits f g Memory h = tt
 pub bidders-exceed : (f : Option Excess) (n : ℕ) → f ≡ None → 16 < n → option_or f (bidders_excess n) ≡ Some (Bidders, n)
 bidders-exceed f n none many = let e : bidders_excess n ≡ Some (Bidders, n) = grind (arith, nat_tests) in rw none e
 
+-- where no other limit is exceeded and there are at most 16 bidders, no limit is
 pub none-exceeded : (f : Option Excess) (n : ℕ) → f ≡ None → n ≤ 16 → option_or f (bidders_excess n) ≡ None
 none-exceeded f n none few = let e : bidders_excess n ≡ None = grind (arith, nat_tests) in rw none e

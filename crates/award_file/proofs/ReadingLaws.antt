@@ -18,9 +18,11 @@ use Rattle.award_file.specs.Walk.{Fault, Category, unless, first_fault, categori
 use Rattle.award_file.proofs.ListLaws.{first-stops}
 use Rattle.award_file.specs.Reading.{IsFault, IsLimit, IsStop, stated_table, reading_within, reading_after}
 
+-- bytes that are UTF-8 and parse as a table state that table
 pub stated-table : (bytes : List ℕ) (t : Members) → IsUtf8 bytes → parse_document bytes ≡ Some t → stated_table bytes ≡ Some t
 stated-table bytes t utf8 parsed = rw (is_utf8-from_IsUtf8 bytes utf8) parsed
 
+-- bytes that don't parse, or aren't UTF-8, state no table
 pub no-table : (bytes : List ℕ) → (IsUtf8 bytes → parse_document bytes ≡ None) → stated_table bytes ≡ None
 no-table bytes refused =
     elim (cases_Bool (is_utf8 bytes)) [

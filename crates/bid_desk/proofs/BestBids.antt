@@ -89,6 +89,7 @@ with_entry-before x a (b ∷ list) after = rw (is_before-not_same x b.lots after
 bid-same : (b : BookBid) (n : ℕ) → n ≡ b.amount → record { lots = b.lots; amount = n } ≡ b
 bid-same b n is = ap (λ (n : ℕ). record { lots = b.lots; amount = n }) is
 
+-- the best bids of a list in order without the empty package are the list
 pub best_bids-own : (list : List BookBid) → InOrder (map bid_lots list) → AllByRecursion (λ (b : BookBid). is_empty b.lots ≡ false) list → best_bids list ≡ list
 best_bids-own [] order some = refl
 best_bids-own (b ∷ list) order some =

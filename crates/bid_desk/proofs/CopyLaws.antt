@@ -57,5 +57,6 @@ copied-whole from list new place past low is cut =
 abbrev pub bid_of : List ℕ → ℕ → Bid
 bid_of lots amount = record { «package» = lots; amount = amount }
 
+-- an entry made of the package and the amount of another one has its value
 pub bid-same : (lots : List ℕ) (bid : Bid) → lots ≡ bid.«package» → bid_value (bid_of lots bid.amount) ≡ bid_value bid
 bid-same lots bid is = ap (λ (q : List ℕ). bid_value (bid_of q bid.amount)) is

@@ -29,6 +29,7 @@ entries-each categories [] each k d inside = absurd (omega arith)
 entries-each categories (b ∷ list) each zero d inside = record { held = record { count = each.0.count; few = each.0.few }; amount = each.0.amount }
 entries-each categories (b ∷ list) each (suc k) d inside = entries-each categories list each.1 k d (omega arith)
 
+-- what a bidder's list keeps are entries of so many categories
 pub kept-entries : (categories : ℕ) (list : List Bid) → IsKept categories (map bid_value list) → All (IsEntry categories) list
 kept-entries categories list kept = entries-each categories list kept.each
 
@@ -37,6 +38,7 @@ pub lots-values : (list : List Bid) → map bid_lots (map bid_value list) ≡ ma
 lots-values [] = refl
 lots-values (b ∷ list) = ap (λ (ps : List (List ℕ)). b.«package» ∷ ps) (lots-values list)
 
+-- a bidder's list that is kept has its packages in order
 pub kept-order : (categories : ℕ) (list : List Bid) → IsKept categories (map bid_value list) → InOrder (map entry_lots list)
 kept-order categories list kept = subst InOrder (lots-values list) kept.order
 

@@ -19,12 +19,14 @@ kept-running : (terms : Terms) (clock new : ClockState) (j : ℕ) (kept : Option
 kept-running terms clock new j None runs is = tt
 kept-running terms clock new j (Some t) runs is = let stopped : clock.running ≡ false = is.0 in absurd cc
 
+-- the testers at a running clock are right at any other clock
 pub testers-running : (terms : Terms) (clock new : ClockState) (testers : List (Option Tester)) → clock.running ≡ true → AreTesters terms clock testers → AreTesters terms new testers
 testers-running terms clock new testers runs are = record {
   count = are.count;
   each = λ k d inside. kept-running terms clock new (k + 1) (get_or testers k d) runs (are.each k d inside);
 }
 
+-- where no bidder has a tester, the testers are right at any clock
 pub testers-start : (terms : Terms) (clock : ClockState) (count : ℕ) (testers : List (Option Tester)) → count ≡ length terms.bidders → testers ≡ replicate count None → AreTesters terms clock testers
 testers-start terms clock count testers all is =
     let size : length testers ≡ count = ap (λ (ts : List (Option Tester)). length ts) is ∙ length-replicate {A = Option Tester} count None in
@@ -45,6 +47,7 @@ kept-in : (terms : Terms) (clock : ClockState) (j : ℕ) (kept : Option Tester) 
 kept-in terms clock j None stopped is = tt
 kept-in terms clock j (Some t) stopped is = (stopped, is)
 
+-- the testers at a clock are for its closed rounds and the points of the award
 pub testers-for : (terms : Terms) (clock : ClockState) (testers : List (Option Tester)) (history : List Round) (points : List ℕ) → history ≡ clock.rounds → points ≡ terms.points
     → AreTesters terms clock testers → AreFor history points testers
 testers-for terms clock testers history points by_history by_points are =
@@ -52,6 +55,7 @@ testers-for terms clock testers history points by_history by_points are =
     (subst (λ (p : List ℕ). AreFor clock.rounds p testers) (sym by_points)
     (λ k d inside. kept-for terms clock (k + 1) (get_or testers k d) (are.each k d inside)))
 
+-- at a clock that has stopped as many testers for its closed rounds and the points are right
 pub testers-in : (terms : Terms) (clock : ClockState) (old testers : List (Option Tester)) (history : List Round) (points : List ℕ) → history ≡ clock.rounds → points ≡ terms.points
     → clock.running ≡ false → AreTesters terms clock old → length testers ≡ length old → AreFor history points testers → AreTesters terms clock testers
 testers-in terms clock old testers history points by_history by_points stopped are count is =
@@ -66,6 +70,7 @@ tester-of : (rounds : List Round) (points : List ℕ) (j : ℕ) (kept : Option T
 tester-of rounds points j None t is new = new points
 tester-of rounds points j (Some own) t is same = subst (IsTester rounds points j) (sym same) is
 
+-- the tester of a bidder, the one that was kept or a new one, is right for its rounds and points
 pub tester-taken : (rounds : List Round) (points : List ℕ) (j : ℕ) (testers : List (Option Tester)) (kept d : Option Tester) (t : Tester) → 1 ≤ j → j - 1 < length testers → AreFor rounds points testers
     → kept ≡ get_or testers (j - 1) d → IsTesterOrNew rounds j kept t → IsTester rounds points j t
 tester-taken rounds points j testers kept d t low inside are at new =
@@ -95,6 +100,7 @@ testers-back rounds points j testers none t low inside empty are own =
     (testers-set rounds points (j - 1) testers none inside are (subst (IsKeptFor rounds points (j - 1 + 1)) (sym empty) tt))
     (subst (λ (n : ℕ). IsTester rounds points n t) next own)
 
+-- the testers stay right with one slot emptied
 pub testers-emptied : (rounds : List Round) (points : List ℕ) (place : ℕ) (testers : List (Option Tester)) (none : Option Tester) → place < length testers → none ≡ None → AreFor rounds points testers
     → AreFor rounds points (set testers place none)
 testers-emptied rounds points place testers none inside empty are = testers-set rounds points place testers none inside are (subst (IsKeptFor rounds points (place + 1)) (sym empty) tt)

@@ -31,12 +31,15 @@ pub record IsAskedBy (xs : List Lots) (i : ℕ) (all : Figures) : Type 0 where
 abbrev more_by : Figures → Lots → Figures
 more_by all p = record { a = all.a + p.a; b = all.b + p.b; c = all.c + p.c; e = all.e + p.e }
 
+-- the package of number i + 1 is the one at place i
 pub package-is : (xs : List Lots) (i : ℕ) (d : Lots) → i < length xs → package_at xs (suc i) ≡ counts_of (get_or xs i d)
 package-is xs i d low = let e : suc i - 1 ≡ i = omega arith in ap (λ (j : ℕ). get_or (map counts_of xs) j []) e ∙ get_or-map counts_of xs i d [] low
 
+-- before the first package no lots are asked for
 pub asked-none : (xs : List Lots) → IsAskedBy xs 0 (record { a = 0; b = 0; c = 0; e = 0 })
 asked-none xs = record { sum = refl; few_a = omega arith; few_b = omega arith; few_c = omega arith; few_e = omega arith }
 
+-- one package more adds its lots to what is asked for
 pub asked-more : (xs : List Lots) (i : ℕ) (all : Figures) (p : Lots) → i < length xs → p ≡ get_or xs i p → p.a ≤ 65535 → p.b ≤ 65535 → p.c ≤ 65535 → p.e ≤ 65535
     → IsAskedBy xs i all → IsAskedBy xs (i + 1) (more_by all p)
 asked-more xs i all p low is a b c e so_far =
@@ -51,6 +54,7 @@ asked-more xs i all p low is a b c e so_far =
       few_e = omega (arith, so_far.few_e, e);
     }
 
+-- what all of the packages ask for is what the bidders ask for that hold them
 pub asked-all : (xs : List Lots) (i : ℕ) (all : Figures) → i ≡ length xs → IsAskedBy xs i all → figures_of all ≡ asked made_terms (map counts_of xs)
 asked-all xs i all is so_far =
     let e : i ≡ length (map counts_of xs) = is ∙ sym (length-map xs counts_of) in
@@ -58,9 +62,11 @@ asked-all xs i all is so_far =
 
 -- ---- prices
 
+-- before the first round the prices are the reserves
 pub prices-none : (xs : List Lots) (p : Figures) → figures_of p ≡ made_terms.reserves → figures_of p ≡ prices_after made_terms (held_from (map counts_of xs)) 0
 prices-none xs p is = is
 
+-- raised by what the twelve packages ask for, the prices are those after one round more
 pub prices-more : (xs : List Lots) (i : ℕ) (now next all : Figures) → length xs ≡ 12 → figures_of all ≡ asked made_terms (map counts_of xs)
     → figures_of now ≡ prices_after made_terms (held_from (map counts_of xs)) i
     → figures_of next ≡ raised_prices 1 ((1, 100) ∷ (5, 200) ∷ []) (figures_of now) (figures_of all) made_terms.supply

@@ -76,6 +76,7 @@ all-apart (x ∷ xs) apart =
     let both : (apart_from x xs ≡ true) × (are_apart xs ≡ true) = and_parts (apart_from x xs) (are_apart xs) apart in
     (each-apart x xs both.0, all-apart xs both.1)
 
+-- the made award keeps all rules and limits of an award
 pub IsAward-made_terms : IsAward made_terms
 IsAward-made_terms = record {
   version = (omega arith, omega arith);

@@ -15,6 +15,7 @@ use Rattle.auction_rules.proofs.PackageLaws.{is_same-refl}
 use Rattle.auction_rules.proofs.BookCaps.{cost_of-empty}
 use Rattle.big_auction.specs.MadeAward.{made_terms}
 
+-- the last of a list with one more behind it is that one
 pub last_or-append : {A : Type 0} (d : A) (xs : List A) (x : A) → last_or d (xs ++ x ∷ []) ≡ x
 last_or-append d [] x = refl
 last_or-append d (y ∷ xs) x = last_or-append y xs x
@@ -31,6 +32,7 @@ enough-append points (s ∷ rounds) r reached =
 pub constraining-last : (points : ℕ) (rounds : List OwnRound) (r : OwnRound) → points ≤ r.eligibility → constraining points (rounds ++ r ∷ []) ≡ r
 constraining-last points rounds r reached = ap (last_or no_round) (enough-append points rounds r reached) ∙ last_or-append no_round (enough points rounds) r
 
+-- where no bid for a package is above an amount, the greatest isn't
 pub greatest-few : (lots : List ℕ) (most : ℕ) (bids : List BookBid) → AllByRecursion (λ b. is_same b.lots lots ≡ true → b.amount ≤ most) bids → greatest lots bids ≤ most
 greatest-few lots most [] few = omega arith
 greatest-few lots most (b ∷ bids) few =
@@ -90,6 +92,7 @@ no-fault before r list fair = no-excess (cap_of false made_terms.points (before 
 
 -- ---- lists with one entry more
 
+-- what each entry of a list keeps, and the new one, each keeps of the list with it
 pub each-with_entry : (P : BookBid → Type 0) (lots : List ℕ) (amount : ℕ) (list : List BookBid) → AllByRecursion P list → P (record { lots = lots; amount = amount }) → AllByRecursion P (with_entry lots amount list)
 each-with_entry P lots amount [] each new = (new, tt)
 each-with_entry P lots amount (b ∷ list) each new =
@@ -101,6 +104,7 @@ each-with_entry P lots amount (b ∷ list) each new =
       ]
     ]
 
+-- such a list is at most one entry longer
 pub length-with_entry : (lots : List ℕ) (amount : ℕ) (list : List BookBid) → length (with_entry lots amount list) ≤ suc (length list)
 length-with_entry lots amount [] = omega arith
 length-with_entry lots amount (b ∷ list) =

@@ -4,14 +4,17 @@ use Rattle.std.proofs.lemmas.Nat.{mod_below}
 use Rattle.big_auction.specs.Draws.{turned, behind, drawn, drawn_package}
 use Rattle.big_auction.specs.MadeLog.{package_of}
 
+-- a draw is below its bound
 pub drawn-below : (state n bound : ℕ) → 0 < bound → drawn state n bound < bound
 unfolding drawn
 drawn-below state n bound some = mod_below (behind state n / 2 ^ 16) bound some
 
+-- the state no draws behind one is that one
 pub behind-none : (state : ℕ) → behind state 0 ≡ state
 unfolding behind
 behind-none state = refl
 
+-- one draw more leads to the next state
 pub behind-more : (state n : ℕ) → behind state (suc n) ≡ turned (behind state n)
 unfolding behind
 behind-more state n = refl
@@ -22,6 +25,7 @@ unfolding behind
 behind-behind state m zero = let e : m ≡ m + 0 = omega arith in ap (behind state) e
 behind-behind state m (suc n) = let e : suc (m + n) ≡ m + suc n = omega arith in ap turned (behind-behind state m n) ∙ ap (behind state) e
 
+-- the n-th draw from the state behind m draws on is the one of number m + n
 pub drawn-behind : (state m n bound : ℕ) → drawn (behind state m) n bound ≡ drawn state (m + n) bound
 unfolding drawn
 drawn-behind state m n bound = ap (λ (s : ℕ). s / 2 ^ 16 % bound) (behind-behind state m n)
@@ -39,6 +43,7 @@ pub record IsOwn (lots : List ℕ) : Type 0 where
   pub few_c : c ≤ 7
   pub few_e : e ≤ 4
 
+-- a package drawn within the counts of one of the first rounds is such a package
 pub IsOwn-drawn : (state a b c e : ℕ) → 1 ≤ a → a ≤ 2 → b ≤ 1 → c ≤ 7 → e ≤ 4 → IsOwn (drawn_package state (a ∷ b ∷ c ∷ e ∷ []))
 IsOwn-drawn state a b c e some few_a few_b few_c few_e = record {
   a = suc (drawn state 1 a);
@@ -53,6 +58,7 @@ IsOwn-drawn state a b c e some few_a few_b few_c few_e = record {
   few_e = omega (arith, drawn-below state 4 (suc e) (omega arith));
 }
 
+-- the package that a bidder has in the first rounds is one
 pub IsOwn-package_of : (number k : ℕ) → IsOwn (package_of number k)
 unfolding package_of
 IsOwn-package_of number k = IsOwn-drawn _ 2 1 7 4 (omega arith) (omega arith) (omega arith) (omega arith) (omega arith)
@@ -62,12 +68,15 @@ IsOwn-package_of number k = IsOwn-drawn _ 2 1 7 4 (omega arith) (omega arith) (o
 abbrev pub IsNext : ℕ → ℕ → Type 0
 IsNext state next = next ≡ behind state 1
 
+-- the state next to the one behind n draws is the one behind n + 1
 pub next-next : (state first next n : ℕ) → first ≡ behind state n → IsNext first next → next ≡ behind state (n + 1)
 next-next state first next n is then = then ∙ ap (λ (s : ℕ). behind s 1) is ∙ behind-behind state n 1
 
+-- the first draw from the state behind n draws on is the one of number n + 1
 pub drawn-next : (state first n x bound : ℕ) → first ≡ behind state n → x ≡ drawn first 1 bound → x ≡ drawn state (n + 1) bound
 drawn-next state first n x bound is drew = drew ∙ ap (λ (s : ℕ). drawn s 1 bound) is ∙ drawn-behind state n 1 bound
 
+-- four states on, each next to the one before, is the state behind four draws
 pub four-states : (s0 s1 s2 s3 s4 : ℕ) → IsNext s0 s1 → IsNext s1 s2 → IsNext s2 s3 → IsNext s3 s4 → s4 ≡ behind s0 4
 four-states s0 s1 s2 s3 s4 a b c d = next-next s0 s3 s4 3 (next-next s0 s2 s3 2 (next-next s0 s1 s2 1 a b) c) d
 

@@ -119,6 +119,7 @@ few-in number st c is allowed =
     let within : is_within (packages_after m 0 c) (4 ∷ 1 ∷ 14 ∷ 9 ∷ []) ≡ true = subst (λ (t : _). is_within (packages_after m 0 c) t.supply ≡ true) is.terms both.1 in
     omega (arith, count m 0 c (book-lots number st is) both.0, head-within (packages_after m 0 c) (1 ∷ 14 ∷ 9 ∷ []) 4 within)
 
+-- an allowed choice of the book of the made log has at most four winners
 pub few-win : (number : ℕ) (c : List ℕ) → IsTrue ((market_of (book_of_log made_terms (reverse (made_log number)))).allowed c) → winners_in c ≤ 4
 few-win number c allowed =
     let same : book_of_log made_terms (reverse (made_log number)) ≡ book_in (end_state number) =

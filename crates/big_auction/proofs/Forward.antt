@@ -21,10 +21,12 @@ abbrev pub AllPass : DeskState → List Event → Type 0
 AllPass st [] = Unit {0}
 AllPass st (e ∷ es) = (reply_in st e ≡ Ok) × AllPass (taken st e) es
 
+-- the state behind lines and more lines is the one behind the latter from that behind the former
 pub after-append : (st : DeskState) (xs ys : List Event) → after st (xs ++ ys) ≡ after (after st xs) ys
 after-append st [] ys = refl
 after-append st (e ∷ xs) ys = after-append (taken st e) xs ys
 
+-- lines and more lines are answered Ok, where the latter are from the state behind the former
 pub AllPass-append : (st : DeskState) (xs ys : List Event) → AllPass st xs → AllPass (after st xs) ys → AllPass st (xs ++ ys)
 AllPass-append st [] ys pass more = more
 AllPass-append st (e ∷ xs) ys pass more = (pass.0, AllPass-append (taken st e) xs ys pass.1 more)
@@ -34,11 +36,13 @@ pub record Goes (st : DeskState) (es : List Event) (To : DeskState → Type 0) :
   pub pass : AllPass st es
   pub to : To (after st es)
 
+-- lines that lead to a kind of state, and lines that lead on from each such state, do so one behind the other
 pub goes-on : (st : DeskState) (xs ys : List Event) (Via To : DeskState → Type 0) → Goes st xs Via → ((s : DeskState) → Via s → Goes s ys To) → Goes st (xs ++ ys) To
 goes-on st xs ys Via To first next =
     let then : Goes (after st xs) ys To = next (after st xs) first.to in
     record { pass = AllPass-append st xs ys first.pass then.pass; to = subst To (sym (after-append st xs ys)) then.to }
 
+-- a line that is answered Ok leads to the state that has taken it
 pub goes-one : (st : DeskState) (e : Event) (To : DeskState → Type 0) → reply_in st e ≡ Ok → To (taken st e) → Goes st (e ∷ []) To
 goes-one st e To ok to = record { pass = (ok, tt); to = to }
 

@@ -12,9 +12,11 @@ use Rattle.big_auction.specs.Parts.{counts_of, bids_for}
 use Rattle.big_auction.proofs.Asking.{package_at, package-is}
 use Rattle.big_auction.proofs.Drawing.{behind-none, behind-behind, drawn-next}
 
+-- the text of lines and more lines is both their texts
 pub log_text-append : (xs ys : List Event) → log_text (xs ++ ys) ≡ log_text xs ++ log_text ys
 log_text-append xs ys = flat_map-append event_text xs ys
 
+-- the text of lines and one more is theirs and that of the one
 pub log_text-more : (xs : List Event) (e : Event) → log_text (xs ++ e ∷ []) ≡ log_text xs ++ event_text e
 log_text-more xs e = flat_map-append event_text xs (e ∷ []) ∙ ap (λ (t : List ℕ). log_text xs ++ t) (append-nil (event_text e))
 
@@ -28,11 +30,13 @@ pub added-more : (old now new : List ℕ) (xs ys : List Event) → now ≡ old +
 added-more old now new xs ys was is =
     is ∙ ap (λ (t : List ℕ). t ++ log_text ys) was ∙ append_assoc old (log_text xs) (log_text ys) ∙ ap (λ (t : List ℕ). old ++ t) (sym (log_text-append xs ys))
 
+-- no lines add nothing to a text
 pub added-none : (text : List ℕ) → text ≡ text ++ log_text []
 added-none text = sym (append-nil text)
 
 -- ---- clock bids
 
+-- the clock bid of one bidder more
 pub bids-more : (xs : List Lots) (i : ℕ) (p : Lots) (old now new : List ℕ) → i < length xs → p ≡ get_or xs i p → now ≡ old ++ log_text (bids_for (map counts_of xs) i)
     → new ≡ now ++ event_text (Bid (i + 1) (counts_of p)) → new ≡ old ++ log_text (bids_for (map counts_of xs) (i + 1))
 bids-more xs i p old now new low is was added_one =
@@ -44,6 +48,7 @@ bids-more xs i p old now new low is was added_one =
 
 -- ---- drafts
 
+-- a draft with a package of four draws and an amount by the fifth is the drawn one
 pub draft-same : (s s4 k : ℕ) (prices own final lots : List ℕ) (d a : ℕ) → s4 ≡ behind s 4 → lots ≡ drawn_package s own → d ≡ drawn s4 1 501 → a ≡ amount_of prices own final lots (500 + d)
     → Draft k lots a ≡ drawn_draft s prices k own final
 draft-same s s4 k prices own final lots d a fourth are drew is =
@@ -51,10 +56,12 @@ draft-same s s4 k prices own final lots d a fourth are drew is =
     ap (Draft k lots) (is ∙ ap (λ (d : ℕ). amount_of prices own final lots (500 + d)) fifth)
     ∙ ap (λ (lots : List ℕ). Draft k lots (amount_of prices own final lots (500 + drawn s 5 501))) are
 
+-- before the first draft there are none
 pub no-drafts : (s k : ℕ) (prices own final : List ℕ) → drawn_drafts s prices k own final 0 ≡ []
 unfolding drawn_drafts
 no-drafts s k prices own final = refl
 
+-- one draft more is drawn from the state behind five draws for each before it
 pub drafts-more : (s k i : ℕ) (prices own final : List ℕ) → drawn_drafts s prices k own final (i + 1) ≡ drawn_drafts s prices k own final i ++ drawn_draft (behind s (5 * i)) prices k own final ∷ []
 unfolding drawn_drafts
 drafts-more s k i prices own final =
@@ -67,12 +74,14 @@ pub record IsDrafted (s k : ℕ) (prices own final : List ℕ) (i state : ℕ) (
   pub text : now ≡ old ++ log_text (drawn_drafts s prices k own final i)
   pub drew : state ≡ behind s (5 * i)
 
+-- before the first draft nothing was added, and nothing drawn
 pub drafted-none : (s k : ℕ) (prices own final old : List ℕ) → IsDrafted s k prices own final 0 s old old
 drafted-none s k prices own final old = record {
   text = added-none old ∙ ap (λ (es : List Event). old ++ log_text es) (sym (no-drafts s k prices own final));
   drew = sym (behind-none s);
 }
 
+-- one draft more was added, and five draws more
 pub drafted-more : (s k : ℕ) (prices own final : List ℕ) (i state next : ℕ) (old now new : List ℕ) → IsDrafted s k prices own final i state old now
     → new ≡ now ++ event_text (drawn_draft state prices k own final) → next ≡ behind state 5 → IsDrafted s k prices own final (i + 1) next old new
 drafted-more s k prices own final i state next old now new d is after =
@@ -92,5 +101,6 @@ lines-added s k state prices own final old now last new d one end =
     added-more old now new (drawn_drafts s prices k own final 100) (last_draft (behind s 500) prices k final ++ Submit k ∷ []) d.text
     (added now last new (last_draft (behind s 500) prices k final) (Submit k) more end)
 
+-- so many draws behind a bidder's 100 drafts are 500 more from where they began
 pub state-behind : (s k state next more : ℕ) (prices own final old now : List ℕ) → IsDrafted s k prices own final 100 state old now → next ≡ behind state more → next ≡ behind s (500 + more)
 state-behind s k state next more prices own final old now d after = after ∙ ap (λ (x : ℕ). behind x more) d.drew ∙ behind-behind s 500 more

@@ -35,23 +35,29 @@ goes-flat f (suc n) st At start step =
 
 -- ---- what is held
 
+-- up to round 9 a bidder holds its own package
 pub held-early : (number r k : ℕ) → r ≤ 9 → held_by number r k ≡ package_of number k
 held-early number r k few = cond-true (nat_le r 9) (package_of number k) (final_package_of number k) (le-leb r 9 few)
 
+-- behind round 9 it holds its last one
 pub held-last : (number r k : ℕ) → 9 < r → held_by number r k ≡ final_package_of number k
 held-last number r k more = cond-false (nat_le r 9) (package_of number k) (final_package_of number k) (lt-leb r 9 more)
 
+-- the last package of the bidders 1 to 4 is their own, reduced
 pub stays : (number k : ℕ) → k ≤ 4 → final_package_of number k ≡ reduced (package_of number k)
 stays number k few = cond-true (nat_le k 4) (reduced (package_of number k)) (no_lots made_terms) (le-leb k 4 few)
 
+-- that of the others has no lots
 pub leaves : (number k : ℕ) → 4 < k → final_package_of number k ≡ no_lots made_terms
 leaves number k more = cond-false (nat_le k 4) (reduced (package_of number k)) (no_lots made_terms) (lt-leb k 4 more)
 
+-- the bidders 1 to 12 of the made award are the made ones
 pub is-entrant : (k : ℕ) → 1 ≤ k → k ≤ 12 → entrant made_terms k ≡ made_entrant k
 is-entrant k some few =
     let e : suc (k - 1) ≡ k = omega arith in
     get_or-listing made_entrant 12 (k - 1) (record { name = []; eligibility = 0; holding = [] }) (omega arith) ∙ ap made_entrant e
 
+-- the bidders 1 to 12 are known, with an eligibility of 73
 pub known : (k : ℕ) → 1 ≤ k → k ≤ 12 → IsKnown k
 known k some few = record {
   known = rw (lt-ltb 0 k (omega arith), le-leb k 12 few) refl;
@@ -66,6 +72,7 @@ no_points = refl
 no_lots-within : is_within (no_lots made_terms) made_terms.supply ≡ true
 no_lots-within = refl
 
+-- a bidder's last package is within the supply
 pub final-within : (number k : ℕ) → is_within (final_package_of number k) made_terms.supply ≡ true
 final-within number k =
     elim (cases_lt 4 k) [
@@ -73,6 +80,7 @@ final-within number k =
       | inr few ↦ rw (stays number k few) (own-within (reduced (package_of number k)) (reduced-own (package_of number k) (IsOwn-package_of number k)))
     ]
 
+-- and it has no more points than the bidder's own
 pub final-points : (number k : ℕ) → cost_of made_terms.points (final_package_of number k) ≤ cost_of made_terms.points (package_of number k)
 final-points number k =
     elim (cases_lt 4 k) [
@@ -105,6 +113,7 @@ may-last number n is k some few =
 
 -- ---- what is asked for
 
+-- two packages together have as many lots of the first category as both of them
 pub head-together : (p q : List ℕ) → slice_index (together p q) 0 ≡ slice_index p 0 + slice_index q 0
 head-together [] q = omega arith
 head-together (a ∷ p) [] = omega arith
@@ -133,6 +142,7 @@ within-last number =
 
 -- ---- the clock
 
+-- before the first line the first round is posted
 pub starts : (number : ℕ) → state_of made_terms [] ≡ posted (held_by number) 0
 unfolding state_of posted
 starts number = refl
@@ -173,10 +183,12 @@ pub own-rounds : (held : ℕ → ℕ → List ℕ) (k n : ℕ) → map (own_of k
 unfolding rounds_to
 own-rounds held k n = map-append (own_of k) (listing (round_of made_terms held) n) (round_of made_terms held (suc n) ∷ [])
 
+-- what each of the rounds keeps, and one more, each keeps with it behind them
 pub each-push : (P : OwnRound → Type 0) (xs : List OwnRound) (x : OwnRound) → AllByRecursion P xs → P x → AllByRecursion P (xs ++ x ∷ [])
 each-push P [] x each last = (last, tt)
 each-push P (y ∷ xs) x each last = (each.0, each-push P xs x each.1 last)
 
+-- before the first close a bidder has no rounds
 pub none-yet : (held : ℕ → ℕ → List ℕ) (k : ℕ) → map (own_of k) (rounds_to held 0) ≡ []
 unfolding rounds_to
 none-yet held k = refl
@@ -224,6 +236,7 @@ bidding-by number k n some few is =
       stays = λ stay. stays number k (leb-true k 4 stay);
     }
 
+-- behind the ten rounds each bidder has what its lines of the sealed round need
 pub bidding : (number k : ℕ) → 1 ≤ k → k ≤ 12 → IsBidding (map (own_of k) (rounds_to (held_by number) 10)) (final_prices number) (package_of number k) (final_package_of number k) k
 unfolding final_prices
 bidding number k some few = bidding-by number k 9 some few refl

@@ -42,6 +42,7 @@ pub record ArePacked (s i state : ℕ) (items : List Lots) : Type 0 where
   pub some : AllByRecursion (λ p. 0 < p.a) items
   pub drew : state ≡ behind s (4 * i)
 
+-- before the first package none was drawn
 pub packed-none : (s : ℕ) (items : List Lots) → items ≡ [] → ArePacked s 0 s items
 packed-none s items none = subst (ArePacked s 0 s) (sym none) (record { are = refl; some = tt; drew = sym (behind-none s) })
 
@@ -49,6 +50,7 @@ each-push : (P : Lots → Type 0) (xs : List Lots) (x : Lots) → AllByRecursion
 each-push P [] x each last = (last, tt)
 each-push P (y ∷ xs) x each last = (each.0, each-push P xs x each.1 last)
 
+-- one package more, of the next four draws
 pub packed-more : (s i state next : ℕ) (items more : List Lots) (p : Lots) → ArePacked s i state items → counts_of p ≡ drawn_package state widest → next ≡ behind state 4 → more ≡ items ++ p ∷ []
     → ArePacked s (i + 1) next more
 packed-more s i state next items more p so_far is after pushed =
@@ -71,11 +73,13 @@ packed-all s i state items is packed = subst (λ (n : ℕ). ArePacked s n state 
 
 -- ---- the clock
 
+-- one more of the first rounds: the bids of all twelve and a close
 pub rounds-more : (packages : List (List ℕ)) (i : ℕ) (old now mid new : List ℕ) → now ≡ old ++ log_text (full_rounds_for packages i)
     → mid ≡ now ++ log_text (bids_for packages 12) → new ≡ mid ++ event_text Close → new ≡ old ++ log_text (full_rounds_for packages (i + 1))
 rounds-more packages i old now mid new was bids close =
     flat-added (λ r. full_round_for packages) i old now new was (added now mid new (bids_for packages 12) Close bids close)
 
+-- one bid more of the last round
 pub last-more : (xs : List Lots) (i : ℕ) (p : Lots) (lots old now new : List ℕ) → i < length xs → p ≡ get_or xs i p → lots ≡ last_of (i + 1) (counts_of p)
     → now ≡ old ++ log_text (last_bids_for (map counts_of xs) i) → new ≡ now ++ event_text (Bid (i + 1) lots) → new ≡ old ++ log_text (last_bids_for (map counts_of xs) (i + 1))
 last-more xs i p lots old now new low is last was added_one =
@@ -120,6 +124,7 @@ pub record IsSealed (s : ℕ) (prices : List ℕ) (packages : List (List ℕ)) (
   pub text : now ≡ old ++ log_text (sealed_for s prices packages i)
   pub drew : state ≡ behind s (500 * i + min 4 i)
 
+-- before the first bidder's lines nothing was added, and nothing drawn
 pub sealed-none : (s : ℕ) (prices : List ℕ) (packages : List (List ℕ)) (old : List ℕ) → IsSealed s prices packages 0 s old old
 sealed-none s prices packages old = record { text = sym (append-nil old); drew = sym (behind-none s) }
 
@@ -130,6 +135,7 @@ staying-more i =
       | inr high ↦ rw (lt-leb (i + 1) 4 (omega arith)) (omega arith)
     ]
 
+-- the lines of one bidder more, with 500 draws, and one more where it stays
 pub sealed-more : (s : ℕ) (prices : List ℕ) (xs : List Lots) (i state next : ℕ) (p : Lots) (last old now new : List ℕ) → i < length xs → p ≡ get_or xs i p
     → last ≡ last_of (i + 1) (counts_of p) → IsSealed s prices (map counts_of xs) i state old now
     → new ≡ now ++ log_text (lines_from state prices (i + 1) (counts_of p) last) → next ≡ behind state (500 + (if nat_le (i + 1) 4 then 1 else 0))
@@ -221,6 +227,7 @@ sealed-length number (suc n) =
     elim (cases_lt n 4) [ inl low ↦ rw (le-leb (suc n) 4 (omega arith)) (omega arith) | inr high ↦ rw (lt-leb (suc n) 4 (omega arith)) (omega arith) ] in
     omega (arith, split, length-append (flat_map (lines_of number) (listing (λ k. k) n)) (lines_of number (suc n)), one, sealed-length number n, more)
 
+-- the made log has 1339 lines
 pub log-length : (number : ℕ) → 1339 ≡ length (made_log number)
 unfolding made_log
 log-length number =

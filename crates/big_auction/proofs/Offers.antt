@@ -22,21 +22,26 @@ use Rattle.big_auction.proofs.SealedRound.{IsKnown, HasRounds, IsDue, Between, W
 
 -- ---- packages
 
+-- a package of the first rounds is within the supply
 pub own-within : (lots : List ℕ) → IsOwn lots → is_within lots made_terms.supply ≡ true
 own-within lots own = rw (own.are, le-leb own.a 4 (omega (arith, own.few_a)), le-leb own.b 1 own.few_b, le-leb own.c 14 (omega (arith, own.few_c)), le-leb own.e 9 (omega (arith, own.few_e))) refl
 
+-- it has at most 41 points
 pub own-points : (lots : List ℕ) → IsOwn lots → cost_of made_terms.points lots ≤ 41
 own-points lots own = rw own.are (omega (arith, own.few_a, own.few_b, own.few_c, own.few_e))
 
+-- it isn't empty
 pub own-some : (lots : List ℕ) → IsOwn lots → is_empty lots ≡ false
 own-some lots own = rw (own.are, ne_eqb own.a 0 (λ none. absurd (omega (arith, own.some, none)))) refl
 
+-- it has a lot of the first category
 pub own-lot : (lots : List ℕ) → IsOwn lots → 1 ≤ slice_index lots 0
 own-lot lots own = rw own.are own.some
 
 own-sum : (lots : List ℕ) → IsOwn lots → sum lots ≤ 14
 own-sum lots own = rw own.are (omega (arith, own.few_a, own.few_b, own.few_c, own.few_e))
 
+-- and what is drawn within it is such a package
 pub drawn-own : (state : ℕ) (own : List ℕ) → IsOwn own → IsOwn (drawn_package state own)
 drawn-own state own is =
     subst (λ (p : List ℕ). IsOwn (drawn_package state p)) (sym is.are) (IsOwn-drawn state is.a is.b is.c is.e is.some is.few_a is.few_b is.few_c is.few_e)
@@ -49,7 +54,7 @@ drawn-points : (state : ℕ) (own : List ℕ) → IsOwn own → cost_of made_ter
 drawn-points state own is =
     subst (λ (p : List ℕ). cost_of made_terms.points (drawn_package state p) ≤ cost_of made_terms.points p) (sym is.are) (points-within state is.a is.b is.c is.e is.some)
 
--- what a bidder that stays asks for at last is within its own package, and one of this kind
+-- what a bidder that stays asks for at last is of the same kind as its own package
 pub reduced-own : (own : List ℕ) → IsOwn own → IsOwn (reduced own)
 reduced-own own is = record {
   a = 1;
@@ -67,6 +72,7 @@ reduced-own own is = record {
 points-reduced : (a b c e : ℕ) → 1 ≤ a → cost_of made_terms.points (reduced (a ∷ b ∷ c ∷ e ∷ [])) ≤ cost_of made_terms.points (a ∷ b ∷ c ∷ e ∷ [])
 points-reduced a b c e some = omega arith
 
+-- and it has no more points than that package
 pub reduced-points : (own : List ℕ) → IsOwn own → cost_of made_terms.points (reduced own) ≤ cost_of made_terms.points own
 reduced-points own is =
     subst (λ (p : List ℕ). cost_of made_terms.points (reduced p) ≤ cost_of made_terms.points p) (sym is.are) (points-reduced is.a is.b is.c is.e is.some)
@@ -200,6 +206,7 @@ last-goes rounds prices eligibility held state q own final k n s few known biddi
       | inr go ↦ rw go (submit-goes rounds prices eligibility held (last_with q own final) k n s known bidding.last within)
     ]
 
+-- all lines of a bidder in the sealed round are answered Ok, behind those of the bidder before it
 pub part-goes : (rounds : List Round) (prices eligibility : List ℕ) (held : List (List ℕ)) (state : ℕ) (q own final : List ℕ) (k : ℕ) (s : DeskState) → IsKnown k
     → IsBidding (map (own_of k) rounds) q own final k → Between rounds prices eligibility held (k - 1) s
     → Goes s (lines_from state q k own final) (Between rounds prices eligibility held k)

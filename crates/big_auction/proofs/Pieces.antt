@@ -8,12 +8,15 @@ use Rattle.auction_rules.specs.Rounds.{listing}
 use Rattle.big_auction.specs.AwardText.{entrant_text, name_line, number_line, table_line}
 use Rattle.big_auction.specs.MadeAward.{made_entrant, made_name}
 
+-- a text with one piece behind it, and then another, has both behind it
 pub two : (t0 t1 t2 a b : List ℕ) → t1 ≡ t0 ++ a → t2 ≡ t1 ++ b → t2 ≡ t0 ++ (a ++ b)
 two t0 t1 t2 a b one more = more ∙ ap (λ (t : List ℕ). t ++ b) one ∙ append_assoc t0 a b
 
+-- so it is with three pieces
 pub three : (t0 t1 t2 t3 a b c : List ℕ) → t1 ≡ t0 ++ a → t2 ≡ t1 ++ b → t3 ≡ t2 ++ c → t3 ≡ t0 ++ (a ++ (b ++ c))
 three t0 t1 t2 t3 a b c one more last = two t0 t1 t3 a (b ++ c) one (two t1 t2 t3 b c more last)
 
+-- and with four
 pub four : (t0 t1 t2 t3 t4 a b c d : List ℕ) → t1 ≡ t0 ++ a → t2 ≡ t1 ++ b → t3 ≡ t2 ++ c → t4 ≡ t3 ++ d → t4 ≡ t0 ++ (a ++ (b ++ (c ++ d)))
 four t0 t1 t2 t3 t4 a b c d one more next last = two t0 t1 t4 a (b ++ (c ++ d)) one (three t1 t2 t3 t4 b c d more next last)
 
@@ -21,9 +24,11 @@ four t0 t1 t2 t3 t4 a b c d one more next last = two t0 t1 t4 a (b ++ (c ++ d)) 
 pub first-two : (t0 t1 t2 a b c : List ℕ) → t1 ≡ t0 ++ (a ++ b) → t2 ≡ t1 ++ c → t2 ≡ t0 ++ (a ++ (b ++ c))
 first-two t0 t1 t2 a b c one more = two t0 t1 t2 (a ++ b) c one more ∙ ap (λ (t : List ℕ). t0 ++ t) (append_assoc a b c)
 
+-- five pieces, of which the first two came as one
 pub category : (t0 t1 t2 t3 t4 a b c d e : List ℕ) → t1 ≡ t0 ++ (a ++ b) → t2 ≡ t1 ++ c → t3 ≡ t2 ++ d → t4 ≡ t3 ++ e → t4 ≡ t0 ++ (a ++ (b ++ (c ++ (d ++ e))))
 category t0 t1 t2 t3 t4 a b c d e one more next last = first-two t0 t1 t4 a b (c ++ (d ++ e)) one (three t1 t2 t3 t4 c d e more next last)
 
+-- four pieces, with nothing behind the last
 pub categories : (t0 t1 t2 t3 t4 a b c d : List ℕ) → t1 ≡ t0 ++ a → t2 ≡ t1 ++ b → t3 ≡ t2 ++ c → t4 ≡ t3 ++ d → t4 ≡ t0 ++ (a ++ (b ++ (c ++ (d ++ []))))
 categories t0 t1 t2 t3 t4 a b c d one more next last =
     four t0 t1 t2 t3 t4 a b c d one more next last ∙ ap (λ (t : List ℕ). t0 ++ (a ++ (b ++ (c ++ t)))) (sym (append-nil d))

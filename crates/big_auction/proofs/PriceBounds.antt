@@ -58,6 +58,7 @@ raised-between most (p ∷ prices) (n ∷ d) (s ∷ supply) are =
       | inr over ↦ rw over (stepped-between most p (n - s) are.0, raised-between most prices d supply are.1)
     ]
 
+-- after n rounds each price is at least 1 and at most 1500 times 2^n
 pub prices-between : (held : ℕ → ℕ → List ℕ) (n : ℕ) → AllByRecursion (IsBetween (1500 * 2 ^ n)) (prices_after made_terms held n)
 prices-between held zero = (record { some = omega arith; top = omega arith }, (record { some = omega arith; top = omega arith }, (record { some = omega arith; top = omega arith }, (record { some = omega arith; top = omega arith }, tt))))
 prices-between held (suc n) =
@@ -73,9 +74,11 @@ all-below : (most top : ℕ) (prices : List ℕ) → most ≤ top → AllByRecur
 all-below most top [] low are = tt
 all-below most top (p ∷ prices) low are = (record { some = are.0.some; top = omega (arith, are.0.top) }, all-below most top prices low are.1)
 
+-- after at most nine rounds each price is at least 1 and at most 768,000
 pub prices-small : (held : ℕ → ℕ → List ℕ) (n : ℕ) → n ≤ 9 → AllByRecursion (IsBetween 768000) (prices_after made_terms held n)
 prices-small held n few = all-below (1500 * 2 ^ n) 768000 (prices_after made_terms held n) (small_power n few) (prices-between held n)
 
+-- prices of at most 768,000 don't exceed the limit of prices
 pub no_price_top : (category : ℕ) (prices : List ℕ) → AllByRecursion (IsBetween 768000) prices → price_top category prices ≡ None
 no_price_top category [] are = refl
 no_price_top category (p ∷ prices) are =
@@ -91,6 +94,7 @@ cost-rises held m (suc n) lots =
     = omega (arith, cost-rises held m n lots, prices_after-rises made_terms held (n + m) lots) in
     subst (λ (k : ℕ). cost_of (prices_after made_terms held m) lots ≤ cost_of (prices_after made_terms held k) lots) e low
 
+-- at such prices a package costs at most 768,000 for each of its lots
 pub cost-small : (prices lots : List ℕ) → AllByRecursion (IsBetween 768000) prices → cost_of prices lots ≤ 768000 * sum lots
 cost-small [] lots are = omega arith
 cost-small (p ∷ prices) [] are = omega arith

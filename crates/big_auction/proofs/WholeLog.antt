@@ -78,15 +78,19 @@ end_state number = after (state_of made_terms []) (made_log number)
 log-stands : (number : ℕ) → Stands made_terms (reverse (made_log number)) (end_state number)
 log-stands number = stands-all made_terms (made_log number) (IsEnd number) (log-goes number)
 
+-- all lines of the made log are answered Ok
 pub log-answered : (number : ℕ) → AreAnsweredOk made_terms (reverse (made_log number))
 log-answered number = (log-stands number).answered
 
+-- the made log is complete
 pub log-complete : (number : ℕ) → is_complete made_terms (reverse (made_log number)) ≡ true
 log-complete number =
     ap (λ (s : DeskState). is_closed s.stage) (log-stands number).state ∙ ap is_closed (log-goes number).to.closed
 
+-- its state is the one that its lines lead to, taken one by one
 pub log-state : (number : ℕ) → state_of made_terms (reverse (made_log number)) ≡ end_state number
 log-state number = (log-stands number).state
 
+-- in that state the auction is closed after ten rounds, and each submitted bid has a lot of the first category
 pub end-of-log : (number : ℕ) → IsEnd number (end_state number)
 end-of-log number = (log-goes number).to

@@ -23,6 +23,7 @@ three P x y w (suc zero ∷ suc b ∷ []) t = absurd (omega (arith, leb-true (su
 three P x y w (suc (suc a) ∷ b ∷ []) t = absurd (omega (arith, leb-true (suc (suc a) + b) 1 t))
 three P x y w (a ∷ b ∷ e ∷ c) t = absurd (false≢true t)
 
+-- the market of the tests is a lawful one
 pub lawful : IsMarket one_of_two
 lawful = record {
   few = omega arith;
@@ -52,6 +53,7 @@ lawful = record {
         by true = omega (arith, ints)
         by false = omega (arith, ints)
 
+-- its winning choice gives the first bidder its bid
 pub winning : IsWinning one_of_two first_wins
 winning = record {
   passed = refl;
@@ -76,8 +78,10 @@ module _ (den : ℤ) (surplus : List ℤ) (positive : pos 1 ≤ℤ den) (loser :
     first = three _ (λ e. omega (arith, ints, clamps)) (λ e. absurd (false≢true e)) (λ e. absurd (false≢true e));
   }
 
+  -- the lowered sum of the winning choice is den times 5, less the surplus of the first
   pub sum-stays : sum_after (lowered den worth_of surplus) 0 (1 ∷ 0 ∷ []) ≡ den *ℤ pos 5 -ℤ of_bidder surplus 1
   sum-stays = omega (arith, ints, clamps)
 
+  -- the lowered sum of the choice in which the loser wins is den times 3
   pub sum-yields : (den *ℤ pos 2) <ℤ of_bidder surplus 1 → sum_after (lowered den worth_of surplus) 0 (0 ∷ 1 ∷ []) ≡ den *ℤ pos 3
   sum-yields great = omega (arith, ints, clamps)

@@ -11,9 +11,11 @@ use Rattle.row_laws.proofs.Sizes.{won-range, paid-most}
 use Rattle.blocking.specs.Look.{CanLook}
 use Rattle.blocking.proofs.Parts.{part-range, more-bidders}
 
+-- den times what a bidder wins is from 0 to below 2^120
 pub low-at : (m : Market) (z : List ℕ) (den : ℤ) (at : List ℤ) → IsMarket m → IsWinning m z → CanLook m z den at → (k : ℕ) → k < length at → (pos 0 ≤ℤ (den *ℤ worth_in m z (k + 1))) × ((den *ℤ worth_in m z (k + 1)) <ℤ pos (2 ^ 120))
 low-at m z den at lawful win c k lt = won-range m lawful z win.passed den _ c.lowered.den_positive c.lowered.range (k + 1) (omega arith) (omega (arith, c.asks.bidders))
 
+-- each payment is from 0 to below 2^120
 pub paid-at : (m : Market) (z : List ℕ) (den : ℤ) (at : List ℤ) → CanLook m z den at → (k : ℕ) → k < length at → (pos 0 ≤ℤ get_or at k (pos 0)) × (get_or at k (pos 0) <ℤ pos (2 ^ 120))
 paid-at m z den at c k lt =
     let e : suc k - 1 ≡ k = omega arith in

@@ -27,9 +27,11 @@ module _ (m : Market) (lawful : IsMarket m) (z : List ℕ) (win : IsWinning m z)
   own : IsPaid m z (record { den = den; at = at }) (surpluses_of m z den at)
   own = surpluses-are m z (record { den = den; at = at }) c.asks
 
+  -- where the greatest lowered sum isn't above all payments, nothing blocks the point
   pub look-free : sum ≤ℤ paid m (record { den = den; at = at }) → IsUnblocked m z (record { den = den; at = at })
   look-free le = let is = found.sum in free-unblocked m lawful z (record { den = den; at = at }) (surpluses_of m z den at) own f found.first (omega (arith, ints))
 
+  -- where it is above them, something does
   pub look-blocks : paid m (record { den = den; at = at }) <ℤ sum → ¬ IsUnblocked m z (record { den = den; at = at })
   look-blocks lt free = let is = found.sum in let h = unblocked-free m lawful z (record { den = den; at = at }) (surpluses_of m z den at) own f found.first free in absurd (omega (arith, ints))
 
@@ -41,6 +43,7 @@ module _ (m : Market) (lawful : IsMarket m) (z : List ℕ) (win : IsWinning m z)
       let b = excess-bound m z (record { den = den; at = at }) (idle_row m z (record { den = den; at = at }) f) f in
       omega (arith, ints)
 
+  -- the greatest lowered sum isn't below all payments
   pub look-below : paid m (record { den = den; at = at }) ≤ℤ sum
   look-below = let is = found.sum in let h = not-below m lawful z (record { den = den; at = at }) (surpluses_of m z den at) own f found.first win in omega (arith, ints)
 
@@ -72,6 +75,7 @@ module _ (m : Market) (lawful : IsMarket m) (z : List ℕ) (win : IsWinning m z)
       absurd (omega (arith, ints))
   some-member above (suc n) e = omega arith
 
+  -- the choice with its idle row, the bound of that row and an excess above 0 is a block of the turn
   pub look-block : (b : Block) → b.row.members ≡ bits_after z (idle_row m z (record { den = den; at = at }) f) 0 → b.row.bound ≡ row_bound m z (idle_row m z (record { den = den; at = at }) f) f
       → b.choice ≡ f → b.excess ≡ sum -ℤ paid m (record { den = den; at = at }) → pos 0 <ℤ b.excess → IsBlock m z den at b
   look-block b bits bound choice excess above =

@@ -62,6 +62,7 @@ module _ (book : Book) (z : List ℕ) (whole : TableValue) (alone : VickreyValue
   lawful : IsMarket (market_of book)
   lawful = market-of_book book (omega (arith, kept.bidders)) kept.not_negative
 
+  -- the choice has a number for each bidder
   pub long : length z ≡ bidders_of book
   long = winning-count book z found.winning
 
@@ -75,6 +76,7 @@ module _ (book : Book) (z : List ℕ) (whole : TableValue) (alone : VickreyValue
   table : IsExactTable (menu_of book) (net_of book) book.supply whole.lines
   table = table_of-all book whole found.table found.plain
 
+  -- there is a table for each winner alone
   pub count : length alone.tables ≡ length alone.singles
   count = found.tables.count ∙ ap (λ (l : List ℕ). length l) (sym found.singles.winners) ∙ mapped-length alone.singles
 
@@ -193,6 +195,7 @@ module _ (book : Book) (z : List ℕ) (whole : TableValue) (alone : VickreyValue
         lowered = shape_of-all book priced.last.table found.lowered.exact;
       }
 
+  -- the table of all bids is as wide as there are states
   pub width : width_of whole.lines ≡ states book
   width = width-is book (menu_of book) (net_of book) whole.lines table
 
@@ -206,11 +209,14 @@ module _ (book : Book) (z : List ℕ) (whole : TableValue) (alone : VickreyValue
   module _ (den value : ℤ) (table : List (List ℤ)) (withouts : List WithoutPart) (pay : List ℤ) (rows : List CertRow) (lowered_lines : List (List ℤ))
       (den_is : den ≡ priced.den) (value_is : value ≡ value_of (market_of book) z) (table_is : table ≡ whole.lines) (withouts_are : map without_value withouts ≡ parts_from alone.singles alone.tables)
       (pay_is : pay ≡ for_bidders z priced.at) (rows_are : map row_value rows ≡ map (row_from z) priced.rows) (lowered_is : lowered_lines ≡ priced.last.table.lines) where
+    -- together they are the certificate of what was found
     pub made_is : cert_from den value z table withouts pay rows lowered_lines ≡ cert_found book z whole alone priced
     made_is = λ t. record { den = den_is t; value = value_is t; choice = z; table = table_is t; withouts = withouts_are t; pay = pay_is t; rows = rows_are t; lowered = lowered_is t }
 
+    -- the head's table is as wide as there are states
     pub made_width : width_of table ≡ states book
     made_width = ap width_of table_is ∙ width
 
+    -- together they have the shape that a certificate keeps
     pub made_shape : IsCertificate (length z) (width_of table) (cert_from den value z table withouts pay rows lowered_lines)
     made_shape = rw (long, made_width, made_is) priced_shape

@@ -45,8 +45,11 @@ module _ (m : Menu) (worth : ℕ → ℕ → ℤ) (supply z : List ℕ) (fits : 
       (and_from (is_within (m.lots (suc k) i) left) (fits_after m (suc k) (less left (m.lots (suc k) i)) t) own rest)
 
   record Own (k : ℕ) : Type 0 where
+    -- the number of bidder k + 1 is that of one of its bids, or 0
     pub known : number_of z (suc k) ≤ m.bids (suc k)
+    -- its package is within what the first k bidders leave
     pub within : IsTrue (is_within (m.lots (suc k) (number_of z (suc k))) (left_after m supply z k))
+    -- the numbers behind it fit what it leaves
     pub rest : IsTrue (fits_after m (suc k) (left_after m supply z (suc k)) (drop (suc k) z))
 
   own-from : (k : ℕ) → k < length z → IsTrue (fits_after m k (left_after m supply z k) (drop k z)) → Own k
@@ -64,8 +67,11 @@ module _ (m : Menu) (worth : ℕ → ℕ → ℤ) (supply z : List ℕ) (fits : 
 
   -- z with other numbers for the bidders after k
   record Swapped (k : ℕ) (t : List ℕ) : Type 0 where
+    -- the changed choice fits
     pub fits_too : IsTrue (fits_after m 0 supply (take k z ++ t))
+    -- its sum is what the first k numbers of z are worth and what the others are
     pub sum_is : sum_after worth 0 (take k z ++ t) ≡ worth_before worth z k +ℤ sum_after worth k t
+    -- where the others come earlier than those of z, so does the choice
     pub earlier : IsTrue (is_earlier t (drop k z)) → IsTrue (is_earlier (take k z ++ t) z)
 
   swapped : (k : ℕ) → k ≤ length z → (t : List ℕ) → IsTrue (fits_after m k (left_after m supply z k) t) → Swapped k t
@@ -84,8 +90,11 @@ module _ (m : Menu) (worth : ℕ → ℕ → ℤ) (supply z : List ℕ) (fits : 
 
   -- what the first bidders leave has a place
   record Stand (k : ℕ) : Type 0 where
+    -- the place of what they leave
     pub place : ℕ
+    -- it is one of the supply
     pub inside : place < states_of supply
+    -- what the first k bidders leave is what is left there
     pub left : left_after m supply z k ≡ left_at supply place
 
   stand : (k : ℕ) → Stand k
@@ -100,6 +109,7 @@ module _ (m : Menu) (worth : ℕ → ℕ → ℤ) (supply z : List ℕ) (fits : 
       }
 
   module _ (table : List (List ℤ)) (exact : IsExactTable m worth supply table) (first : IsFirstGreatest (fits_after m 0 supply) (sum_after worth 0) z) where
+    -- so no bid that comes before the number of a bidder reaches the value
     pub none-earlier : (value : ℤ) → value ≡ sum_after worth 0 z → (k : ℕ) → k < m.bidders → NoEarlier m worth supply table z value k
     none-earlier value is k lt i before known own =
         let inside : k < length z = omega (arith, lt, long) in

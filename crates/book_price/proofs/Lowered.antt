@@ -101,6 +101,7 @@ module _ (book : Book) (c : CertValue) (core : IsCorePoint (market_of book) c.ch
         let is = entry.reached.2 in
         omega (arith, ints, most, free, is)
 
+    -- at a core point the exact table of the lowered worths passes test C9
     pub lowered_passes : IsMarket (market_of book) → (f : List ℕ) → IsFirstGreatest (market_of book).allowed (lowered_sum (market_of book) c.choice (cert_point c)) f → (place : ℕ) → C9 book c place
     lowered_passes lawful f best place = record {
       rules = λ k s le lt is. obeys-lowered k s le lt;

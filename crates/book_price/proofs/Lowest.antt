@@ -49,6 +49,7 @@ lowest-of z den at first second long lowest g divides = lowest g (record {
   second_is = divides.second_is;
 })
 
+-- the certificate of what pricing finds is in lowest terms
 pub reduced_cert : (book : Book) (z : List ℕ) (whole : TableValue) (alone : VickreyValue) (weights : List ℕ) (priced : Priced TableValue) → AreFound book z whole alone weights priced
     → IsReduced (cert_found book z whole alone priced)
 reduced_cert book z whole alone weights priced found =

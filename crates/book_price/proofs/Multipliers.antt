@@ -30,12 +30,15 @@ times_when : (b : Bool) (x : ℤ) → cond b x (pos 0) ≡ x *ℤ cond b (pos 1)
 times_when true x = omega (arith, ints)
 times_when false x = omega (arith, ints)
 
+-- the first multiplier at a place is that of the row there
 pub first-at : (rows : List PricedRow) (i : ℕ) → i < length rows → nth (firsts rows) i ≡ (priced_at rows i).first
 first-at rows i lt = get_or-map (λ r. r.first) rows i no_row (pos 0) lt
 
+-- the second multiplier at a place is that of the row there
 pub second-at : (rows : List PricedRow) (i : ℕ) → i < length rows → nth (seconds rows) i ≡ (priced_at rows i).second
 second-at rows i lt = get_or-map (λ r. r.second) rows i no_row (pos 0) lt
 
+-- the coefficients of a row are those of the set of its members
 pub members-at : (rows : List PricedRow) (i j : ℕ) → i < length rows → coefficients (rows_in rows) i j ≡ holds (priced_at rows i).row.members j
 members-at rows i j lt = ap (λ (r : Row). holds r.members j) (get_or-map (λ r. r.row) rows i no_row (record { members = 0; bound = pos 0 }) lt)
 
@@ -47,6 +50,7 @@ module _ (z : List ℕ) (k i : ℕ) (inside : k < length z) (place : IsPlace z k
       let bit = member-is (row_of z r.row.members) (length z) (suc k) (omega arith) (omega arith) ∙ ap (has_bit z r.row.members) b in
       ap (λ t. cond t x (pos 0)) bit ∙ times_when (has_bit z r.row.members k) x ∙ ap (λ (y : ℤ). x *ℤ y) (sym (place.member r.row.members))
 
+  -- the sum over the first n rows that hold the bidder is that by the coefficients of the winner
   pub holding-is : (number : RowValue → ℤ) (numbers : ℕ → ℤ) → ((q : ℕ) → q < length rows → numbers q ≡ number (row_from z (priced_at rows q))) → (n : ℕ) → n ≤ length rows
       → sum_holding (map (row_from z) rows) (suc k) number n ≡ sum_at n (coefficients (rows_in rows)) numbers i
   holding-is number numbers h zero le = refl
@@ -59,6 +63,7 @@ module _ (z : List ℕ) (k i : ℕ) (inside : k < length z) (place : IsPlace z k
       let last = row ∙ term (priced_at rows n) x ∙ held ∙ counted in
       omega (arith, ints, before, last)
 
+  -- so is the sum over all rows that hold the bidder
   pub all-holding : (number : RowValue → ℤ) (numbers : ℕ → ℤ) → ((q : ℕ) → q < length rows → numbers q ≡ number (row_from z (priced_at rows q)))
       → sum_holding (map (row_from z) rows) (suc k) number (length (map (row_from z) rows)) ≡ sum_at (length rows) (coefficients (rows_in rows)) numbers i
   all-holding number numbers h = ap (λ n. sum_holding (map (row_from z) rows) (suc k) number n) (length-map rows (row_from z)) ∙ holding-is number numbers h (length rows) (omega arith)
@@ -91,6 +96,7 @@ module _ (m : Market) (z : List ℕ) (long : length z ≡ m.bidders) (weights : 
           let place = place-of z k lt used in
           all-holding z k (rank z k) lt place rows (λ row. row.first) (nth (firsts rows)) (λ q l. first-at rows q l) ∙ sums (rank z k) place.inside
 
+      -- the first multipliers of the kept rows pass the test of the least sum
       pub kept_firsts : (place : ℕ) → ShowsLeastSum m (cert_made z value table singles tables den at rows lowered) place
       kept_firsts place = record {
         sign = λ some inside. first-sign place some (omega (arith, inside, length-map rows (row_from z)));
@@ -139,6 +145,7 @@ module _ (m : Market) (z : List ℕ) (long : length z ≡ m.bidders) (weights : 
         let u = ap (λ (x : ℤ). x *ℤ sum_at (length rows) (coefficients (rows_in rows)) (nth (seconds rows)) (rank z k)) w in
         omega (arith, ints, t, u, paid, price, s)
 
+    -- the second multipliers of the kept rows pass the test of the nearest point
     pub kept_seconds : (place : ℕ) → ShowsNearest m (weight_of weights) (cert_made z value table singles tables den at rows lowered) place
     kept_seconds place = record {
       sign = λ some inside. second-sign place some (omega (arith, inside, length-map rows (row_from z)));

@@ -39,6 +39,7 @@ winners-few (suc i ∷ z) = let r = winners-few z in omega (arith, r)
 pub six-few : (z : List ℕ) (n : ℕ) → length z ≤ n → n ≤ 6 → FewWin z (replicate n 1)
 six-few z n le six = let w = winners-few z in (omega (arith, le, six, w), inl (winners-ones z n le))
 
+-- at most six bidders who weigh 1 never have too many winners
 pub none-many : (z : List ℕ) (n : ℕ) → length z ≤ n → n ≤ 6 → ManyWin z (replicate n 1) → ⊥
 none-many z n le six (inl more) = let w = winners-few z in absurd (omega (arith, le, six, w, more))
 none-many z n le six (inr more) = absurd (more.1 (winners-ones z n le))

@@ -27,14 +27,20 @@ each-at P (x ∷ xs) h (suc i) d lt = each-at P xs h.1 i d (omega arith)
 
 -- the bidder k + 1 is the winner i + 1
 pub record IsPlace (z : List ℕ) (k i : ℕ) : Type 0 where
+  -- the place is one of a winner
   pub inside : i < winners_in z
+  -- a set of winners holds that place exactly where it holds the bidder
   pub member : (bits : ℕ) → holds bits i ≡ cond (has_bit z bits k) (pos 1) (pos 0)
+  -- the bidder's number is the one at that place
   pub number : (xs : List ℤ) → nth (for_bidders z xs) k ≡ nth xs i
 
 -- the part of bidder j is that of the single at this place
 pub record IsPartAt (singles : List Single) (tables : List (List (List ℤ))) (j i : ℕ) : Type 0 where
+  -- the place is one of a single
   pub inside : i < length singles
+  -- the single there is of bidder j
   pub winner : (single_at singles i).winner ≡ j
+  -- the part of bidder j has the choice of that single and the table at that place
   pub part : part_of (parts_from singles tables) j ≡ record { winner = j; choice = (single_at singles i).choice; table = slice_index_or tables i [] }
 
 bit : (r : ℕ) → r < 2 → pos r ≡ cond (r == 1) (pos 1) (pos 0)
@@ -94,6 +100,7 @@ rank (x ∷ z) zero = 0
 rank (zero ∷ z) (suc k) = rank z k
 rank (suc n ∷ z) (suc k) = suc (rank z k)
 
+-- a winner has the place of as many winners as stand before it
 pub place-of : (z : List ℕ) (k : ℕ) → k < length z → uses z (suc k) ≡ true → IsPlace z k (rank z k)
 place-of [] k lt used = absurd (omega arith)
 place-of (zero ∷ z) zero lt used = absurd (false≢true used)

@@ -37,9 +37,11 @@ module _ (m : Market) (z : List ℕ) (long : length z ≡ m.bidders) (den : ℤ)
       let inside = member-inside (row_of z r.row.members) (length z) j member in
       kept.given.idle j inside.0 (omega (arith, inside.1, long)) (sym (member-is (row_of z r.row.members) (length z) j inside.0 inside.1) ∙ member)
 
+  -- a member of a row wins
   pub member-wins : IsTrue (uses z j)
   member-wins = (and_parts (uses z j) (not (uses r.choice j)) idle).0
 
+  -- the choice of a row doesn't use a member
   pub member-unused : number_of r.choice j ≡ 0
   member-unused = eqb-true (number_of r.choice j) 0 (not-false _ (not-true (uses r.choice j) ((and_parts (uses z j) (not (uses r.choice j)) idle).1)))
 
@@ -74,5 +76,6 @@ module _ (m : Market) (z : List ℕ) (long : length z ≡ m.bidders) (value : �
       subst (λ (r : RowValue). IsTight m (cert_made z value table singles tables den at rows lowered) r) (sym (row-is z rows i inside))
       (row_passes (priced_at rows i) (each-at (IsKept m z den at) rows kept i no_row inside))
 
+  -- the members of each kept row win, aren't used by its choice, and pay just what it asks of them
   pub kept_rows : AllByRecursion (IsKept m z den at) rows → (place : ℕ) → HasTightRow m (cert_made z value table singles tables den at rows lowered) place
   kept_rows kept place = record { row = λ some inside. row_at-passes kept place some (omega (arith, inside, length-map rows (row_from z))) }

@@ -52,6 +52,7 @@ within (negsuc a) d low le small = absurd (omega (arith, ints))
 less_small : (x : ℤ) → unsigned_abs x < 2 ^ 109 → InRange x
 less_small x h = omega arith
 
+-- a number from 0 on that is below the bound is in range
 pub not_negative-small : (a : ℤ) → pos 0 ≤ℤ a → a <ℤ pos (2 ^ 120) → InRange a
 not_negative-small (pos a) low high = omega (arith, ints)
 not_negative-small (negsuc a) low high = absurd (omega (arith, ints))
@@ -118,6 +119,7 @@ all-shape : (m : Market) (z : List ℕ) (kept : List PricedRow) → ((i : ℕ) �
 all-shape m z [] h = tt
 all-shape m z (r ∷ kept) h = (h 0 (omega arith), all-shape m z kept (λ i lt. h (suc i) (omega arith)))
 
+-- the kept rows have the shape that a certificate keeps
 pub rows_shape : (m : Market) (z : List ℕ) → length z ≡ m.bidders → ((c : List ℕ) → IsTrue (m.allowed c) → IsChoice m.bidders c) → (den : ℤ) (at : List ℤ) (rows : List PricedRow)
     → AllByRecursion (IsKept m z den at) rows
     → AreFirst (winners_in z) (length rows) (coefficients (rows_in rows)) (bounds (rows_in rows)) den (nth at) (nth (firsts rows))
@@ -127,6 +129,7 @@ pub rows_shape : (m : Market) (z : List ℕ) → length z ≡ m.bidders → ((c 
 rows_shape m z long choices den at rows kept first sums small seconds_small =
     all-shape m z rows (λ i lt. row-shape m z long choices den at rows kept first sums small seconds_small i lt)
 
+-- there are no more than ten rows where at most six win
 pub rows_few : (z : List ℕ) (rows : List PricedRow) → length rows ≤ winners_in z → winners_in z ≤ 6 → length (map (row_from z) rows) ≤ 10
 rows_few z rows count few = let e = length-map rows (row_from z) in omega (arith, e)
 
@@ -144,6 +147,7 @@ parts-shape bidders width s (suc n ∷ z) (x ∷ singles) (t ∷ tables) e count
   parts-shape bidders width (suc s) z singles tables (ap rest e) (omega arith) (λ i lt. choices (suc i) (omega arith)) (λ i lt. shaped (suc i) (omega arith)),
 )
 
+-- the parts without each winner have the shape that a certificate keeps
 pub withouts_shape : (m : Market) (width : ℕ) (z : List ℕ) → length z ≡ m.bidders → ((c : List ℕ) → IsTrue (m.allowed c) → IsChoice m.bidders c) → (singles : List Single) (tables : List (List (List ℤ)))
     → AreSingles m z singles → length tables ≡ length singles → ((i : ℕ) → i < length tables → IsTable m.bidders width (slice_index_or tables i []))
     → AreWithouts m.bidders width 1 z (parts_from singles tables)
@@ -167,5 +171,6 @@ bidders-shape (zero ∷ z) at h = (zero_small, bidders-shape z at h)
 bidders-shape (suc n ∷ z) [] h = (zero_small, bidders-shape z [] h)
 bidders-shape (suc n ∷ z) (a ∷ at) h = (h.0, bidders-shape z at h.1)
 
+-- each bidder has a payment, and it is in range
 pub pay_shape : (m : Market) (z : List ℕ) → length z ≡ m.bidders → (at : List ℤ) → AreBelow (2 ^ 109) at → (length (for_bidders z at) ≡ m.bidders) × AllInRange (for_bidders z at)
 pay_shape m z long at small = (all-bidders z at ∙ long, bidders-shape z at (numbers-shape at small))

@@ -84,13 +84,16 @@ module _ (book : Book) where
             (λ k s lt. omega (arith, range, line-sizes m counts book.supply k (get_or lines k []) caps capped (exact.exact k (omega (arith, lt, exact.lines))) s)),
       )
 
+  -- the table of all bids has the shape of a table of the book
   pub shape_of-all : (table : TableValue) → IsTableOf book table → IsTable (bidders_of book) (states book) table.lines
   shape_of-all table of = shape_of-table table.skip table.den table.surplus table.lines of.exact of.range
 
+  -- so has the table without a bidder
   pub shape_of-others : (j : ℕ) (lines : List (List ℤ)) → IsBidBook book → IsTableWithout book j lines → IsTable (bidders_of book) (states book) lines
   shape_of-others j lines kept exact =
       let surplus = replicate (length book.bidders) (pos 0) in
       shape_of-table j (pos 1) surplus lines exact (plain-range book j surplus kept (zeros-at (length book.bidders)))
 
+  -- an exact table is as wide as there are states
   pub width-is : (m : Menu) (counts : ℕ → ℕ → ℤ) (table : List (List ℤ)) → IsExactTable m counts book.supply table → width_of table ≡ states book
   width-is m counts table exact = (exact.exact 0 (omega arith)).places

@@ -24,6 +24,7 @@ sum-most m worth none most k (suc i ∷ c) known =
     let r = sum-most m worth none most (suc k) c parts.1 in
     omega (arith, ints, own, r)
 
+-- an allowed choice is worth at most 2^42 for each of its winners
 pub value-most : (book : Book) (z : List ℕ) → ((j i : ℕ) → i ≤ length (bids_of book j) → net_of book j i ≤ℤ pos (2 ^ 42)) → IsTrue ((market_of book).allowed z)
     → value_of (market_of book) z ≤ℤ pos (winners_in z * 2 ^ 42)
 value-most book z most allowed =

@@ -33,11 +33,17 @@ use Rattle.cca_inputs.specs.declared.status.Status.TheVariants.{No}
 
 -- The checker stands for the bytes that have come, which are the front of the file where that is told.
 pub record IsFedSoFar (book : BookValue) (weights : List ℕ) (told : Bool) (file : Option (List ℕ)) (room : List ℤ) (checker : StreamCheck) (at : ℕ) : Type 0 where
+  -- the bytes that have come
   pub text : List ℕ
+  -- they are as many as were counted
   pub long : length text ≡ at
+  -- the checker stands for them
   pub stands : StandsFor checker room text
+  -- they are the front of the file, where that is told
   pub here : IsTrue told → SoFar file text
+  -- the checker tests by this book
   pub book_is : checker.book.now ≡ book
+  -- and with these weights
   pub weights_are : checker.weights.now ≡ weights
 
 -- at first nothing has come
@@ -134,6 +140,7 @@ judged-of b weights told file room room2 k r f same judges =
     subst (λ (x : BookValue). IsJudged x weights f.text r) f.book_is
     (subst (λ (w : List ℕ). IsJudged k.book.now w f.text r) f.weights_are (judges f.text (subst (λ (x : List ℤ). StandsFor k x f.text) (sym same) f.stands)))
 
+-- its facts are those that the file shows
 pub judged-value : (b : BookValue) (weights : List ℕ) (told : Bool) (file : Option (List ℕ)) (room room2 : List ℤ) (k : StreamCheck) (r : Result CertFacts Status) → IsFed b weights told file room k → room2 ≡ room
     → ((text : List ℕ) → StandsFor k room2 text → IsJudged k.book.now k.weights.now text r) → IfOk r (IsRead CERT_BYTES (ShowsFacts b weights) told file)
 judged-value b weights told file room room2 k (Ok facts) f same judges = record {
@@ -144,6 +151,7 @@ judged-value b weights told file room room2 k (Ok facts) f same judges = record 
 }
 judged-value b weights told file room room2 k (Err status) f same judges = tt
 
+-- its status is one by which the file stops the run
 pub judged-stop : (b : BookValue) (weights : List ℕ) (told : Bool) (file : Option (List ℕ)) (place : Option ℕ) (before now : ℕ) (room room2 : List ℤ) (k : StreamCheck) (r : Result CertFacts Status)
     → IsFed b weights told file room k → room2 ≡ room → ((text : List ℕ) → StandsFor k room2 text → IsJudged k.book.now k.weights.now text r)
     → IfErr r (InputStops Cert CERT_BYTES (StopsCheck b weights) told file place before now)

@@ -20,5 +20,6 @@ few-weighed (f ∷ []) few = refl
 few-weighed (f ∷ g ∷ []) few = refl
 few-weighed (f ∷ g ∷ h ∷ flags) few = absurd (omega (arith, few))
 
+-- fewer than three words behind `weigh` say no command
 pub few-weigh : {A : Type 0} (f : A → List ℕ) (words : List A) → length words < 3 → None ≡ weigh_words (map f words)
 few-weigh f words few = few-weighed (map f words) (omega (arith, few, length-map words f))

@@ -227,6 +227,7 @@ module _ (one_cert : (bidders number : ℕ) (bytes : List ℕ) (x y : Said CertV
         (one_log_answer t) none-stops (on-log t says.1) x
         (subst (λ (c : Option (List ℕ)). LogGives t c (λ events. BookOfLogGives t events Checks) p) holds.inputs_hold.1.0 y)
 
+    -- what `audit` gives over the files that `award` left accepts what `award` gave
     pub accepted-log : FilesGive (award terms log cert form) file o → FilesGive (audit terms log cert) later p → Accepts form o p
     accepted-log prices checks =
         two-inputs kinds.Award AWARD_BYTES AwardAnswers (λ t. LogGives t (file log) (λ events. BookOfLogGives t events Prices)) (λ t. LogGives t (later log) (λ events. BookOfLogGives t events Checks))

@@ -32,6 +32,7 @@ pub whole-one : (command : CommandValue) (text : FileText) (name : List ℕ) (ol
     → AppendsAll command (text ∷ []) old new
 whole-one command text name old new output adds = (new, record { name = name; output = output; whole = adds }, keeps new)
 
+-- a stop of writing is always a fault after so many bytes
 pub as-fault : (e : WriteStop) → (n : ℕ) × (e ≡ Fault n)
 as-fault (Fault n) = (n, refl)
 
@@ -58,6 +59,7 @@ part-one command text name old new n output rose less adds full = record {
   };
 }
 
+-- an append to one file of the command counts faults of its outputs alone
 pub counts-one : (command : CommandValue) (kind : FileKind) (name : List ℕ) (old new : Folder) → output_as command kind ≡ Some name → CountsOnly name old.append_faults new.append_faults
     → new.load_faults ≡ old.load_faults → OnlyAppends command old new
 counts-one command kind name old new output count loads = record {
@@ -65,9 +67,11 @@ counts-one command kind name old new output count loads = record {
   appends = among-one (outputs_of command) name old.append_faults new.append_faults (output-among command kind name output) count;
 }
 
+-- so do no appends at all
 pub counts-none : (command : CommandValue) (folder : Folder) → OnlyAppends command folder folder
 counts-none command folder = record { loads = refl; appends = among-none (outputs_of command) folder.append_faults }
 
+-- and so do appends behind appends
 pub counts-on : (command : CommandValue) (old mid new : Folder) → OnlyAppends command old mid → OnlyAppends command mid new → OnlyAppends command old new
 counts-on command old mid new a b = record {
   loads = b.loads ∙ a.loads;
@@ -137,6 +141,7 @@ pub ends-later : (command : CommandValue) (text : FileText) (rest : List FileTex
 ends-later command text rest old mid new one counts (Ok u) all = joined command text rest old mid new one all
 ends-later command text rest old mid new one counts (Err kind) f = fails-later command text rest old mid new kind one counts f
 
+-- an append that failed at the only text failed at the first of more
 pub ends-first : (command : CommandValue) (text : FileText) (rest : List FileText) (old new : Folder) (kind : FileKind) → AppendEnds command (text ∷ []) old new (Err kind) → AppendEnds command (text ∷ rest) old new (Err kind)
 ends-first command text rest old new kind f = fails-first command text rest old new kind f
 

@@ -8,9 +8,11 @@ use Rattle.cca_base.specs.Faults.{Rose}
 use Rattle.cca_base.specs.Files.{CountsOnly}
 use Rattle.cca_run.specs.Run.{CountsAmong}
 
+-- counts that stay rise for these names at most
 pub among-none : (names : List (List ℕ)) (f : List ℕ → ℕ) → CountsAmong names f f
 among-none names f = record { not_less = λ name. omega arith; elsewhere = λ name out. refl }
 
+-- so do counts that rise for one of the names at most
 pub among-one : (names : List (List ℕ)) (name : List ℕ) (old new : List ℕ → ℕ) → Contains names name → CountsOnly name old new → CountsAmong names old new
 among-one names name old new within c = record {
   not_less = λ other. elim (cases_Bool (bytes_eq other name)) [
@@ -20,6 +22,7 @@ among-one names name old new within c = record {
   elsewhere = λ other out. c.elsewhere other (λ is. out (subst (Contains names) (sym is) within));
 }
 
+-- and counts that rise for the names at most, twice in turn
 pub among-then : (names : List (List ℕ)) (old mid new : List ℕ → ℕ) → CountsAmong names old mid → CountsAmong names mid new → CountsAmong names old new
 among-then names old mid new a b = record {
   not_less = λ name. let x = a.not_less name in let y = b.not_less name in omega (arith, x, y);

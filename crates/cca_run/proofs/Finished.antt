@@ -134,6 +134,7 @@ module _ (command : CommandValue) (old mid new : Folder) (before now : Output) (
       by Out w (inl x) = x.1
       by Out w (inr f) = absurd (never-out command f.name f.output)
 
+  -- the files and the output are as a run with this status leaves them
   pub run-ends : RunEnds (Some command) old new before now result
   run-ends = record {
     words = λ w. no-other _ (λ kind x. let y : WriteFault kind ≡ Words = sym x ∙ w in absurd cc) (λ x. let y : Done ≡ Words = sym x ∙ w in absurd cc);

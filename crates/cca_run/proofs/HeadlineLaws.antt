@@ -42,11 +42,17 @@ use Rattle.cca_run.proofs.LogBooks.{logged}
 
 -- an input of a run that is done has a value, from which the run went on
 pub record HasValue {V : Type 0} (most : ℕ) (says : List ℕ → Answer V → Type 0) (content : Option (List ℕ)) (follows : V → Outcome → Type 0) (o : Outcome) : Type 0 where
+  -- the bytes of its file
   pub bytes : List ℕ
+  -- the value from which the run goes on
   pub of : V
+  -- the file holds these bytes
   pub here : content ≡ Some bytes
+  -- they are no more than the limit
   pub short : length bytes ≤ most
+  -- they say the value
   pub says_it : says bytes (value of)
+  -- the outcome is what follows for the value
   pub goes_on : follows of o
 
 -- a value stands within the limit
@@ -65,6 +71,7 @@ never-done {V} most says bytes s none answers is =
       | inr short ↦ none bytes (subst (λ (x : Status). says bytes (stops x)) is (answers.text short))
     ]
 
+-- where no bytes say Done of themselves, each input of a run that is done has a value
 pub has-value : {V : Type 0} (kind : FileKind) (most : ℕ) (says : List ℕ → Answer V → Type 0) (content : Option (List ℕ)) (follows : V → Outcome → Type 0) (o : Outcome) → ((bytes : List ℕ) → says bytes (stops Done) → ⊥)
     → InputGives kind most says content follows o → o.status ≡ Done → HasValue most says content follows o
 has-value kind most says None follows o none gives ends = let no = sym (ap (λ (x : Outcome). x.status) gives) ∙ ends in absurd cc
@@ -167,6 +174,7 @@ module _ (plain : (m : Market) (w : ℕ → ℕ) (z : List ℕ) (p : Point) → 
   -- what was written, by what is known of each file
   module _ (short_text : (book : Book) (w : ℕ → ℕ) (c : CertValue) → IsWithinSizes book → IsCertificate (bidders_of book) (states book) c → IsPricedCert book w c → winners_in c.choice ≤ MOST_WINNERS → length (cert_text c) < 57000000)
       (rules_log : (terms : Terms) (rows : List (List (List ℕ))) (events : List Event) (book : Book) → IsAward terms → AreLog terms rows events → end_of terms (reverse events) ≡ Ok book → IsBidBook book) where
+    -- where `award` is done, its files state an auction, of whose outcome a certificate was appended
     pub awarded : (file : List ℕ → Option (List ℕ)) (terms log cert : List ℕ) (form : PriceForm) (o : Outcome) → FilesGive (award terms log cert form) file o → o.status ≡ Done
         → (text : List ℕ) × IsAwarded file terms log text × (o.appended ≡ cert_file text ∷ [])
     awarded file terms log cert form o gives ends =

@@ -20,7 +20,9 @@ use Rattle.log_replay.specs.declared.results.ReplayStop.TheVariants.{Open}
 
 -- a list that leads to a book leads to that of its log, and is complete
 pub record IsLogged (terms : Terms) (log : List Event) (book : Book) : Type 0 where
+  -- the log is complete
   pub complete : IsTrue (is_complete terms log)
+  -- the book is that of the log
   pub is : book ≡ book_of_log terms log
 
 -- the same of the end of a list
@@ -48,6 +50,7 @@ all-reverse {A} P (x ∷ xs) all = subst (λ (ys : List A). AllByRecursion P ys)
 -- a log whose lines keep the award's categories leads to a book that keeps the rules of a book
 module _ (within : (terms : Terms) (log : List Event) → IsAward terms → AllByRecursion (HasCategories terms) log → IsBookWithinLimits (book_of_log terms log))
     (packages : (terms : Terms) (rows : List (List (List ℕ))) (events : List Event) → AreLog terms rows events → AllByRecursion (HasCategories terms) events) where
+  -- the book that a log leads to keeps the rules of a book
   pub rules-log : (terms : Terms) (rows : List (List (List ℕ))) (events : List Event) (book : Book) → IsAward terms → AreLog terms rows events → end_of terms (reverse events) ≡ Ok book → IsBidBook book
   rules-log terms rows events book award log is =
       subst IsBidBook (sym (logged terms (reverse events) book is).is)
@@ -55,6 +58,7 @@ module _ (within : (terms : Terms) (log : List Event) → IsAward terms → AllB
 
   -- and its market is lawful
   module _ (market : (book : Book) → length book.bidders < 2 ^ 16 → ((j i : ℕ) → i ≤ length (bids_of book j) → pos 0 ≤ℤ net_of book j i) → IsMarket (market_of book)) where
+    -- the market of that book is lawful
     pub lawful-log : (terms : Terms) (rows : List (List (List ℕ))) (events : List Event) (book : Book) → IsAward terms → AreLog terms rows events → end_of terms (reverse events) ≡ Ok book
         → IsMarket (market_of book)
     lawful-log terms rows events book award log is =

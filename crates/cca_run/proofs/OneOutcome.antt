@@ -268,5 +268,6 @@ module _ (one_book : (bytes : List ℕ) (x y : Said Book Excess) → Says IsBook
   one-words None file o p x y = equal o p _ x y
   one-words (Some command) file o p x y = one-of command (contents_of command file) o p x y
 
+  -- what the words and the files give has one status and one printed text
   pub one-outcome : (words : List (List ℕ)) (file : List ℕ → Option (List ℕ)) (o p : Outcome) → Gives words file o → Gives words file p → Same o p
   one-outcome words file o p x y = one-words (command_of words) file o p x y

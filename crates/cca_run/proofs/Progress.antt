@@ -45,7 +45,9 @@ agree-own command folder (kind ∷ seen) = (refl, agree-own command folder seen)
 
 -- The inputs of these kinds were read, and what is left of the command is this.
 pub record IsAt (command : CommandValue) (old mid : Folder) (seen : List FileKind) (rest : Contents → Outcome → Type 0) : Type 0 where
+  -- nothing was done but loads of inputs of the command
   pub reads : OnlyReads command old mid
+  -- what is left of the command, by the contents that were read, is what the command gives
   pub leads : IsTrue old.told → (contents : Contents) → Agree command old contents seen → (o : Outcome) → rest contents o → CommandGives command contents o
 
 -- nothing was read

@@ -46,6 +46,7 @@ module _ (folder : Folder) (before now : Output) (line : List ℕ) (result : Sta
       (λ e w. let x : Words ≡ WriteFault kind = sym e ∙ r in absurd cc)
       (λ e rose cut full. let x : WriteFault Out ≡ WriteFault kind = sym e ∙ r in (let same : Out ≡ kind = cc in same, rose))
 
+  -- the files and the output are as a run without a command leaves them
   pub no-command : RunEnds None folder folder before now result
   no-command = record {
     words = λ w. refl;
@@ -68,6 +69,7 @@ module _ (folder : Folder) (before now : Output) (line : List ℕ) (result : Sta
     appends = among-none [] folder.append_faults;
   }
 
+  -- its status is Words, or a fault of the output
   pub words-or-out : (result ≡ Words) ⊎ (result ≡ WriteFault Out)
   words-or-out = as-result before now line Words result prints _ (λ e w. inl e) (λ e rose cut full. inr e)
 
@@ -129,6 +131,7 @@ module _ (command : CommandValue) (old new : Folder) (before now : Output) (stop
       (λ kind m f. inr (ReadFault kind, f, ap (λ (x : Stop). text_before x ++ status_line x.status) m))
       (λ s g. inl (stopped_after (text_before stop) stop.status, g told, refl))
 
+  -- the files and the output are as a run that stopped leaves them
   pub stop-ends : RunEnds (Some command) old new before now result
   stop-ends = record {
     words = λ r. as-result before now text stop.status result prints _ (λ e w. absurd (never-words (sym e ∙ r))) (λ e rose cut full. let x : WriteFault Out ≡ Words = sym e ∙ r in absurd cc);

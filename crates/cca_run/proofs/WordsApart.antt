@@ -304,9 +304,12 @@ differ x y apart same = let is = (bytes_eq-Decides x y).1 same in absurd cc
 
 -- the file that is appended to is none of those that are read
 pub record IsApart (terms log cert : List ℕ) : Type 0 where
+  -- the award's file isn't the certificate's
   pub award : terms ≢ cert
+  -- the log's file isn't the certificate's
   pub lines : log ≢ cert
 
+-- so it is with the files that the words of `award` name
 pub apart-in : (words : List (List ℕ)) (terms log cert : List ℕ) (form : PriceForm) → command_of words ≡ Some (award terms log cert form) → IsApart terms log cert
 apart-in words terms log cert form is =
     let all = and-both (is_file_word terms) (not (is_among terms (log ∷ cert ∷ [])) && are_file_words (log ∷ cert ∷ [])) (all-files terms log cert form words is) in

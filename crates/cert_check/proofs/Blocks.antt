@@ -12,6 +12,7 @@ use Rattle.auction_model.proofs.PlaceLaws.{states-positive}
 use Rattle.cert_check.specs.Faults.{FirstFault, CoversRun, CoversSome, CoversBlock}
 use Rattle.cert_check.specs.declared.tables.rule.LineRule.{LineRule}
 
+-- tests that hold at the same places have the same first fault
 pub fault-same : (P Q : ℕ → Type 0) (stop r : ℕ) → ((s : ℕ) → P s → Q s) → ((s : ℕ) → Q s → P s) → FirstFault P stop r → FirstFault Q stop r
 fault-same P Q stop r to from f = record { within = f.within; before = λ s lt. to s (f.before s lt); fails = λ lt q. f.fails lt (from r q) }
 
@@ -26,6 +27,7 @@ fault-both P Q R stop e r both first second f g = record {
   ];
 }
 
+-- the states of a supply over the digits of its first category are the states of the other categories
 pub width-is : (supply : List ℕ) → 0 < length supply → states_of supply / (get_or supply 0 0 + 1) ≡ states_of (drop 1 supply)
 width-is [] some = absurd (omega arith)
 width-is (b ∷ supply) some =
@@ -106,6 +108,7 @@ module _ (rule : LineRule) (base : ℕ) where
   start-list [] (a ∷ lots) stop d some e le = absurd (omega (arith, e))
   start-list (b ∷ supply) (a ∷ lots) stop d some e le = digits-start b a supply lots stop d le
 
+  -- one digit more of the first category
   pub more-list : (supply lots : List ℕ) (d stop e r : ℕ) → 0 < length lots → length lots ≤ length supply → get_or lots 0 0 ≤ d
       → FirstFault (CoversSome rule base supply lots (d * states_of (drop 1 supply))) stop e
       → FirstFault (CoversBlock rule (base + d * states_of (drop 1 supply)) (drop 1 supply) (drop 1 lots)) e r
@@ -115,15 +118,18 @@ module _ (rule : LineRule) (base : ℕ) where
   more-list (b ∷ supply) (a ∷ lots) d stop e r some is le f g =
       subst (λ (x : ℕ). FirstFault (CoversSome rule base (b ∷ supply) (a ∷ lots) (x * states_of supply)) stop r) (omega arith) (digits-more b a supply lots d stop e r le f g)
 
+  -- all digits of the first category are the whole block
   pub all-list : (supply lots : List ℕ) (d stop r : ℕ) → 0 < length supply → d ≡ get_or supply 0 0 + 1
       → FirstFault (CoversSome rule base supply lots (d * states_of (drop 1 supply))) stop r → FirstFault (CoversBlock rule base supply lots) stop r
   all-list [] lots d stop r some e f = absurd (omega arith)
   all-list (b ∷ supply) lots d stop r some e f = subst (λ (x : ℕ). FirstFault (CoversSome rule base (b ∷ supply) lots (x * states_of supply)) stop r) (omega (arith, e)) f
 
+  -- a package of no category fits at all places of the block
   pub empty-list : (supply lots : List ℕ) (stop r : ℕ) → length lots ≡ 0 → FirstFault (CoversRun rule base (base + states_of supply)) stop r → FirstFault (CoversBlock rule base supply lots) stop r
   empty-list supply [] stop r none f = block-empty supply stop r f
   empty-list supply (a ∷ lots) stop r none f = absurd (omega (arith, none))
 
+  -- a package of one category fits from its own count on
   pub last-list : (supply lots : List ℕ) (stop r : ℕ) → length lots ≡ 1 → length lots ≤ length supply
       → FirstFault (CoversRun rule (base + get_or lots 0 0 * states_of (drop 1 supply)) (base + states_of supply)) stop r → FirstFault (CoversBlock rule base supply lots) stop r
   last-list supply [] stop r one e f = absurd (omega (arith, one))
@@ -137,19 +143,23 @@ place-none [] lots none = refl
 place-none (b ∷ supply) [] none = refl
 place-none (b ∷ supply) (a ∷ lots) none = absurd (omega (arith, none))
 
+-- the place of a package is its first count times the states of the other categories, and the place there
 pub place-split : (supply lots : List ℕ) → 0 < length lots → length lots ≤ length supply → place_of supply lots ≡ get_or lots 0 0 * states_of (drop 1 supply) + place_of (drop 1 supply) (drop 1 lots)
 place-split supply [] some e = absurd (omega arith)
 place-split [] (a ∷ lots) some e = absurd (omega (arith, e))
 place-split (b ∷ supply) (a ∷ lots) some e = refl
 
+-- with one category the place of a package is its count times the states behind it
 pub place-one : (supply lots : List ℕ) → length lots ≡ 1 → length lots ≤ length supply → place_of supply lots ≡ get_or lots 0 0 * states_of (drop 1 supply)
 place-one supply lots one e =
     let rest = place-none (drop 1 supply) (drop 1 lots) (omega (arith, length-drop 1 lots, one)) in
     omega (arith, rest, place-split supply lots (omega (arith, one)) e)
 
+-- a list without its first item, taken as long as it is, is whole
 pub tail-whole : (xs : List ℕ) → take (length xs - 1) (drop 1 xs) ≡ drop 1 xs
 tail-whole xs = take_all (length xs - 1) (drop 1 xs) (omega (arith, length-drop 1 xs))
 
+-- and has one item less than the list
 pub tail-length : (xs : List ℕ) → length (take (length xs - 1) (drop 1 xs)) ≡ length xs - 1
 tail-length xs = ap (λ (l : List ℕ). length l) (tail-whole xs) ∙ length-drop 1 xs
 
@@ -158,6 +168,7 @@ pub digit-room : (supply : List ℕ) (d : ℕ) → 0 < length supply → d < get
 digit-room [] d some lt = absurd (omega arith)
 digit-room (b ∷ supply) d some lt = let le : suc d ≤ suc b = omega (arith, lt) in omega (arith, mul-le-mul_left (states_of supply) le)
 
+-- a shift that is within the package's place stays within it behind a digit that is no smaller than its count
 pub digit-shift : (supply lots : List ℕ) (d base shift : ℕ) → 0 < length lots → length lots ≤ length supply → get_or lots 0 0 ≤ d → shift ≤ base + place_of supply lots
     → shift ≤ base + d * states_of (drop 1 supply) + place_of (drop 1 supply) (drop 1 lots)
 digit-shift supply lots d base shift some e le h = omega (arith, h, place-split supply lots some e, mul-le-mul_left (states_of (drop 1 supply)) le)

@@ -15,6 +15,7 @@ use Rattle.cert_check.specs.EarlierBids.{StaysBelow, AllStayBelow, NoneEarlier, 
 use Rattle.wide_num.specs.Sums.{nth}
 
 module _ (book : Book) (choice : List ℕ) (value : ℤ) (length_is : length choice ≡ bidders_of book) where
+  -- before the first bidder the whole supply and the whole value are left
   pub left-start : IsTrue ((market_of book).allowed choice) → unsigned_abs value < 2 ^ 120 → IsLeft book choice value 0 (states book - 1) value
   left-start allowed small = record {
     place = (let s = states-positive book.supply in omega arith);
@@ -33,9 +34,11 @@ module _ (book : Book) (choice : List ℕ) (value : ℤ) (length_is : length cho
       let split : drop k choice ≡ number_of choice (suc k) ∷ drop (suc k) choice = drop-cons choice k 0 (omega (arith, length_is, inside)) ∙ ap (λ (n : ℕ). n ∷ drop (suc k) choice) (number-at k) in
       first_of_fitting (menu_of book) k (left_at book.supply rest) (number_of choice (suc k)) (drop (suc k) choice) (subst (λ (l : List ℕ). IsTrue (fits_after (menu_of book) k (left_at book.supply rest) l)) split so.fits)
 
+  -- the next bidder's number is that of one of its bids, or 0
   pub left-known : (k rest j number : ℕ) (bound : ℤ) → k < bidders_of book → IsLeft book choice value k rest bound → j ≡ suc k → number ≡ number_of choice j → number ≤ length (bids_of book j)
   left-known k rest j number bound inside so j_is is = rw (is, j_is) (left-first k rest bound inside so).known
 
+  -- the next bidder's package is within what is left
   pub left-own : (k rest j number : ℕ) (bound : ℤ) → k < bidders_of book → IsLeft book choice value k rest bound → j ≡ suc k → number ≡ number_of choice j → IsTrue (is_within (lots_of book j number) (left_at book.supply rest))
   left-own k rest j number bound inside so j_is is = rw (is, j_is) (left-first k rest bound inside so).own
 

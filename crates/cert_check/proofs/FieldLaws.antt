@@ -14,6 +14,7 @@ use Rattle.cert_check.proofs.PlaceLaws.{row-C6}
 use Rattle.cert_check.proofs.PlaceTests.{failing-same}
 use Rattle.cert_check.proofs.SumLaws.{row-place}
 
+-- C1 reads the denominator and the value alone
 pub sizes-of : (c : CertValue) (den value : ℤ) (r : Option ℕ) → c.den ≡ den → c.value ≡ value → IsFirstFailing (C1 (cert_of den value [] [] [] [])) r → IsFirstFailing (C1 c) r
 sizes-of c den value r den_is value_is f = failing-same (C1 (cert_of c.den c.value [] [] [] [])) (C1 c)
     (λ p t. record { den = t.den; value = t.value; size = t.size })
@@ -21,6 +22,7 @@ sizes-of c den value r den_is value_is f = failing-same (C1 (cert_of c.den c.val
     (subst (λ (z : ℤ). IsFirstFailing (C1 (cert_of z c.value [] [] [] [])) r) (sym den_is)
     (subst (λ (z : ℤ). IsFirstFailing (C1 (cert_of den z [] [] [] [])) r) (sym value_is) f))
 
+-- C2 reads the value and the choice alone
 pub choice-of : (book : Book) (c : CertValue) (value : ℤ) (choice : List ℕ) (r : Option ℕ) → c.choice ≡ choice → c.value ≡ value
     → IsFirstFailing (C2 book (cert_of (pos 0) value choice [] [] [])) r → IsFirstFailing (C2 book c) r
 choice-of book c value choice r choice_is value_is f = failing-same (C2 book (cert_of (pos 0) c.value c.choice [] [] [])) (C2 book c)
@@ -29,6 +31,7 @@ choice-of book c value choice r choice_is value_is f = failing-same (C2 book (ce
     (subst (λ (n : List ℕ). IsFirstFailing (C2 book (cert_of (pos 0) c.value n [] [] [])) r) (sym choice_is)
     (subst (λ (z : ℤ). IsFirstFailing (C2 book (cert_of (pos 0) z choice [] [] [])) r) (sym value_is) f))
 
+-- C3 reads the value, the choice and the head's table alone
 pub table-of : (book : Book) (c : CertValue) (value : ℤ) (choice : List ℕ) (table : List (List ℤ)) (r : Option ℕ) → c.choice ≡ choice → c.value ≡ value → c.table ≡ table
     → IsFirstFailing (C3 book (cert_headed value choice table)) r → IsFirstFailing (C3 book c) r
 table-of book c value choice table r choice_is value_is table_is f = failing-same (C3 book (cert_headed c.value c.choice c.table)) (C3 book c)
@@ -45,6 +48,7 @@ module _ (a : Claim) (c : CertValue) (is : IsOf a c) (Q : ℤ → ℤ → List �
       subst (λ (n : List ℕ). Q c.den c.value n) (sym is.choice_is)
       (subst (λ (z : ℤ). Q c.den z a.choice.now) (sym is.value_is) (subst (λ (z : ℤ). Q z a.value a.choice.now) (sym is.den_is) q))
 
+-- C4 reads the choice and the parts without each winner alone
 pub parts-of : (a : Claim) (c : CertValue) (withouts : List WithoutValue) (r : Option ℕ) → c.choice ≡ a.choice.now → c.withouts ≡ withouts → IsFirstFailing (C4 a.book.now (cert_with a withouts [] [])) r → IsFirstFailing (C4 a.book.now c) r
 parts-of a c withouts r choice_is withouts_is f = failing-same (C4 a.book.now (cert_of a.den a.value c.choice c.withouts [] [])) (C4 a.book.now c)
     (λ p t. record { part = t.part })
@@ -52,6 +56,7 @@ parts-of a c withouts r choice_is withouts_is f = failing-same (C4 a.book.now (c
     (subst (λ (n : List ℕ). IsFirstFailing (C4 a.book.now (cert_of a.den a.value n c.withouts [] [])) r) (sym choice_is)
     (subst (λ (l : List WithoutValue). IsFirstFailing (C4 a.book.now (cert_of a.den a.value a.choice.now l [] [])) r) (sym withouts_is) f))
 
+-- C5 reads the numbers of the claim and the payments alone
 pub pays-of : (book : Book) (a : Claim) (c : CertValue) (pay : List ℤ) (r : Option ℕ) → IsOf a c → c.pay ≡ pay → IsFirstFailing (C5 book (cert_with a [] pay [])) r → IsFirstFailing (C5 book c) r
 pays-of book a c pay r is pay_is f = failing-same (C5 book (cert_of c.den c.value c.choice [] c.pay [])) (C5 book c)
     (λ p t. record { winner = t.winner; loser = t.loser })
@@ -72,6 +77,7 @@ tight-of book a c row pay members choice b is pay_is members_is choice_is test =
       λ h. own.1 (record { winners = h.winners; allowed = h.allowed; unused = h.unused; tight = h.tight }),
     )
 
+-- C6 reads the numbers of the claim, the payments and the rows alone
 pub rows-of : (book : Book) (a : Claim) (c : CertValue) (pay : List ℤ) (rows : List RowValue) (r : Option ℕ) → IsOf a c → c.pay ≡ pay → c.rows ≡ rows → IsFirstFailing (C6 book (cert_with a [] pay rows)) r
     → IsFirstFailing (C6 book c) r
 rows-of book a c pay rows r is pay_is rows_is f = failing-same (C6 book (cert_of c.den c.value c.choice [] c.pay c.rows)) (C6 book c)
@@ -81,6 +87,7 @@ rows-of book a c pay rows r is pay_is rows_is f = failing-same (C6 book (cert_of
     (subst (λ (l : List ℤ). IsFirstFailing (C6 book (cert_of c.den c.value c.choice [] l rows)) r) (sym pay_is)
     (head-of a c is (λ d v n. IsFirstFailing (C6 book (cert_of d v n [] pay rows)) r) f)))
 
+-- C7 reads the numbers of the claim and the rows alone
 pub first-of : (book : Book) (a : Claim) (c : CertValue) (rows : List RowValue) (r : Option ℕ) → IsOf a c → c.rows ≡ rows → IsFirstFailing (C7 book (cert_with a [] [] rows)) r → IsFirstFailing (C7 book c) r
 first-of book a c rows r is rows_is f = failing-same (C7 book (cert_of c.den c.value c.choice [] [] c.rows)) (C7 book c)
     (λ p t. record { sign = t.sign; columns = t.columns })
@@ -88,6 +95,7 @@ first-of book a c rows r is rows_is f = failing-same (C7 book (cert_of c.den c.v
     (subst (λ (l : List RowValue). IsFirstFailing (C7 book (cert_of c.den c.value c.choice [] [] l)) r) (sym rows_is)
     (head-of a c is (λ d v n. IsFirstFailing (C7 book (cert_of d v n [] [] rows)) r) f))
 
+-- C8 reads the numbers of the claim, the parts, the payments and the rows alone
 pub second-of : (book : Book) (w : ℕ → ℕ) (a : Claim) (c : CertValue) (pay : List ℤ) (rows : List RowValue) (r : Option ℕ) → IsOf a c → c.pay ≡ pay → c.rows ≡ rows
     → IsFirstFailing (C8 book w (cert_with a c.withouts pay rows)) r → IsFirstFailing (C8 book w c) r
 second-of book w a c pay rows r is pay_is rows_is f = failing-same (C8 book w (cert_of c.den c.value c.choice c.withouts c.pay c.rows)) (C8 book w c)

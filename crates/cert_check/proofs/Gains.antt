@@ -9,18 +9,21 @@ use Rattle.auction_model.specs.Market.{number_of, uses, worth_in}
 use Rattle.cert_laws.specs.Tests.{bidders_of}
 use Rattle.cert_check.specs.Worths.{CanLower, gain_of}
 
+-- a winner gains the denominator times its net amount, less what it pays
 pub gain-won : (book : Book) (den : ℤ) (choice : List ℕ) (pay : List ℤ) (j : ℕ) (net : ℤ) → (number_of choice j ≡ 0 → ⊥) → net ≡ net_of book j (number_of choice j)
     → (den *ℤ net) -ℤ get_or pay (j - 1) (pos 0) ≡ gain_of book den choice pay j
 gain-won book den choice pay j net some e =
     let used : uses choice j ≡ true = ap not (ne_eqb (number_of choice j) 0 some) in
     rw e (sym (cond-true (uses choice j) ((den *ℤ worth_in (market_of book) choice j) -ℤ of_bidder pay j) (pos 0) used))
 
+-- a loser gains nothing
 pub gain-lost : (book : Book) (den : ℤ) (choice : List ℕ) (pay : List ℤ) (j : ℕ) → number_of choice j ≡ 0 → pos 0 ≡ gain_of book den choice pay j
 gain-lost book den choice pay j none = rw none refl
 
 abs-less : (a b : ℤ) (m n : ℕ) → unsigned_abs a < m → unsigned_abs b < n → unsigned_abs (a -ℤ b) < m + n
 abs-less a b m n h k = omega (arith, ints, h, k)
 
+-- what a bidder gains has at most 121 bits
 pub gain-small : (book : Book) (den : ℤ) (choice : List ℕ) (pay : List ℤ) (j : ℕ) → CanLower book den choice pay → 0 < j → j ≤ bidders_of book → unsigned_abs (gain_of book den choice pay j) < 2 ^ 121
 gain-small book den choice pay j can some inside =
     elim (cases_Bool (uses choice j)) [

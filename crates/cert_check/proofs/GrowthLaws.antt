@@ -74,12 +74,14 @@ grows-last [] line W one is places rises = absurd (omega (arith, one))
 grows-last (b ∷ []) line W one is places rises = grows-cons b [] line places (subst (λ (n : ℕ). RisesBy n line) is rises) (λ q low. grows-one (take 1 (drop (q * 1) line)))
 grows-last (b ∷ c ∷ supply) line W one is places rises = absurd (omega (arith, one))
 
+-- a line that rises from block to block, of which each never falls, never falls
 pub grows-list : (supply : List ℕ) (line : List ℤ) (W n : ℕ) → 0 < length supply → W ≡ states_of (drop 1 supply) → length line ≡ states_of supply → get_or supply 0 0 + 1 ≤ n → RisesBy W line
     → ((q : ℕ) → q < n → Grows (drop 1 supply) (take W (drop (q * W) line))) → Grows supply line
 grows-list [] line W n some is places all rises blocks = absurd (omega (arith, some))
 grows-list (b ∷ supply) line W n some is places all rises blocks =
     grows-cons b supply line places (subst (λ (m : ℕ). RisesBy m line) is rises) (λ q low. subst (λ (m : ℕ). Grows supply (take m (drop (q * m) line))) is (blocks q (omega (arith, low, all))))
 
+-- a bid is needless where an earlier one takes no more and offers as much
 pub needless-better : (o : Offers) (j i h : ℕ) → IsBidBook o.book.now → i ≤ length (bids_of o.book.now j) → 0 < h → pos 0 ≤ℤ o.den → IsBetter o.book.now j i h → IsNeedless o j i
 needless-better o j i h kept known some den better = record {
   other = h;
@@ -89,6 +91,7 @@ needless-better o j i h kept known some den better = record {
   none = λ e. absurd (omega (arith, some, e));
 }
 
+-- so is a bid that is worth nothing or less
 pub needless-nothing : (o : Offers) (j i : ℕ) → 0 < i → worth_of o j i ≤ℤ pos 0 → IsNeedless o j i
 needless-nothing o j i some le = record { other = 0; earlier = some; smaller = refl; worth = λ h. absurd (omega (arith, h)); none = λ _. le }
 

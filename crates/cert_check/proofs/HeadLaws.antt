@@ -34,6 +34,7 @@ nets-shown book c kept length_is h (suc k) (suc i) some inside known = (
   net-most book c length_is h.choice h.table k (suc i) (omega (arith, inside)) (omega arith) known (kept.within (suc k) i (omega (arith, known))),
 )
 
+-- the first three tests show an allowed choice of greatest value, above which no bid is
 pub head-shown : (book : Book) (c : CertValue) → IsBidBook book → length c.choice ≡ bidders_of book → HeadHolds book c → IsHead book c.den c.value c.choice
 head-shown book c kept length_is h = record {
   count = length_is;
@@ -75,6 +76,7 @@ one-most f (suc n) j h some le =
     last y z a = omega (arith, ints, a)
 
 module _ (a : Claim) where
+  -- each number of the claim's choice is that of a bid, or 0
   pub claim-known : IsTrue (is_known_after (menu_of a.book.now) 0 a.choice.now)
   claim-known = fits-known (menu_of a.book.now) a.book.now.supply a.choice.now a.shown.allowed
 
@@ -83,9 +85,11 @@ module _ (a : Claim) where
   times-small amount low = product-small a.den a.value amount a.shown.den_least a.shown.value_least a.shown.small low
 
 module _ (a : Claim) (kept : IsBidBook a.book.now) where
+  -- the number of a bidder is within its bids
   pub number-known : (j : ℕ) → 0 < j → j ≤ bidders_of a.book.now → number_of a.choice.now j ≤ length (bids_of a.book.now j)
   number-known j some le = known-number (menu_of a.book.now) a.choice.now j (claim-known a) some le
 
+  -- no winner bids less than 0 net
   pub won-least : (j : ℕ) → 0 < j → j ≤ bidders_of a.book.now → pos 0 ≤ℤ worth_in (market_of a.book.now) a.choice.now j
   won-least j some le = kept.not_negative j (number_of a.choice.now j) (number-known j some le)
 
@@ -99,6 +103,7 @@ module _ (a : Claim) (kept : IsBidBook a.book.now) where
   pub won-most : (j : ℕ) → 0 < j → j ≤ bidders_of a.book.now → worth_in (market_of a.book.now) a.choice.now j ≤ℤ a.value
   won-most j some le = subst (λ (z : ℤ). worth_in (market_of a.book.now) a.choice.now j ≤ℤ z) won-sum (one-most (worth_in (market_of a.book.now) a.choice.now) (bidders_of a.book.now) j won-least some le)
 
+  -- the denominator times a winner's net amount is in the range
   pub won-times : (j : ℕ) → 0 < j → j ≤ bidders_of a.book.now → unsigned_abs (a.den *ℤ worth_in (market_of a.book.now) a.choice.now j) < 2 ^ 120
   won-times j some le = times-small a (worth_in (market_of a.book.now) a.choice.now j) (between _ _ (won-least j some le) (won-most j some le))
     where

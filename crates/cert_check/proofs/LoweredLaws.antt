@@ -71,12 +71,16 @@ can-lower a pay kept many range = record {
 
 -- the payments of the first bidders
 pub record IsPaidTo (payments : List ℤ) (k : ℕ) (sum : ℤ) : Type 0 where
+  -- it is the sum of the payments of the first k bidders
   pub sum_is : sum ≡ sum_over everyone (of_bidder payments) k
+  -- it is within what k numbers of the range can sum to
   pub size : unsigned_abs sum ≤ k * 2 ^ 120
 
+-- the payments of no bidders sum to 0
 pub paid-start : (payments : List ℤ) → IsPaidTo payments 0 (pos 0)
 paid-start payments = record { sum_is = refl; size = omega arith }
 
+-- the payment of one bidder more is added
 pub paid-next : (payments : List ℤ) (k : ℕ) (sum : ℤ) → AllInRange payments → IsPaidTo payments k sum → IsPaidTo payments (k + 1) (sum +ℤ get_or payments k (pos 0))
 paid-next payments k sum all to =
     let up : suc k ≡ k + 1 = omega arith in
@@ -89,6 +93,7 @@ paid-next payments k sum all to =
       size = omega (arith, ints, small, size);
     })
 
+-- a sum of few payments with one more fits 128 bits
 pub paid-small : (payments : List ℤ) (k : ℕ) (sum : ℤ) → AllInRange payments → IsPaidTo payments k sum → k < 16 → unsigned_abs (sum +ℤ get_or payments k (pos 0)) < 2 ^ 127
 paid-small payments k sum all to few =
     let small = in-range payments all k in

@@ -24,6 +24,7 @@ members-in bidders before (j ∷ members) (suc k) h lt =
     let rest = members-in bidders j members k h.2 (omega arith) in
     let own = h.0 in (omega (arith, rest.0, own), rest.1)
 
+-- each number of the list is that of a member
 pub member-at : (members : List ℕ) (k : ℕ) → k < length members → IsTrue (is_member members (get_or members k 0))
 member-at [] k lt = absurd (omega arith)
 member-at (j ∷ members) zero lt = ap (λ b. b || is_member members j) (eq-eqb j j refl)
@@ -31,6 +32,7 @@ member-at (j ∷ members) (suc k) lt =
     let rest = member-at members k (omega arith) in
     ap (λ b. (j == get_or members k 0) || b) rest ∙ or-true (j == get_or members k 0)
 
+-- each member stands at some place of the list
 pub place_of-member : (members : List ℕ) (j : ℕ) → IsTrue (is_member members j) → (k : ℕ) × (k < length members) × (get_or members k 0 ≡ j)
 place_of-member [] j h = absurd (false≢true h)
 place_of-member (i ∷ members) j h =

@@ -16,9 +16,12 @@ use Rattle.cert_check.specs.Places.{IsFirstFailing}
 
 -- each part has a choice and a table of the right form
 pub record HasForm (b s : ℕ) (part : WithoutPart) : Type 0 where
+  -- its choice has a number for each bidder
   pub choice : length part.choice ≡ b
+  -- its table has a line for each bidder and one more, each with an entry for each state
   pub table : IsTable b s part.table
 
+-- each part of a list of parts has the right form
 pub parts-form : (b s j : ℕ) (numbers : List ℕ) (parts : List WithoutPart) → AreWithouts b s j numbers (map without_value parts) → (i : ℕ) (other : WithoutPart) → i < length parts → HasForm b s (get_or parts i other)
 parts-form b s j numbers [] are i other lt = absurd (omega arith)
 parts-form b s j [] (w ∷ parts) are i other lt = absurd are
@@ -26,6 +29,7 @@ parts-form b s j (zero ∷ numbers) (w ∷ parts) are i other lt = parts-form b 
 parts-form b s j (suc n ∷ numbers) (w ∷ parts) are zero other lt = record { choice = are.0.choice.0; table = are.0.table }
 parts-form b s j (suc n ∷ numbers) (w ∷ parts) are (suc i) other lt = parts-form b s (suc j) numbers parts are.1 i other (omega arith)
 
+-- so has the part that stands at a place of such a list
 pub part-form : (b s j : ℕ) (numbers : List ℕ) (items withouts : List WithoutPart) (i : ℕ) (part : WithoutPart) → items ≡ withouts → AreWithouts b s j numbers (map without_value withouts)
     → i < length items → part ≡ get_or items i part → HasForm b s part
 part-form b s j numbers items withouts i part same are lt is =
@@ -38,11 +42,13 @@ IsFrom parts i j = part_of (map without_value parts) j ≡ part_of (map without_
 split-at : (parts : List WithoutPart) (i : ℕ) (part : WithoutPart) → i < length parts → part ≡ get_or parts i part → drop i parts ≡ part ∷ drop (suc i) parts
 split-at parts i part lt is = drop-cons parts i part lt ∙ ap (λ (p : WithoutPart). p ∷ drop (suc i) parts) (sym is)
 
+-- where the part at i is of bidder j, it is the part of j
 pub from-found : (parts : List WithoutPart) (i j : ℕ) (part : WithoutPart) → i < length parts → part ≡ get_or parts i part → IsFrom parts i j → part.winner ≡ j → part_of (map without_value parts) j ≡ without_value part
 from-found parts i j part lt is from own =
     from ∙ ap (λ (ps : List WithoutPart). part_of (map without_value ps) j) (split-at parts i part lt is)
     ∙ cond-true (part.winner == j) (without_value part) (part_of (map without_value (drop (suc i) parts)) j) (eq-eqb part.winner j own)
 
+-- where the part at i is of another bidder, the part of j is among those from i + 1 on
 pub from-next : (parts : List WithoutPart) (i j : ℕ) (part : WithoutPart) → i < length parts → part ≡ get_or parts i part → IsFrom parts i j → (part.winner ≡ j → ⊥) → IsFrom parts (i + 1) j
 from-next parts i j part lt is from other =
     let up : suc i ≡ i + 1 = omega arith in
@@ -70,12 +76,14 @@ module _ (book : Book) (j : ℕ) (part : WithoutValue) where
     top = (t ((bidders_of book + 1) * states book)).top refl;
   }
 
+  -- where the rules of its table or the entry of the whole supply fail, the part shows nothing
   pub part-fails : (p : ℕ) → IsFirstFailing ShowsBest (Some p) → IsPart book j part → ⊥
   part-fails p f is = f.0 (record {
     rules = λ k s le lt e. is.rules k s le lt;
     top = λ e. is.top;
   })
 
+-- a part whose choice is allowed and doesn't use j is right exactly where the test of its table passes
 pub part-answer : (book : Book) (j : ℕ) (part : WithoutValue) (most : ℤ) (r : Option ℕ) (b : Bool) → most ≡ value_of (market_of book) part.choice → IsTrue ((market_of book).allowed part.choice) → number_of part.choice j ≡ 0
     → is_some r ≡ not b → IsFirstFailing (TableAt (without (menu_of book) j) (net_of book) book.supply part.table most) r → IsTrue b ↔ IsPart book j part
 part-answer book j part most None b most_is allowed unused b_is t =
@@ -88,9 +96,11 @@ abbrev pub PartsTo : Book → CertValue → ℕ → Type 0
 PartsTo book c k = (q : ℕ) → q ≤ k → C4 book c q
 
 module _ (book : Book) (c : CertValue) where
+  -- before the first bidder no part is asked for
   pub parts-start : PartsTo book c 0
   parts-start q le = record { part = λ some. absurd (omega (arith, some, le)) }
 
+  -- a bidder more, whose part is right where it wins
   pub parts-next : (k : ℕ) → PartsTo book c k → (IsTrue (uses c.choice (k + 1)) → IsPart book (k + 1) (part_of c.withouts (k + 1))) → PartsTo book c (k + 1)
   parts-next k to own q le =
       elim (cases_lt q (k + 1)) [
@@ -100,6 +110,7 @@ module _ (book : Book) (c : CertValue) where
             subst (C4 book c) same (record { part = λ some inside wins. own wins }))
       ]
 
+  -- where the parts of all bidders are right, C4 holds
   pub parts-all : (k : ℕ) → bidders_of book ≤ k → PartsTo book c k → IsFirstFailing (C4 book c) None
   parts-all k past to q =
       elim (cases_lt k q) [
@@ -107,6 +118,7 @@ module _ (book : Book) (c : CertValue) where
         | inr low ↦ to q low
       ]
 
+  -- the first winner whose part isn't right is the first place at which C4 fails
   pub parts-fail : (k : ℕ) → k < bidders_of book → PartsTo book c k → IsTrue (uses c.choice (k + 1)) → (IsPart book (k + 1) (part_of c.withouts (k + 1)) → ⊥) → IsFirstFailing (C4 book c) (Some (k + 1))
   parts-fail k in_book to wins fails = (
     λ all. fails (all.part (omega arith) (omega (arith, in_book)) wins),
@@ -117,5 +129,6 @@ module _ (book : Book) (c : CertValue) where
 pub loses-zero : (choice : List ℕ) (j : ℕ) → number_of choice j ≡ 0 → IsTrue (uses choice j) → ⊥
 loses-zero choice j zero_is wins = false≢true (sym (ap (λ (n : ℕ). not (n == 0)) zero_is) ∙ wins)
 
+-- a bidder whose number isn't 0 wins
 pub wins-some : (choice : List ℕ) (j number : ℕ) → number ≡ number_of choice j → (number ≡ 0 → ⊥) → IsTrue (uses choice j)
 wins-some choice j number is some = ap (λ (n : ℕ). not (n == 0)) (sym is) ∙ ap not (ne_eqb number 0 some)

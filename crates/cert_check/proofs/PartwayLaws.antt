@@ -50,12 +50,15 @@ module _ (book : Book) (w : ℕ → ℕ) (c : CertValue) (test : ℕ) where
   pub test-holds : HoldsTo book w c test 0 → IsFirstFailing (Asks book w c test) None → HoldsTo book w c (test + 1) 0
   test-holds before f = holds-whole 0 before (λ q past. f q)
 
+  -- the first of the places that fails is the first failure of all
   pub table-fails : (base n p : ℕ) → HoldsTo book w c test base → IsLate book w c test base n (Some p) → FailsFirst book w c test (base + p)
   table-fails base n p before late = fails-further base p before late.2 late.1
 
+  -- places that hold, with nothing that fails behind them, make the whole test hold
   pub table-holds : (base n : ℕ) → HoldsTo book w c test base → IsLate book w c test base n None → ((q : ℕ) → base + n ≤ q → Asks book w c test q) → HoldsTo book w c (test + 1) 0
   table-holds base n before late rest = holds-whole (base + n) (holds-further base n before late) rest
 
+  -- one place more that holds
   pub late-more : (base n : ℕ) → IsLate book w c test base n None → Asks book w c test (base + n) → IsLate book w c test base (n + 1) None
   late-more base n late asks i lt =
       elim (cases_lt i n) [
@@ -63,6 +66,7 @@ module _ (book : Book) (w : ℕ → ℕ) (c : CertValue) (test : ℕ) where
         | inr here ↦ (let same : n ≡ i = omega (arith, here, lt) in subst (λ (x : ℕ). Asks book w c test (base + x)) same asks)
       ]
 
+  -- a first fault stays the first with one place more
   pub late-kept : (base n p : ℕ) → IsLate book w c test base n (Some p) → IsLate book w c test base (n + 1) (Some p)
   late-kept base n p late = (omega (arith, late.0), late.1, late.2)
 

@@ -12,11 +12,13 @@ use Rattle.cert_laws.proofs.Winning.{known_from}
 use Rattle.cert_check.specs.Head.{HoldsBefore}
 
 module _ (book : Book) (c : CertValue) where
+  -- where C2 holds at the places of all bidders, the choice is known
   pub known-before : (place : ℕ) → length c.choice ≡ bidders_of book → bidders_of book < place → HoldsBefore (C2 book c) place → IsTrue (is_known_after (menu_of book) 0 c.choice)
   known-before place length_is past before =
       known_from (menu_of book) 0 c.choice (omega (arith, length_is))
       (λ n lt. subst (λ (x : ℕ). slice_index_or c.choice x 0 ≤ length (bids_of book (suc (0 + n)))) (omega arith) ((before (suc (0 + n)) (omega (arith, length_is))).known (omega arith) (omega (arith, length_is))))
 
+  -- at the place behind the bidders C2 asks whether a known choice fits
   pub fits-C2 : (place : ℕ) (b : Bool) → place ≡ bidders_of book + 1 → IsTrue (is_known_after (menu_of book) 0 c.choice) → b ≡ fits_after (menu_of book) 0 book.supply c.choice → IsTrue b ↔ C2 book c place
   fits-C2 place b here known is = (
     λ t. record {
@@ -27,21 +29,27 @@ module _ (book : Book) (c : CertValue) where
     λ h. is ∙ and_from (is_known_after (menu_of book) 0 c.choice) _ known (h.fits here),
   )
 
+  -- behind the bidders and two places more C2 asks nothing
   pub past-C2 : (place : ℕ) → bidders_of book + 3 ≤ place → C2 book c place
   past-C2 place past = record { known = λ some le. absurd (omega arith); fits = λ e. absurd (omega (arith, e)); value = λ e. absurd (omega (arith, e)) }
 
+  -- behind the bidders C5 asks nothing
   pub past-C5 : (place : ℕ) → bidders_of book + 1 ≤ place → C5 book c place
   past-C5 place past = record { winner = λ some le wins. absurd (omega arith); loser = λ some le loses. absurd (omega arith) }
 
+  -- behind the rows C6 asks nothing
   pub past-C6 : (place : ℕ) → length c.rows + 1 ≤ place → C6 book c place
   past-C6 place past = record { row = λ some le. absurd (omega arith) }
 
+  -- behind the rows and the bidders C7 asks nothing
   pub past-C7 : (place : ℕ) → length c.rows + bidders_of book + 1 ≤ place → C7 book c place
   past-C7 place past = record { sign = λ some le. absurd (omega arith); columns = λ j some le e wins. absurd (omega (arith, e)) }
 
+  -- behind the rows and the bidders C8 asks nothing
   pub past-C8 : (w : ℕ → ℕ) (place : ℕ) → length c.rows + bidders_of book + 1 ≤ place → C8 book w c place
   past-C8 w place past = record { sign = λ some le. absurd (omega arith); columns = λ j some le e wins. absurd (omega (arith, e)) }
 
+  -- of a winner C5 asks that it pays at least 0 and no more than the denominator times its bid
   pub winner-C5 : (j : ℕ) (paid most : ℤ) (b : Bool) → 0 < j → j ≤ bidders_of book → IsTrue (uses c.choice j) → paid ≡ of_bidder c.pay j → most ≡ c.den *ℤ won book c j
       → (IsTrue b ↔ ((pos 0 ≤ℤ paid) × (paid ≤ℤ most))) → IsTrue b ↔ C5 book c j
   winner-C5 j paid most b some le wins paid_is most_is test = (
@@ -52,12 +60,14 @@ module _ (book : Book) (c : CertValue) where
     λ h. let two = h.winner some le wins in test.1 (subst (λ (z : ℤ). pos 0 ≤ℤ z) (sym paid_is) two.0, subst (λ (z : ℤ). paid ≤ℤ z) (sym most_is) (subst (λ (z : ℤ). z ≤ℤ (c.den *ℤ won book c j)) (sym paid_is) two.1)),
   )
 
+  -- at the place of a row C6 asks whether it is tight
   pub row-C6 : (place : ℕ) (row : RowValue) (b : Bool) → 0 < place → place ≤ length c.rows → row_of c.rows place ≡ row → (IsTrue b ↔ IsTightRow book c row) → IsTrue b ↔ C6 book c place
   row-C6 place row b some le same test = (
     λ t. record { row = λ s l. subst (IsTightRow book c) (sym same) (test.0 t) },
     λ h. test.1 (subst (IsTightRow book c) same (h.row some le)),
   )
 
+  -- at the place of a row C7 asks whether its first multiplier is at least 0
   pub sign-C7 : (place : ℕ) (row : RowValue) (b : Bool) → 0 < place → place ≤ length c.rows → row_of c.rows place ≡ row → (IsTrue b ↔ (pos 0 ≤ℤ row.first)) → IsTrue b ↔ C7 book c place
   sign-C7 place row b some le same test = (
     λ t. record {
@@ -67,6 +77,7 @@ module _ (book : Book) (c : CertValue) where
     λ h. test.1 (subst (λ (r : RowValue). pos 0 ≤ℤ r.first) same (h.sign some le)),
   )
 
+  -- behind the rows C7 asks whether the first multipliers of the rows of a winner sum to the denominator
   pub sum-C7 : (place j : ℕ) (b : Bool) → place ≡ length c.rows + j → 0 < j → j ≤ bidders_of book
       → (IsTrue b ↔ (IsTrue (uses c.choice j) → sum_holding c.rows j (λ row. row.first) (length c.rows) ≡ c.den)) → IsTrue b ↔ C7 book c place
   sum-C7 place j b here some le test = (
@@ -79,6 +90,7 @@ module _ (book : Book) (c : CertValue) where
     λ h. test.1 (h.columns j some le here),
   )
 
+  -- at the place of a row C8 asks whether its first multiplier is above 0 or its second at least 0
   pub sign-C8 : (w : ℕ → ℕ) (place : ℕ) (row : RowValue) (b : Bool) → 0 < place → place ≤ length c.rows → row_of c.rows place ≡ row → (IsTrue b ↔ ((pos 0 <ℤ row.first) ⊎ (pos 0 ≤ℤ row.second))) → IsTrue b ↔ C8 book w c place
   sign-C8 w place row b some le same test = (
     λ t. record {
@@ -88,6 +100,7 @@ module _ (book : Book) (c : CertValue) where
     λ h. test.1 (subst (λ (r : RowValue). (pos 0 <ℤ r.first) ⊎ (pos 0 ≤ℤ r.second)) same (h.sign some le)),
   )
 
+  -- behind the rows C8 asks whether the weighted sum of second multipliers is the way from the Vickrey price
   pub sum-C8 : (w : ℕ → ℕ) (place j : ℕ) (b : Bool) → place ≡ length c.rows + j → 0 < j → j ≤ bidders_of book
       → (IsTrue b ↔ (IsTrue (uses c.choice j) → (of_bidder c.pay j -ℤ (c.den *ℤ vickrey_of book c j)) ≡ pos (w j) *ℤ sum_holding c.rows j (λ row. row.second) (length c.rows))) → IsTrue b ↔ C8 book w c place
   sum-C8 w place j b here some le test = (

@@ -24,6 +24,7 @@ lines-width s (t ∷ table) are (suc k) lt = lines-width s table are.2 k (omega 
 pub table-width : (b s : ℕ) (table : List (List ℤ)) → IsTable b s table → (k : ℕ) → k ≤ b → length (slice_index_or table k []) ≡ s
 table-width b s table is k le = lines-width s table is.1 k (omega (arith, is.0, le))
 
+-- each entry of a line is in the range
 pub in-range : (t : List ℤ) → AllInRange t → (s : ℕ) → unsigned_abs (nth t s) < 2 ^ 120
 in-range [] all s = omega arith
 in-range (z ∷ t) all zero = all.0
@@ -78,9 +79,11 @@ module _ (o : Offers) (table : List (List ℤ)) (is : IsTable (bidders_of o.book
       let p = first_rule (offered o) (worth_of o) o.book.now.supply table k r le lt (λ l t less in_line. lines l t less in_line) (λ t less. f.before t less (omega (arith, less, lt))) (λ obeys. f.fails lt (λ inside. obeys)) in
       (p.1, p.0)
 
+  -- where every line keeps its rules, the whole table does
   pub table-keeps : ((l s : ℕ) → l < suc (bidders_of o.book.now) → ObeysIn o table l s) → IsFirstFailing (RulesAt o table) None
   table-keeps lines place k s le lt e = lines k s (omega (arith, le)) lt
 
+  -- a line whose first fault is behind its places keeps its rules everywhere
   pub line-keeps : (k r : ℕ) → states o.book.now ≤ r → FirstFault (ObeysIn o table k) (states o.book.now) r → (s : ℕ) → ObeysIn o table k s
   line-keeps k r past f s lt = f.before s (omega (arith, lt, past)) lt
 
@@ -112,5 +115,6 @@ module _ (o : Offers) (table : List (List ℤ)) where
     λ q lt. record { rules = f q; top = λ e. absurd (omega (arith, lt, e)) },
   )
 
+  -- no rule is broken, and line 0 has no more than it may: the test holds everywhere
   pub test-holds : (most : ℤ) → IsFirstFailing (RulesAt o table) None → entry_at table 0 (full o.book.now) ≤ℤ most → IsFirstFailing (TestsTable o table most) None
   test-holds most f le place = record { rules = f place; top = λ e. le }

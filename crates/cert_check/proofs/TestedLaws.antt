@@ -13,6 +13,7 @@ use Rattle.wide_num.specs.Sums.{nth}
 use Rattle.cert_check.specs.LineTests.{worth_of, ObeysIn}
 use Rattle.cert_check.specs.declared.tables.offers.Offers.{Offers}
 
+-- a line that, with the one below it, is that of a table with the rules keeps them here
 pub tested-obeys : (o : Offers) (whole table : List (List ℤ)) (k : ℕ) → Obeys (menu_of o.book.now) (worth_of o) o.book.now.supply whole → o.skip ≤ k → k ≤ bidders_of o.book.now
     → slice_index_or table k [] ≡ slice_index_or whole k [] → (k < bidders_of o.book.now → slice_index_or table (k + 1) [] ≡ slice_index_or whole (k + 1) [])
     → (s : ℕ) → ObeysIn o table k s

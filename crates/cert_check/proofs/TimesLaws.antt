@@ -45,6 +45,7 @@ module _ (number sum : ℤ) (w : ℕ) (some : 1 ≤ w) where
     rem-same : int_rem (to_z w128 (of_z w128 number)) (to_z w128 w) ≡ int_rem number (pos w)
     rem-same = ap (λ (x : ℤ). int_rem x (to_z w128 w)) number-back ∙ ap (λ (x : ℤ). int_rem number x) weight-back
 
+    -- where nothing is left over, the quotient is the sum exactly where the number is the weight times the sum
     pub is-exact : of_z w128 (int_rem (to_z w128 (of_z w128 number)) (to_z w128 w)) ≡ 0
         → IsTrue (of_z w128 (int_div (to_z w128 (of_z w128 number)) (to_z w128 w)) == of_z w128 sum) ↔ (number ≡ pos w *ℤ sum)
     is-exact none =
@@ -59,6 +60,7 @@ module _ (number sum : ℤ) (w : ℕ) (some : 1 ≤ w) where
             weight-more : to_z w128 w ≡ to_z w128 (of_z w128 (pos w))
             weight-more = weight-back ∙ sym (to_z-of_z w128 (pos w) weight-fits)
 
+    -- where something is left over, the number isn't the weight times the sum
     pub not-exact : of_z w128 (int_rem (to_z w128 (of_z w128 number)) (to_z w128 w)) ≢ 0 → IsTrue false ↔ (number ≡ pos w *ℤ sum)
     not-exact more = (λ t. cc, λ e. absurd (more (ap (of_z w128) (rem-same ∙ rest e))))
 

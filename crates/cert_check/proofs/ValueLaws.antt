@@ -37,9 +37,11 @@ module _ (m : Menu) (worth : ℕ → ℕ → ℤ) (supply : List ℕ) (table : L
   bids-all : (k : ℕ) → (without m 0).bids (suc k) ≡ m.bids (suc k)
   bids-all k = ap (λ (b : Bool). if b then 0 else m.bids (suc k)) (ne_eqb (suc k) 0 (λ e. omega (arith, e)))
 
+  -- what the rules ask with bidder 0 left out they ask of all bids
   pub obeys-all : (k s : ℕ) → ObeysAt (without m 0) worth supply table k s → ObeysAt m worth supply table k s
   obeys-all k s obeys = record { last = obeys.last; none = obeys.none; bid = λ lt i some few. obeys.bid lt i some (subst (λ (n : ℕ). i ≤ n) (sym (bids-all k)) few) }
 
+  -- and the other way round
   pub obeys-none_less : (k s : ℕ) → ObeysAt m worth supply table k s → ObeysAt (without m 0) worth supply table k s
   obeys-none_less k s obeys = record { last = obeys.last; none = obeys.none; bid = λ lt i some few. obeys.bid lt i some (subst (λ (n : ℕ). i ≤ n) (bids-all k) few) }
 
@@ -85,12 +87,14 @@ module _ (book : Book) (c : CertValue) where
     first = λ k lt e. own k lt e k lt refl;
   }
 
+  -- the table holds: the first bidder with an earlier bid that reaches the value is where C3 fails
   pub value-bidder : (j : ℕ) → IsFirstFailing ShowsValue None → IsFirstFailing (NoneEarlier book c) (Some j) → IsFirstFailing (C3 book c) (Some ((bidders_of book + 1) * states book + j))
   value-bidder j t f = (
     λ all. f.0 (λ k lt e. all.first k lt (omega (arith, e))),
     λ q low. whole q t (λ k lt e. f.1 (suc k) (omega (arith, low, e))),
   )
 
+  -- the table holds, and no earlier bid reaches the value: C3 holds
   pub value-holds : IsFirstFailing ShowsValue None → IsFirstFailing (NoneEarlier book c) None → IsFirstFailing (C3 book c) None
   value-holds t f place = whole place t (λ k lt e. f (suc k))
 

@@ -30,6 +30,7 @@ once-small net least most = omega (arith, ints, least, most)
 pub plain-worth : (book : Book) (gains : List ℤ) (n : ℕ) → gains ≡ replicate n (pos 0) → (j i : ℕ) → worth_with book (pos 1) gains j i ≡ net_of book j i
 plain-worth book gains n is j i = once (net_of book j i) (of_bidder gains j) (no-gain gains n j is)
 
+-- and no net amount of a bid book is too large
 pub plain-small : (book : Book) (gains : List ℤ) (n : ℕ) → IsBidBook book → gains ≡ replicate n (pos 0) → bidders_of book ≤ n → HasSmallWorths book (pos 1) gains
 plain-small book gains n kept is many = record {
   count = rw (is, length-replicate n (pos 0)) many;
@@ -42,6 +43,7 @@ pub lowered-worth : (book : Book) (c : CertValue) (gains : List ℤ) → ((j : �
     → (j i : ℕ) → 0 < j → j ≤ bidders_of book → worth_with book c.den gains j i ≡ lowered_net book c j i
 lowered-worth book c gains same j i some inside = ap (λ (z : ℤ). (c.den *ℤ net_of book j i) -ℤ z) (same j some inside)
 
+-- and with these gains no worth is too large
 pub lowered-small : (book : Book) (den : ℤ) (choice : List ℕ) (pay gains : List ℤ) → CanLower book den choice pay → bidders_of book ≤ length gains
     → ((j : ℕ) → 0 < j → j ≤ bidders_of book → of_bidder gains j ≡ gain_of book den choice pay j) → HasSmallWorths book den gains
 lowered-small book den choice pay gains can many same = record {
@@ -52,6 +54,7 @@ lowered-small book den choice pay gains can many same = record {
 
 -- equal worths ask the same of a table
 module _ (m : Menu) (f g : ℕ → ℕ → ℤ) (supply : List ℕ) (table : List (List ℤ)) (same : (j i : ℕ) → 0 < j → j ≤ m.bidders → f j i ≡ g j i) where
+  -- a place that keeps the rules for one keeps them for the other
   pub obeys-same : (k s : ℕ) → ObeysAt m f supply table k s → ObeysAt m g supply table k s
   obeys-same k s o = record {
     last = o.last;
@@ -59,12 +62,14 @@ module _ (m : Menu) (f g : ℕ → ℕ → ℤ) (supply : List ℕ) (table : Lis
     bid = λ lt i some few fits. (let own = o.bid lt i some few fits in let e = same (suc k) i (omega arith) (omega (arith, lt)) in omega (arith, ints, own, e));
   }
 
+  -- a table that obeys the rules for one obeys them for the other
   pub all-obey : Obeys m f supply table → Obeys m g supply table
   all-obey rules k s le lt = obeys-same k s (rules k s le lt)
 
   at-same : (most : ℤ) (place : ℕ) → TableAt m f supply table most place → TableAt m g supply table most place
   at-same most place t = record { rules = λ k s le lt e. obeys-same k s (t.rules k s le lt e); top = t.top }
 
+-- the test of a whole table fails first at the same place for equal worths
 pub table-same : (m : Menu) (f g : ℕ → ℕ → ℤ) (supply : List ℕ) (table : List (List ℤ)) (most : ℤ) (r : Option ℕ) → ((j i : ℕ) → 0 < j → j ≤ m.bidders → f j i ≡ g j i)
     → IsFirstFailing (TableAt m f supply table most) r → IsFirstFailing (TableAt m g supply table most) r
 table-same m f g supply table most r same t =

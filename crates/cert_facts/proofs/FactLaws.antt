@@ -24,6 +24,7 @@ each-single T book c [] win h = tt
 each-single T book c (w ∷ ws) win h = (h w win.0, each-single T book c ws win.1 h)
 
 module _ (book : Book) (c : CertValue) (facts : CertFacts) (are : AreFacts book c facts) where
+  -- the winners of the singles are those of the choice, in order
   pub winners-are : map (λ (s : Single). s.winner) facts.singles ≡ winners_after 0 facts.choice
   winners-are =
       ap (map (λ (s : Single). s.winner)) are.singles ∙ same-winners book c c.withouts ∙ parts-are _ _ 0 c.choice c.withouts are.of.certificate.withouts ∙ ap (winners_after 0) (sym are.choice)
@@ -31,8 +32,10 @@ module _ (book : Book) (c : CertValue) (facts : CertFacts) (are : AreFacts book 
   each : (T : Single → Type 0) → ((w : WithoutValue) → Wins c.choice w.winner → T (single_of book c w)) → AllByRecursion T facts.singles
   each T h = subst (AllByRecursion T) (sym are.singles) (each-single T book c c.withouts (parts-win _ _ c.choice c.withouts are.of.certificate.withouts) h)
 
+  -- each single has its winner's Vickrey price
   pub prices-are : AllByRecursion (λ s. s.price ≡ cert_prices book c s.winner) facts.singles
   prices-are = each (λ s. s.price ≡ cert_prices book c s.winner) (λ w wins. sym (ap (λ b. cond b (vickrey_of book c w.winner) (pos 0)) wins.2))
 
+  -- in a book within the limits, no price is larger than 2 ^ 47
   pub prices-small : IsBidBook book → AllByRecursion (λ s. unsigned_abs s.price ≤ 2 ^ 47) facts.singles
   prices-small kept = each (λ s. unsigned_abs s.price ≤ 2 ^ 47) (λ w wins. vickrey-small book c are.of w.winner wins.0 wins.1 wins.2 kept)

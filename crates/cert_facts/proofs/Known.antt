@@ -21,9 +21,11 @@ known-from m k (x ∷ z) e h =
     (known-from m (suc k) z (omega (arith, e)) (λ i lt. let same : suc k + suc i ≡ suc (suc k) + i = omega arith in rw same at (h (suc i) (omega arith))))
 
 module _ (book : Book) (c : CertValue) (has : HasFacts book c) where
+  -- its choice has a number for each bidder
   pub long : length c.choice ≡ bidders_of book
   long = has.certificate.choice.0
 
+  -- its choice is known
   pub choice-known : IsTrue (is_known_after (menu_of book) 0 c.choice)
   choice-known = known-from (menu_of book) 0 c.choice (omega (arith, long)) (λ i lt.
       let same : suc i - 1 ≡ i = omega arith in
@@ -31,24 +33,30 @@ module _ (book : Book) (c : CertValue) (has : HasFacts book c) where
       let most : number_of c.choice (suc i) ≤ length (bids_of book (suc i)) = (has.choice (suc i)).known (omega arith) (omega (arith, lt, long)) in
       subst (λ (j : ℕ). get_or c.choice i 0 ≤ length (bids_of book j)) place (subst (λ (k : ℕ). get_or c.choice k 0 ≤ length (bids_of book (suc i))) same most))
 
+  -- its value is that of its choice
   pub value-is : value_of (market_of book) c.choice ≡ c.value
   value-is = (has.choice (length book.bidders + 2)).value refl
 
   -- the winner j
   module _ (j : ℕ) (some : 0 < j) (most : j ≤ length c.choice) (wins : IsTrue (uses c.choice j)) where
+    -- it is a bidder of the book
     pub in-book : j ≤ length book.bidders
     in-book = omega (arith, most, long)
 
+    -- its number in the choice is that of one of its bids
     pub number-in : number_of c.choice j ≤ length (bids_of book j)
     number-in = (has.choice j).known some in-book
 
+    -- the choice of its part is known
     pub part-known : IsTrue (is_known_after (menu_of book) 0 (part_of c.withouts j).choice)
     part-known = (and_parts _ _ ((has.parts j).part some in-book wins).allowed).0
 
     module _ (kept : IsBidBook book) where
+      -- in a book within the limits, the value is from 0 to 16 times 2 ^ 42
       pub value-small : (pos 0 ≤ℤ c.value) × (c.value ≤ℤ pos (16 * 2 ^ 42))
       value-small = let v = value-between book kept c.choice choice-known in (omega (arith, ints, value-is, v.0), omega (arith, ints, value-is, v.1))
 
+      -- what its bid is worth is from 0 to 2 ^ 42
       pub won-small : (pos 0 ≤ℤ won book c j) × (won book c j ≤ℤ pos (2 ^ 42))
       won-small = (kept.not_negative j (number_of c.choice j) number-in, kept.most j (number_of c.choice j) number-in)
 
@@ -70,6 +78,7 @@ module _ (book : Book) (c : CertValue) (has : HasFacts book c) where
         pub price-fits : FitsSigned w128 (to_z w128 (of_z w128 (to_z w128 (of_z w128 x) -ℤ to_z w128 (of_z w128 c.value))) +ℤ to_z w128 (of_z w128 n))
         price-fits = omega (arith, ints, other.0, other.1, value-small.0, value-small.1, own.0, own.1)
 
+        -- and what is put together is the Vickrey price
         pub price-is : to_z w128 (of_z w128 (to_z w128 (of_z w128 (to_z w128 (of_z w128 x) -ℤ to_z w128 (of_z w128 c.value))) +ℤ to_z w128 (of_z w128 n))) ≡ vickrey_of book c j
         price-is =
             let sum : to_z w128 (of_z w128 (to_z w128 (of_z w128 (to_z w128 (of_z w128 x) -ℤ to_z w128 (of_z w128 c.value))) +ℤ to_z w128 (of_z w128 n))) ≡ (x -ℤ c.value) +ℤ n =

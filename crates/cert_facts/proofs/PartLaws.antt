@@ -29,6 +29,7 @@ parts-are b s k (suc n ∷ z) (w ∷ ws) are = ap (λ (j : ℕ). j ∷ map (λ w
 each-part : (T : ℕ → Type 0) (b s k : ℕ) (z : List ℕ) (ws : List WithoutValue) → AreWithouts b s (suc k) z ws → AllByRecursion T (winners_after k z) → AllByRecursion (λ w. T w.winner) ws
 each-part T b s k z ws are all = each-of_map T (λ (w : WithoutValue). w.winner) ws (subst (AllByRecursion T) (sym (parts-are b s k z ws are)) all)
 
+-- the choice uses the winner of each part
 pub parts-win : (b s : ℕ) (z : List ℕ) (ws : List WithoutValue) → AreWithouts b s 1 z ws → AllByRecursion (λ w. Wins z w.winner) ws
 parts-win b s z ws are = each-part (Wins z) b s 0 z ws are (all-win z)
 
@@ -50,6 +51,7 @@ found b s k (suc n ∷ z) (w ∷ ws) (suc i) d are lt =
 
 -- the items of a certificate's list, one by one
 module _ (book : Book) (c : Certificate) (items : List WithoutPart) (same : items ≡ c.withouts) where
+  -- each item is a part of the certificate, found by its winner
   pub is-part : HasFacts book (cert_value c) → (i : ℕ) (w : WithoutPart) → i < length items → w ≡ get_or items i w → IsPartOf c w
   is-part has i w inside item =
       let ws = (cert_value c).withouts in
@@ -73,5 +75,6 @@ module _ (book : Book) (c : Certificate) (items : List WithoutPart) (same : item
       made ∙ ap (λ (l : List Single). l ++ s ∷ []) are ∙ ap (λ (x : Single). map (single_of book (cert_value c)) (map without_value (take i items)) ++ x ∷ []) is
       ∙ sym (ap (map (single_of book (cert_value c))) more ∙ map_push (single_of book (cert_value c)) (map without_value (take i items)) (without_value w))
 
+  -- behind the last item they are the singles of all parts
   pub all-singles : (i : ℕ) (list : List Single) → length items ≤ i → list ≡ map (single_of book (cert_value c)) (map without_value (take i items)) → list ≡ map (single_of book (cert_value c)) (cert_value c).withouts
   all-singles i list past are = are ∙ ap (λ (l : List WithoutPart). map (single_of book (cert_value c)) (map without_value l)) (take_all i items past ∙ same)

@@ -19,6 +19,7 @@ module _ (book : Book) (kept : IsBidBook book) where
       let rest = sum-between (suc k) c parts.1 in
       (omega (arith, ints, low, rest.0), omega (arith, ints, high, rest.1))
 
+  -- the value of a known choice is from 0 to 16 times 2 ^ 42
   pub value-between : (c : List ℕ) → IsTrue (is_known_after (menu_of book) 0 c) → (pos 0 ≤ℤ value_of (market_of book) c) × (value_of (market_of book) c ≤ℤ pos (16 * 2 ^ 42))
   value-between c known =
       let long = known-length (menu_of book) 0 c known in

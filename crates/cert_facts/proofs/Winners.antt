@@ -18,6 +18,7 @@ each-after T k (suc n ∷ z) h = (
 abbrev pub Wins : List ℕ → ℕ → Type 0
 Wins z j = (0 < j) × (j ≤ length z) × IsTrue (uses z j)
 
+-- the choice uses each of its winners
 pub all-win : (z : List ℕ) → AllByRecursion (Wins z) (winners_after 0 z)
 all-win z = each-after (Wins z) 0 z (λ i lt some.
     let same : suc 0 + i - 1 ≡ i = omega arith in

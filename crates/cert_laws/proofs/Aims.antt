@@ -37,9 +37,11 @@ weight_from w j = pos (w (suc j))
 abbrev pub share_from : (ℕ → ℕ) → ℕ → ℤ
 share_from w j = share (w (suc j))
 
+-- the distance of a point in the market is that of its numbers counted from 0, by the shares of the weights
 pub distance-is : (book : Book) (w : ℕ → ℕ) (v : ℕ → ℤ) (p : Point) → square_distance (market_of book) w v p ≡ distance_to (bidders_of book) (share_from w) (λ j. v (suc j)) p.den (from_zero p)
 distance-is book w v p = everyone-is (λ j. share (w j) *ℤ ((of_bidder p.at j -ℤ (p.den *ℤ v j)) *ℤ (of_bidder p.at j -ℤ (p.den *ℤ v j)))) (bidders_of book)
 
+-- each share is positive, and times its weight it is 232,792,560
 pub shares : (book : Book) (weights : List ℕ) → AreWeights (bidders_of book) weights → AreShares (bidders_of book) (pos 232792560) (share_from (weight_of weights)) (weight_from (weight_of weights))
 shares book weights are = record {
   not_negative = omega (arith, ints);
@@ -72,6 +74,7 @@ module _ (book : Book) (w : ℕ → ℕ) (own : AreShares (bidders_of book) (pos
     | inr loses ↦ inr (loser-stands q point j lt loses)
   ]
 
+  -- no core point has a smaller sum than the payments
   pub least_sum : IsLeastSum (market_of book) c.choice (cert_point c)
   least_sum q point =
       let n = bidders_of book in

@@ -24,6 +24,7 @@ pub record First (m : Menu) (k : ℕ) (left : List ℕ) (i : ℕ) (c : List ℕ)
   pub own : IsTrue (is_within (m.lots (suc k) i) left)
   pub rest : IsTrue (fits_after m (suc k) (less left (m.lots (suc k) i)) c)
 
+-- where a choice fits, its first number is known, that bid is within what is left, and the rest fits behind it
 pub first_of_fitting : (m : Menu) (k : ℕ) (left : List ℕ) (i : ℕ) (c : List ℕ) → IsTrue (fits_after m k left (i ∷ c)) → First m k left i c
 first_of_fitting m k left i c t =
     let own = is_within (m.lots (suc k) i) left in
@@ -32,6 +33,7 @@ first_of_fitting m k left i c t =
     let q = and_parts own rest p.1 in
     record { known = leb-true i (m.bids (suc k)) p.0; own = q.0; rest = q.1 }
 
+-- where a choice that fits has one more number, there is a bidder for it
 pub inside : (m : Menu) (k : ℕ) (left : List ℕ) (i : ℕ) (c : List ℕ) → k ≤ m.bidders → IsTrue (fits_after m k left (i ∷ c)) → k < m.bidders
 inside m k left i c le t = strict k m.bidders le (λ e. false≢true (sym (fits-past_end m left i c) ∙ subst (λ (n : ℕ). IsTrue (fits_after m n left (i ∷ c))) e t))
   where
@@ -46,6 +48,7 @@ pub record Ends (choice : List ℕ) (k : ℕ) (d : List ℕ) : Type 0 where
   pub same : (n : ℕ) → slice_index_or d n 0 ≡ slice_index_or choice (k + n) 0
 
 module _ (m : Menu) (worth : ℕ → ℕ → ℤ) (supply : List ℕ) (table : List (List ℤ)) (empty : (j : ℕ) → m.lots j 0 ≡ []) (obeys : Obeys m worth supply table) where
+  -- a choice that fits is worth at most the table's entry for what is left
   pub bounded : (c : List ℕ) (k s : ℕ) → k ≤ m.bidders → s < states_of supply → IsTrue (fits_after m k (left_at supply s) c) → sum_after (counted worth) k c ≤ℤ entry_at table k s
   bounded [] k s le lt t = (obeys k s le lt).last (at_end m k (left_at supply s) t)
   bounded (zero ∷ c) k s le lt t =
@@ -92,6 +95,7 @@ module _ (m : Menu) (worth : ℕ → ℕ → ℤ) (supply : List ℕ) (table : L
         let own = counted_any (suc k) i in
         omega (arith, ints, rest, t, place, own)
 
+    -- a choice that fits and is earlier is worth less than what the value leaves for the bidders after k
     pub earlier_is_less : (c d : List ℕ) (k s : ℕ) → Ends choice k d → k ≤ m.bidders → s < states_of supply → left_at supply s ≡ left_after m supply choice k
         → IsTrue (fits_after m k (left_at supply s) c) → IsTrue (is_earlier c d) → sum_after (counted worth) k c <ℤ (value -ℤ worth_before worth choice k)
     earlier_is_less [] d k s ends le lt here t before = absurd (false≢true before)

@@ -33,6 +33,7 @@ pub idle-most : (worth surplus : ℤ) (member : Bool) → worth ≡ pos 0 → po
 idle-most worth surplus true e h = omega (arith, ints, e, h)
 idle-most worth surplus false e h = omega (arith, ints, e)
 
+-- a bidder with a number other than 0 is used
 pub uses-some : (c : List ℕ) (j : ℕ) → 0 < number_of c j → IsTrue (uses c j)
 uses-some c j some = not_from_false (number_of c j == 0) (ne_eqb (number_of c j) 0 (λ z. omega (arith, some, z)))
 
@@ -71,6 +72,7 @@ module _ (book : Book) (c : CertValue) where
   offer-term h5 k j zero some le has = idle-most (c.den *ℤ net_of book j 0) (kept j) (k j) (times_zero c.den (net_of book j 0) refl) (kept-least h5 j some le)
   offer-term h5 k j (suc i) some le has = used-most (c.den *ℤ net_of book j (suc i)) (kept j) (lowered_net book c j (suc i)) (uses c.choice j) (k j) refl (kept-loser h5 j some le) (has (omega arith))
 
+  -- where C5 and C9 hold, no coalition blocks the payments
   pub unblocked : ((place : ℕ) → C5 book c place) → ((place : ℕ) → C9 book c place) → IsUnblocked (market_of book) c.choice (cert_point c)
   unblocked h5 h9 k f t only =
       let n = bidders_of book in
@@ -88,6 +90,7 @@ module _ (book : Book) (c : CertValue) where
       let low = lowered-most h9 f t in
       omega (arith, ints, each, split, scaled, value, low, sums, members)
 
+  -- where C1, C5 and C9 hold and there is a payment for each bidder, the payments are a core point
   pub core : length c.pay ≡ bidders_of book → ((place : ℕ) → C1 c place) → ((place : ℕ) → C5 book c place) → ((place : ℕ) → C9 book c place) → IsCorePoint (market_of book) c.choice (cert_point c)
   core pay_is h1 h5 h9 = record {
     den_positive = (h1 1).den refl;

@@ -17,9 +17,11 @@ use Rattle.cert_laws.specs.Sound.{cert_point}
 use Rattle.cert_laws.proofs.Sizes.{exact_obeys}
 use Rattle.cert_laws.proofs.Core.{kept, kept-least, kept-loser}
 
+-- the exact table of the net amounts obeys the rules
 pub plain-obeys : (book : Book) (table : List (List ℤ)) → IsExactTable (menu_of book) (net_of book) book.supply table → Obeys (menu_of book) (net_of book) book.supply table
 plain-obeys book table exact = exact_obeys (menu_of book) (net_of book) book.supply table (λ j. refl) (λ j. refl) exact
 
+-- and so does that without the bids of bidder j
 pub without-obeys : (book : Book) (j : ℕ) (table : List (List ℤ)) → IsExactTable (without (menu_of book) j) (net_of book) book.supply table → Obeys (without (menu_of book) j) (net_of book) book.supply table
 without-obeys book j table exact = exact_obeys (without (menu_of book) j) (net_of book) book.supply table (λ i. refl) (λ i. refl) exact
 
@@ -71,6 +73,7 @@ module _ (book : Book) (c : CertValue) (pay_is : length c.pay ≡ bidders_of boo
         | inr loses ↦ ap (λ (b : Bool). if b then kept book c (suc k) else pos 0) loses ∙ sym (kept-loser book c h5 (suc k) (omega arith) (omega (arith, lt)) loses)
       ]
 
+  -- the exact table of the worths lowered by the gains obeys the rules for the lowered amounts of the tests
   pub lowered-obeys : (table : List (List ℤ)) → IsExactTable (menu_of book) (lowered c.den (net_of book) gains) book.supply table → Obeys (menu_of book) (lowered_net book c) book.supply table
   lowered-obeys table exact =
       obeys-same (menu_of book) (lowered c.den (net_of book) gains) (lowered_net book c) book.supply table bid-is

@@ -18,6 +18,7 @@ place_before S k s l t ls lt h =
       ]
     ]
 
+-- equal numbers are of the same line and the same place
 pub one_place : (S k s l t : ℕ) → s < S → t < S → k * S + s ≡ l * S + t → (k ≡ l) × (s ≡ t)
 one_place S k s l t ls lt h =
     elim (cases_order k l) [

@@ -24,6 +24,7 @@ one_times : (b : Bool) (x : ℤ) → cond b (pos 1) (pos 0) *ℤ x ≡ cond b x 
 one_times true x = omega (arith, ints)
 one_times false x = omega (arith, ints)
 
+-- a number times 1 or 0 is the number or 0
 pub times_one : (b : Bool) (x : ℤ) → x *ℤ cond b (pos 1) (pos 0) ≡ cond b x (pos 0)
 times_one true x = omega (arith, ints)
 times_one false x = omega (arith, ints)
@@ -58,6 +59,7 @@ split s f g (suc n) =
 pub offer-outside : (m : Market) (z : List ℕ) (p : Point) (s : ℕ → Bool) (f : List ℕ) → offer m z p (λ j. not (s j)) f -ℤ paid m p ≡ excess_of m z p s f
 offer-outside m z p s f = let a = split s (λ j. p.den *ℤ worth_in m z j) (of_bidder p.at) m.bidders in omega (arith, ints, a)
 
+-- where a choice uses no member, a bidder that it uses is none
 pub unused-one : (c : List ℕ) (j : ℕ) (member : Bool) → (IsTrue member → number_of c j ≡ 0) → IsTrue (uses c j) → IsTrue (not member)
 unused-one c j member unused used = not_from_false member (false_from_ne_true member (λ is. false≢true (sym (ap (λ (n : ℕ). not (n == 0)) (unused is)) ∙ used)))
 
@@ -66,12 +68,15 @@ abbrev pub bound : Book → CertValue → ℕ → ℤ
 bound book c i = row_bound (market_of book) c.choice (is_member (row_of c.rows (suc i)).members) (row_of c.rows (suc i)).choice
 
 module _ (book : Book) (c : CertValue) (h6 : (place : ℕ) → C6 book c place) where
+  -- where C6 holds, each row is tight
   pub row-at : (i : ℕ) → i < length c.rows → IsTightRow book c (row_of c.rows (suc i))
   row-at i lt = (h6 (suc i)).row (omega arith) (omega (arith, lt))
 
+  -- what the members of a row pay is just its bound
   pub tight : (i : ℕ) → i < length c.rows → IsTight (bidders_of book) (coefficient c.rows i) (bound book c i) c.den (λ j. of_bidder c.pay (suc j))
   tight i lt = members-pay c.rows i (bidders_of book) c.pay ∙ (row-at i lt).tight
 
+  -- each core point meets all rows
   pub meets : (q : Point) → IsCorePoint (market_of book) c.choice q → MeetsRows (bidders_of book) (length c.rows) (coefficient c.rows) (bound book c) q.den (λ j. of_bidder q.at (suc j))
   meets q point = record {
     positive = (let p = point.den_positive in omega (arith, ints, p));

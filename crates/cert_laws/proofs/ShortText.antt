@@ -113,6 +113,7 @@ module _ (book : Book) (w : ℕ → ℕ) (c : CertValue) (within : IsWithinSizes
         rest-size,
       )
 
+  -- its text has less than 57,000,000 bytes
   pub short : length (cert_text c) < 57000000
   short =
       let version = version_lines (length c.choice) (length (get_or c.table 0 [])) in

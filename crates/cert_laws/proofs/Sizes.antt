@@ -69,6 +69,7 @@ module _ (m : Menu) (counts : ℕ → ℕ → ℤ) (supply : List ℕ) (table : 
       let b = (entry k s (omega (arith, k_in)) lt).bound (i ∷ rest.0) fits in
       omega (arith, ints, b, rest.2)
 
+  -- each entry of an exact table is at least what the rules ask of it
   pub exact_obeys : Obeys m counts supply table
   exact_obeys k s le lt = record {
     last = λ e. last k e (entry k s le lt);

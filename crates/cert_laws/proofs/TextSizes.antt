@@ -19,6 +19,7 @@ abbrev pub size : List Line → ℕ
 size [] = 0
 size (l ∷ ls) = length (spell l) + 1 + size ls
 
+-- lines and others behind them have the bytes of both
 pub size-append : (xs ys : List Line) → size (xs ++ ys) ≡ size xs + size ys
 size-append [] ys = omega arith
 size-append (x ∷ xs) ys = omega (arith, size-append xs ys)
@@ -28,15 +29,18 @@ pub text-size : (p : ℕ) (ls : List Line) → length (text_of (placed spell ove
 text-size p [] = refl
 text-size p (l ∷ ls) = omega (arith, length-append (spell l) (10 ∷ text_of (placed spell over (next_place spell over p l) ls)), text-size (next_place spell over p l) ls)
 
+-- fewer times a number is no more
 pub times-le : (n m k : ℕ) → n ≤ m → times n k ≤ times m k
 times-le zero m k le = omega arith
 times-le (suc n) zero k le = absurd (omega (arith, le))
 times-le (suc n) (suc m) k le = omega (arith, times-le n m k (omega (arith, le)))
 
+-- 16 added so many times is the product
 pub times-16 : (n : ℕ) → times n 16 ≡ 16 * n
 times-16 zero = refl
 times-16 (suc n) = omega (arith, times-16 n)
 
+-- 39 added so many times is the product
 pub times-39 : (n : ℕ) → times n 39 ≡ 39 * n
 times-39 zero = refl
 times-39 (suc n) = omega (arith, times-39 n)
@@ -56,6 +60,7 @@ line-size word zs most small few =
     let long = numbers_long 36 zs small in
     omega (arith, long, times-39 (length zs), few, length-append word (numbers_text zs))
 
+-- the line of a choice of at most 16 bidders has at most 630 bytes
 pub choice-size : (b : ℕ) (choice : List ℕ) → b ≤ 16 → IsChoice b choice → length (spell (choice_line choice)) ≤ 630
 choice-size b choice few is = omega (arith, line-size (codes "choice") (as_numbers choice) 16 (small-below 65535 choice (omega arith) is.1) (omega (arith, few, is.0, long_numbers choice)))
 
@@ -64,6 +69,7 @@ abbrev pub AreShort : ℕ → List (List ℤ) → Type 0
 AreShort most [] = Unit {0}
 AreShort most (t ∷ table) = (length (numbers_text t) ≤ most) × AreShort most table
 
+-- a table has for each line at most two bytes more than the numbers of a line may have
 pub table-size : (most : ℕ) (table : List (List ℤ)) → AreShort most table → size (table_lines table) ≤ times (length table) (most + 2)
 table-size most [] short = omega arith
 table-size most (t ∷ table) short = omega (arith, short.0, table-size most table short.1)
@@ -77,10 +83,12 @@ range-short s (t ∷ table) few is = (omega (arith, numbers_long 36 t (range-bel
 pub entries-short : (zs : List ℤ) → length zs ≤ 16384 → AllBelow (tens 14) zs → length (numbers_text zs) ≤ 262144
 entries-short zs few small = omega (arith, numbers_long 13 zs small, times-16 (length zs), few)
 
+-- numbers that are small at each place are all small
 pub below-from : (most : ℕ) (zs : List ℤ) → ((i : ℕ) → unsigned_abs (get_or zs i (pos 0)) < most) → AllBelow most zs
 below-from most [] f = tt
 below-from most (z ∷ zs) f = (f 0, below-from most zs (λ i. f (suc i)))
 
+-- a table whose lines are short at each place is short
 pub short-from : (most : ℕ) (table : List (List ℤ)) → ((k : ℕ) → k < length table → length (numbers_text (get_or table k [])) ≤ most) → AreShort most table
 short-from most [] f = tt
 short-from most (t ∷ table) f = (f 0 (omega arith), short-from most table (λ k lt. f (suc k) (omega (arith, lt))))
@@ -93,6 +101,7 @@ AllParts T (w ∷ ws) = T w × AllParts T ws
 part-here : (w : WithoutValue) (ws : List WithoutValue) (j : ℕ) → w.winner ≡ j → part_of (w ∷ ws) j ≡ w
 part-here w ws j own = ap (λ b. cond b w (part_of ws j)) (eq-eqb w.winner j own)
 
+-- the part of a bidder is not the first where that has another winner
 pub part-later : (w : WithoutValue) (ws : List WithoutValue) (j : ℕ) → w.winner ≢ j → part_of (w ∷ ws) j ≡ part_of ws j
 part-later w ws j other = ap (λ b. cond b w (part_of ws j)) (ne_eqb w.winner j other)
 
@@ -120,6 +129,7 @@ own-size b s j w few low is short =
     let third = line-size (codes "table") [] 0 tt (omega arith) in
     omega (arith, first, second, third, short)
 
+-- parts with short tables have at most 4,457,200 bytes for each winner
 pub parts-size : (b s j : ℕ) (ns : List ℕ) (ws : List WithoutValue) → b ≤ 16 → j + length ns ≤ 17 → AreWithouts b s j ns ws → AllParts HasShortTable ws → size (part_lines ws) ≤ times (winners_in ns) 4457200
 parts-size b s j [] [] few le is short = omega arith
 parts-size b s j [] (w ∷ ws) few le is short = absurd is
@@ -135,6 +145,7 @@ members-few : (b before : ℕ) (js : List ℕ) → before ≤ b → AreMembers b
 members-few b before [] le is = omega (arith, le)
 members-few b before (j ∷ js) le is = omega (arith, is.0, members-few b j js is.1 is.2)
 
+-- rows have at most 1,350 bytes each
 pub rows-size : (b : ℕ) (rows : List RowValue) → b ≤ 16 → AreRows b rows → size (row_lines rows) ≤ times (length rows) 1350
 rows-size b [] few is = omega arith
 rows-size b (r ∷ rows) few is =
@@ -143,5 +154,6 @@ rows-size b (r ∷ rows) few is =
     let third = choice-size b r.choice few is.0.choice in
     omega (arith, first, second, third, rows-size b rows few is.1)
 
+-- the line of the payments has at most 627 bytes
 pub pay-size : (b : ℕ) (pay : List ℤ) → b ≤ 16 → length pay ≡ b → AllInRange pay → length (spell (line (codes "pay") pay)) ≤ 627
 pay-size b pay few long all = omega (arith, line-size (codes "pay") pay 16 (range-below pay all) (omega (arith, few, long)))

@@ -6,9 +6,11 @@ use Rattle.auction_model.specs.Book.{Book}
 use Rattle.cert_form.specs.Certificate.{CertValue}
 use Rattle.cert_laws.specs.Tests.{Asks, Holds, FailsFirst}
 
+-- where all tests hold, so does what each asks at each place
 pub all_asked : (book : Book) (w : ℕ → ℕ) (c : CertValue) → Holds book w c → (t place : ℕ) → Asks book w c t place
 all_asked book w c h t place = (λ e. h.c1 place, λ e. h.c2 place, λ e. h.c3 place, λ e. h.c4 place, λ e. h.c5 place, λ e. h.c6 place, λ e. h.c7 place, λ e. h.c8 place, λ e. h.c9 place)
 
+-- where what each test asks holds at each place, all tests hold
 pub holds_all : (book : Book) (w : ℕ → ℕ) (c : CertValue) → ((t place : ℕ) → Asks book w c t place) → Holds book w c
 holds_all book w c all = record {
   c1 = λ p. (all 1 p).0 refl;
@@ -22,9 +24,11 @@ holds_all book w c all = record {
   c9 = λ p. (all 9 p).8 refl;
 }
 
+-- where all tests hold, none fails first
 pub not_both : (book : Book) (w : ℕ → ℕ) (c : CertValue) (t place : ℕ) → Holds book w c → FailsFirst book w c t place → ⊥
 not_both book w c t place h f = f.fails (all_asked book w c h t place)
 
+-- the test that fails first is one test at one place
 pub one_verdict : (book : Book) (w : ℕ → ℕ) (c : CertValue) (t p u q : ℕ) → FailsFirst book w c t p → FailsFirst book w c u q → (t ≡ u) × (p ≡ q)
 one_verdict book w c t p u q f g =
     elim (cases_order t u) [

@@ -20,11 +20,13 @@ use Rattle.cert_laws.specs.Tests.{Obeys, bidders_of, states, full, C2, C3, C4, I
 use Rattle.cert_laws.specs.Sound.{cert_prices}
 use Rattle.cert_laws.proofs.Bounds.{counted, bounded, earlier_is_less}
 
+-- where the number 0 is worth 0, a choice is worth the same with 0 counted for it
 pub sum-counted : (worth : ℕ → ℕ → ℤ) → ((j : ℕ) → worth j 0 ≡ pos 0) → (k : ℕ) (c : List ℕ) → sum_after (counted worth) k c ≡ sum_after worth k c
 sum-counted worth none k [] = refl
 sum-counted worth none k (zero ∷ c) = let a = sum-counted worth none (suc k) c in let b = none (suc k) in omega (arith, ints, a, b)
 sum-counted worth none k (suc i ∷ c) = let a = sum-counted worth none (suc k) c in omega (arith, ints, a)
 
+-- a choice with a number of a bid, or 0, for each bidder is known
 pub known_from : (m : Menu) (k : ℕ) (c : List ℕ) → k + length c ≡ m.bidders → ((n : ℕ) → n < length c → slice_index_or c n 0 ≤ m.bids (suc (k + n))) → IsTrue (is_known_after m k c)
 known_from m k [] e h = eq-eqb k m.bidders (omega arith)
 known_from m k (i ∷ c) e h =
@@ -32,32 +34,41 @@ known_from m k (i ∷ c) e h =
     (le-leb i (m.bids (suc k)) (subst (λ (x : ℕ). i ≤ m.bids (suc x)) (omega arith) (h 0 (omega arith))))
     (known_from m (suc k) c (omega arith) (λ n lt. subst (λ (x : ℕ). slice_index_or c n 0 ≤ m.bids (suc x)) (omega arith) (h (suc n) (omega arith))))
 
+-- the place of the whole supply is one of the states
 pub full-below : (supply : List ℕ) → states_of supply - 1 < states_of supply
 full-below supply = let s = states-positive supply in omega arith
 
+-- a bidder that a choice doesn't use has the number 0
 pub unused_from : (c : List ℕ) (j : ℕ) → IsTrue (not (uses c j)) → number_of c j ≡ 0
 unused_from c j t = eqb-true (number_of c j) 0 (not-false (number_of c j == 0) (not-true (uses c j) t))
 
+-- a bidder with the number 0 isn't used
 pub unused_to : (c : List ℕ) (j : ℕ) → number_of c j ≡ 0 → IsTrue (not (uses c j))
 unused_to c j z = subst (λ (n : ℕ). IsTrue (not (not (n == 0)))) (sym z) refl
 
+-- an allowed choice has a number for each bidder
 pub allowed-length : (book : Book) (f : List ℕ) → IsTrue ((market_of book).allowed f) → length f ≡ bidders_of book
 allowed-length book f t = let e = known-length (menu_of book) 0 f (fits-known (menu_of book) book.supply f t) in omega (arith, e)
 
+-- what a loser wins is worth 0
 pub lost-nothing : (book : Book) (c : CertValue) (j : ℕ) → IsFalse (uses c.choice j) → won book c j ≡ pos 0
 lost-nothing book c j t = ap (net_of book j) (eqb-true (number_of c.choice j) 0 (not-false (number_of c.choice j == 0) t))
 
 module _ (book : Book) (c : CertValue) (length_is : length c.choice ≡ bidders_of book) (h2 : (place : ℕ) → C2 book c place) (h3 : (place : ℕ) → C3 book c place) where
+  -- the choice is known
   pub known : IsTrue (is_known_after (menu_of book) 0 c.choice)
   known = known_from (menu_of book) 0 c.choice (omega (arith, length_is))
       (λ n lt. subst (λ (x : ℕ). slice_index_or c.choice x 0 ≤ length (bids_of book (suc (0 + n)))) (omega arith) ((h2 (suc (0 + n))).known (omega arith) (omega (arith, length_is))))
 
+  -- the choice is allowed
   pub allowed : IsTrue ((market_of book).allowed c.choice)
   allowed = and_from (is_known_after (menu_of book) 0 c.choice) (is_within (packages_after (menu_of book) 0 c.choice) book.supply) known ((h2 (bidders_of book + 1)).fits refl)
 
+  -- the value of the certificate is that of its choice
   pub value_is : value_of (market_of book) c.choice ≡ c.value
   value_is = (h2 (bidders_of book + 2)).value refl
 
+  -- the table obeys the rules for the net amounts
   pub obeys : Obeys (menu_of book) (net_of book) book.supply c.table
   obeys k s le lt = (h3 (k * states book + s)).rules k s le lt refl
 
@@ -67,12 +78,14 @@ module _ (book : Book) (c : CertValue) (length_is : length c.choice ≡ bidders_
   whole : (d : List ℕ) → IsTrue ((market_of book).allowed d) → IsTrue (fits_after (menu_of book) 0 (left_at book.supply (full book)) d)
   whole d t = subst (λ (l : List ℕ). IsTrue (fits_after (menu_of book) 0 l d)) (sym (left_at-whole book.supply)) t
 
+  -- no allowed choice is worth more than that of the certificate
   pub most : (d : List ℕ) → IsTrue ((market_of book).allowed d) → value_of (market_of book) d ≤ℤ value_of (market_of book) c.choice
   most d t =
       let b : sum_after (counted (net_of book)) 0 d ≤ℤ entry_at c.table 0 (full book) = bounded (menu_of book) (net_of book) book.supply c.table (λ j. refl) obeys d 0 (full book) (omega arith) (full-below book.supply) (whole d t) in
       let e = sum-counted (net_of book) (λ j. refl) 0 d in
       omega (arith, ints, b, e, top, value_is)
 
+  -- the choice is the winning one: the first of the greatest
   pub winning : IsWinning (market_of book) c.choice
   winning = record {
     passed = allowed;
@@ -96,6 +109,7 @@ module _ (book : Book) (c : CertValue) (length_is : length c.choice ≡ bidders_
       let e = sum-counted (net_of book) (λ i. refl) 0 d in
       omega (arith, ints, b, e, part.top)
 
+  -- where C4 holds, the part of a winner gives its Vickrey price
   pub vickrey : ((place : ℕ) → C4 book c place) → (j : ℕ) → 0 < j → j ≤ bidders_of book → IsTrue (uses c.choice j) → IsVickreyPrice (market_of book) c.choice j (vickrey_of book c j)
   vickrey h4 j some le used =
       let part = (h4 j).part some le used in

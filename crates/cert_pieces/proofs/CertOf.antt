@@ -271,8 +271,11 @@ body_of b s is f all =
 
 -- the certificate whose lines these are
 pub record CertOf (b s : ℕ) (is : List Line) : Type 0 where
+  -- the certificate that has the lines
   pub cert : CertValue
+  -- it has the shape that a certificate keeps
   pub kept : IsCertificate b s cert
+  -- its lines are these
   pub whole : cert_lines cert ≡ is
 
 -- the version, and what stands behind it

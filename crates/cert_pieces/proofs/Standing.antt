@@ -47,6 +47,7 @@ same_plan b s x y (RowChoice r) same = ap (λ (l : List ℤ). plan_due b s l (Ro
 same_plan b s x y End same = ap (λ (l : List ℤ). plan_due b s l End) (same (λ e. cc e))
 same_plan b s x y Nothing same = ap (λ (l : List ℤ). plan_due b s l Nothing) (same (λ e. cc e))
 
+-- the plan begins with the line that is due, and what stands behind that line follows
 pub plan_is : (b s : ℕ) (choice : List ℤ) (due : Due) → (due ≡ Nothing → ⊥) → plan_due b s choice due ≡ kind (word_of due) (numbers_due b s due) ∷ behind b s choice due
 plan_is b s choice Version some = refl
 plan_is b s choice Limits some = refl

@@ -12,6 +12,7 @@ use Rattle.cert_text.specs.Readers.{AreChosen, Leads, Halts, LeadsChosen, HaltsC
 use Rattle.cert_text.specs.declared.stop.CertStop.{CertStop}
 use Rattle.cert_text.proofs.PlanSteps.{leads_none, leads_on, leads_before, leads_then, halts_before, halts_later, halts_then}
 
+-- the numbers of a part's choice are those of a choice
 pub plain_choice : (bidders : ℕ) → AreChosen bidders (chosen bidders)
 plain_choice bidders = record { to = λ ns f. f; from = λ ns f. f }
 
@@ -30,13 +31,16 @@ module _ (bytes : List ℕ) (place bidders states j : ℕ) where
       leads_then bytes place (without_kind j ∷ []) n1 (line (codes "without") (pos j ∷ []) ∷ []) (choice_kind bidders ∷ table_kind ∷ table_plan bidders states) n3 (choice_line choice ∷ line (codes "table") [] ∷ table_lines table) a
       (leads_then bytes n1 (choice_kind bidders ∷ []) n2 (choice_line choice ∷ []) (table_kind ∷ table_plan bidders states) n3 (line (codes "table") [] ∷ table_lines table) (b (chosen bidders) (plain_choice bidders)) c)
 
+  -- halts where the line that names the winner isn't there
   pub part_first : (stop : CertStop) → Halts bytes place (without_kind j ∷ []) stop → Halts bytes place (part_plan bidders states j) stop
   part_first stop h = halts_before bytes place (without_kind j ∷ []) stop (choice_kind bidders ∷ table_kind ∷ table_plan bidders states) h
 
+  -- halts at the choice, behind the line that names the winner
   pub part_second : (n1 : ℕ) (stop : CertStop) → Leads bytes place (without_kind j ∷ []) n1 [] (line (codes "without") (pos j ∷ []) ∷ []) → HaltsChosen bytes n1 bidders stop → Halts bytes place (part_plan bidders states j) stop
   part_second n1 stop a h = halts_then bytes place (without_kind j ∷ []) n1 (line (codes "without") (pos j ∷ []) ∷ []) (choice_kind bidders ∷ table_kind ∷ table_plan bidders states) stop a
       (halts_before bytes n1 (choice_kind bidders ∷ []) stop (table_kind ∷ table_plan bidders states) (h (chosen bidders) (plain_choice bidders)))
 
+  -- halts in the table, behind the choice
   pub part_third : (n1 : ℕ) (choice : List ℕ) (n2 : ℕ) (stop : CertStop) → Leads bytes place (without_kind j ∷ []) n1 [] (line (codes "without") (pos j ∷ []) ∷ []) → LeadsChosen bytes n1 bidders n2 choice → Halts bytes n2 (table_kind ∷ table_plan bidders states) stop
       → Halts bytes place (part_plan bidders states j) stop
   part_third n1 choice n2 stop a b h = halts_then bytes place (without_kind j ∷ []) n1 (line (codes "without") (pos j ∷ []) ∷ []) (choice_kind bidders ∷ table_kind ∷ table_plan bidders states) stop a
@@ -50,6 +54,7 @@ module _ (bytes : List ℕ) (place bidders states j : ℕ) where
   map_more [] p = refl
   map_more (o ∷ old) p = ap (λ (l : List WithoutValue). without_value o ∷ l) (map_more old p)
 
+  -- the part of a winner is read and stands behind the others
   pub part_winner : (number : ℕ) (old : List WithoutPart) (p : WithoutPart) (next : ℕ) → 0 < number → Leads bytes place (part_plan bidders states j) next [] (own_lines (without_value p)) → IsWithout bidders states j (without_value p) → AddsPart bytes place bidders states j number old (old ++ p ∷ []) next
   part_winner zero old p next some read is = absurd (omega (arith, some))
   part_winner (suc n) old p next some read is = record {
@@ -59,6 +64,7 @@ module _ (bytes : List ℕ) (place bidders states j : ℕ) where
     are = λ ns rest h. (is, h);
   }
 
+  -- for a winner a part is to come, and what halts in it halts here
   pub part_halts : (number : ℕ) (stop : CertStop) → 0 < number → Halts bytes place (part_plan bidders states j) stop → Halts bytes place (unless_zero (pos number) (part_plan bidders states j)) stop
   part_halts zero stop some h = absurd (omega (arith, some))
   part_halts (suc n) stop some h = h
@@ -74,6 +80,7 @@ lines_both [] vs = refl
 lines_both (w ∷ ws) vs = ap (λ (l : List Line). own_lines w ++ l) (lines_both ws vs) ∙ sym (append_assoc (own_lines w) (part_lines ws) (part_lines vs))
 
 module _ (bytes : List ℕ) (place bidders states : ℕ) (choice : List ℕ) where
+  -- no part is read yet
   pub parts_start : place ≤ length bytes → PartsSoFar bytes place bidders states choice 0 place []
   parts_start within = record { leads = leads_none bytes place (parts_plan bidders states 1 (as_numbers choice)); are = λ rest h. h; within = within }
 
@@ -84,6 +91,7 @@ module _ (bytes : List ℕ) (place bidders states : ℕ) (choice : List ℕ) whe
       → Leads bytes place (parts_plan bidders states 1 (as_numbers choice)) next (unless_zero (pos (get_or choice done 0)) (part_plan bidders states (suc done)) ++ left_from (suc done) (drop (done + 1) choice)) (part_lines (map without_value parts))
   here done next parts lt h = subst (λ (ns : List ℕ). Leads bytes place (parts_plan bidders states 1 (as_numbers choice)) next (left_from done ns) (part_lines (map without_value parts))) (drop_more choice done 0 lt) h.leads
 
+  -- one bidder more, with a part where it wins
   pub parts_more : (done next : ℕ) (parts : List WithoutPart) (j number : ℕ) (new : List WithoutPart) (last : ℕ) → done < length choice → PartsSoFar bytes place bidders states choice done next parts → j ≡ done + 1 → number ≡ get_or choice done 0
       → AddsPart bytes next bidders states j number parts new last → last ≤ length bytes → PartsSoFar bytes place bidders states choice (done + 1) last new
   parts_more done next parts j number new last lt h ej en adds within =
@@ -106,6 +114,7 @@ module _ (bytes : List ℕ) (place bidders states : ℕ) (choice : List ℕ) whe
         within = within;
       }
 
+  -- halts in the part of the next bidder
   pub parts_halts : (done next : ℕ) (parts : List WithoutPart) (j number : ℕ) (stop : CertStop) → done < length choice → PartsSoFar bytes place bidders states choice done next parts → j ≡ done + 1 → number ≡ get_or choice done 0
       → Halts bytes next (unless_zero (pos number) (part_plan bidders states j)) stop → Halts bytes place (parts_plan bidders states 1 (as_numbers choice)) stop
   parts_halts done next parts j number stop lt h ej en halt =
@@ -114,6 +123,7 @@ module _ (bytes : List ℕ) (place bidders states : ℕ) (choice : List ℕ) whe
       (halts_before bytes next (unless_zero (pos (get_or choice done 0)) (part_plan bidders states (suc done))) stop (left_from (suc done) (drop (done + 1) choice))
       (subst (λ (k : ℕ). Halts bytes next (unless_zero (pos (get_or choice done 0)) (part_plan bidders states k)) stop) ej2 (subst (λ (n : ℕ). Halts bytes next (unless_zero (pos n) (part_plan bidders states j)) stop) en halt)))
 
+  -- behind the last bidder all parts of the choice are read
   pub parts_done : (done next : ℕ) (parts : List WithoutPart) → length choice ≤ done → PartsSoFar bytes place bidders states choice done next parts
       → Leads bytes place (parts_plan bidders states 1 (as_numbers choice)) next [] (part_lines (map without_value parts)) × AreWithouts bidders states 1 choice (map without_value parts)
   parts_done done next parts le h =

@@ -15,6 +15,7 @@ pub record IsPast (parts : List WithoutPart) (i j : ℕ) : Type 0 where
 abbrev part_in : ℕ → List WithoutPart → WithoutValue
 part_in j parts = part_of (map without_value parts) j
 
+-- behind parts of others, a part without bidder j is the one that is looked for
 pub part_found : (parts : List WithoutPart) (i j : ℕ) (part : WithoutPart) → i < length parts → part ≡ get_or parts i part → IsPast parts i j → part.winner ≡ j → without_value part ≡ part_of (map without_value parts) j
 part_found parts i j part lt is past own = sym (
     past.from

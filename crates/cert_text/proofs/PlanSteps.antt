@@ -50,6 +50,7 @@ module _ (bytes : List ℕ) (place : ℕ) where
     leads = λ whole plan items here. subst (λ (p : List Kind). ReachedBy whole bytes next p (items ++ read)) (sym (append_assoc left behind plan)) (l.leads whole (behind ++ plan) items (subst (λ (p : List Kind). ReachedBy whole bytes place p items) (append_assoc kinds behind plan) here));
   }
 
+  -- what halts at the first kinds halts with more to come behind
   pub halts_before : (kinds : List Kind) (stop : CertStop) (behind : List Kind) → Halts bytes place kinds stop → Halts bytes place (kinds ++ behind) stop
   halts_before kinds stop behind h = record { halts = λ whole plan items here. h.halts whole (behind ++ plan) items (subst (λ (p : List Kind). ReachedBy whole bytes place p items) (append_assoc kinds behind plan) here) }
 
@@ -61,16 +62,20 @@ module _ (bytes : List ℕ) (place : ℕ) where
   pub leads_then : (kinds : List Kind) (next : ℕ) (read : List Line) (others : List Kind) (last : ℕ) (more : List Line) → Leads bytes place kinds next [] read → Leads bytes next others last [] more → Leads bytes place (kinds ++ others) last [] (read ++ more)
   leads_then kinds next read others last more first second = leads_on (kinds ++ others) next others read last [] more (leads_before kinds next [] read others first) second
 
+  -- halts at the kinds behind those that were read
   pub halts_then : (kinds : List Kind) (next : ℕ) (read : List Line) (others : List Kind) (stop : CertStop) → Leads bytes place kinds next [] read → Halts bytes next others stop → Halts bytes place (kinds ++ others) stop
   halts_then kinds next read others stop first halt = halts_later (kinds ++ others) next others read stop (leads_before kinds next [] read others first) halt
 
+  -- want of memory may halt anywhere
   pub halts_memory : (kinds : List Kind) → Halts bytes place kinds Memory
   halts_memory kinds = record { halts = λ whole plan items here. tt }
 
   module _ (word : List ℕ) (n : Numbers) where
+    -- where no line feed is left, the line is of wrong form
     pub line_missing : IsLine (drop place bytes) → Halts bytes place (kind word n ∷ []) (Form place)
     line_missing none = record { halts = λ whole plan items here. reached-missing bytes place (kind word n) plan items here none }
 
+    -- a line that isn't the word with numbers is of wrong form
     pub line_none : (size : ℕ) → IsLine (take size (drop place bytes)) → drop size (drop place bytes) ≡ 10 ∷ drop (size + 1) (drop place bytes) → ((ns : List ℤ) → take size (drop place bytes) ≡ word ++ numbers_text ns → ⊥) → Halts bytes place (kind word n ∷ []) (Form place)
     line_none size is_line feed none = record {
       halts = λ whole plan items here. reached-refused bytes place (kind word n) plan items here size is_line feed
@@ -78,6 +83,7 @@ module _ (bytes : List ℕ) (place : ℕ) where
     }
 
     module _ (kept : List ℤ) (beyond : Bool) (next : ℕ) (at : IsLineAt bytes place word kept beyond next) where
+      -- a line whose numbers are in range and fit is read, and what it asks for is to come
       pub line_next : beyond ≡ false → FitNumbers n kept → Leads bytes place (kind word n ∷ []) next (after_numbers n kept) (line word kept ∷ [])
       line_next inside fit =
           let same : kept ≡ at.numbers = at.same inside in
@@ -87,6 +93,7 @@ module _ (bytes : List ℕ) (place : ℕ) where
                 (record { word = refl; numbers = fit }) (at.spelled ∙ ap (λ (ns : List ℤ). word ++ numbers_text ns) (sym same)) (ap any_out same ∙ at.out ∙ inside) at.inside);
           }
 
+      -- a line whose numbers don't fit is of wrong form
       pub line_unfit : ((ns : List ℤ) → length kept ≡ length ns → (beyond ≡ false → kept ≡ ns) → any_out ns ≡ beyond → FitNumbers n ns → ⊥) → Halts bytes place (kind word n ∷ []) (Form place)
       line_unfit other = record {
         halts = λ whole plan items here. reached-refused bytes place (kind word n) plan items here at.size at.is_line at.feed
@@ -97,11 +104,13 @@ module _ (bytes : List ℕ) (place : ℕ) where
           one : (ns ms : List ℤ) → word ++ numbers_text ns ≡ word ++ numbers_text ms → ns ≡ ms
           one ns ms e = one_behind word ns ms e
 
+      -- a line of right form with a number out of range is the first beyond the range
       pub line_out : beyond ≡ true → ((ns : List ℤ) → length kept ≡ length ns → FitNumbers n ns) → Halts bytes place (kind word n ∷ []) (Range place)
       line_out out fit = record {
         halts = λ whole plan items here. reached-beyond bytes place (kind word n) plan items here at.size at.is_line at.feed (line word at.numbers)
             (record { word = refl; numbers = fit at.numbers at.count }) at.spelled (at.out ∙ out);
       }
 
+      -- where none is out of range, the numbers kept are in range
       pub line_range : beyond ≡ false → AllInRange kept
       line_range inside = all_in kept (ap any_out (at.same inside) ∙ at.out ∙ inside)

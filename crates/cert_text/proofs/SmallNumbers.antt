@@ -15,6 +15,7 @@ use Rattle.cert_text.specs.Readers.{IsLineAt, Leads, Halts, HaltsLike, LeadsLike
 use Rattle.cert_text.specs.declared.stop.CertStop.TheVariants.{Form}
 use Rattle.cert_text.proofs.PlanSteps.{line_next, line_unfit}
 
+-- one more number stands behind the others
 pub as_more : (ns : List ℕ) (n : ℕ) → as_numbers (ns ++ n ∷ []) ≡ as_numbers ns ++ pos n ∷ []
 as_more [] n = refl
 as_more (m ∷ ns) n = ap (λ (l : List ℤ). pos m ∷ l) (as_more ns n)
@@ -24,6 +25,7 @@ pub numbers_push : (xs : List ℤ) (z : ℤ) → AreNumbers 65535 xs → pos 0 �
 numbers_push [] z all low high = (low, high, tt)
 numbers_push (x ∷ xs) z all low high = (all.0, all.1, numbers_push xs z all.2 low high)
 
+-- each of such numbers is from 0 to 65,535
 pub numbers_at : (xs : List ℤ) (i : ℕ) → i < length xs → AreNumbers 65535 xs → (pos 0 ≤ℤ get_or xs i (pos 0)) × (get_or xs i (pos 0) ≤ℤ pos 65535)
 numbers_at [] i lt all = absurd (omega arith)
 numbers_at (x ∷ xs) zero lt all = (all.0, all.1)
@@ -49,16 +51,20 @@ small_in (n ∷ ns) all e = first (is_out n) refl e (λ r. small_in ns all.2 r)
     first true is e more = large n all.0 all.1 is
     first false is e more = more e
 
+-- such a number for each bidder is a choice
 pub is_choice : (bidders : ℕ) (ns : List ℕ) → AreNumbers 65535 (as_numbers ns) → length ns ≡ bidders → IsChoice bidders ns
 is_choice bidders ns all many = (many, at_most ns all)
 
 module _ (bytes : List ℕ) (place bidders : ℕ) (ns : List ℕ) (next : ℕ) where
+  -- a line with such a number for each bidder is read as a choice
   pub each_next : (word : List ℕ) → IsLineAt bytes place word (as_numbers ns) false next → AreNumbers 65535 (as_numbers ns) → length ns ≡ bidders → LeadsLike bytes place word (chosen bidders) next (as_numbers ns)
   each_next word at all many = λ n is. line_next bytes place word n (as_numbers ns) false next at refl (is.from (as_numbers ns) (long_numbers ns ∙ many, all))
 
+  -- a line with more or fewer numbers than bidders is of wrong form
   pub each_other : (word : List ℕ) → IsLineAt bytes place word (as_numbers ns) false next → (length ns ≡ bidders → ⊥) → HaltsLike bytes place word (chosen bidders) (Form place)
   each_other word at other = λ n is. line_unfit bytes place word n (as_numbers ns) false next at (λ ms many same out fit. other (sym (long_numbers ns) ∙ many ∙ (is.to ms fit).0))
 
+  -- a line of rising bidders, at least one, is read as the members of a row
   pub members_next : IsLineAt bytes place (codes "row") (as_numbers ns) false next → 0 < length ns → AreMembers bidders 0 ns → Leads bytes place (kind (codes "row") (members bidders) ∷ []) next [] (line (codes "row") (as_numbers ns) ∷ [])
   members_next at some are = line_next bytes place (codes "row") (members bidders) (as_numbers ns) false next at refl (omega (arith, some, long_numbers ns), rises 0 ns are)
     where
@@ -66,6 +72,7 @@ module _ (bytes : List ℕ) (place bidders : ℕ) (ns : List ℕ) (next : ℕ) w
       rises before [] are = tt
       rises before (n ∷ ns) are = (omega (arith, ints, are.0), omega (arith, ints, are.1), rises n ns are.2)
 
+  -- a line of other numbers is of wrong form where members are to come
   pub members_other : IsLineAt bytes place (codes "row") (as_numbers ns) false next → ((0 < length ns) × AreMembers bidders 0 ns → ⊥) → Halts bytes place (kind (codes "row") (members bidders) ∷ []) (Form place)
   members_other at other = line_unfit bytes place (codes "row") (members bidders) (as_numbers ns) false next at
       (λ ms many same out fit. let back : FitNumbers (members bidders) (as_numbers ns) = subst (FitNumbers (members bidders)) (sym (same refl)) fit in
@@ -75,11 +82,13 @@ module _ (bytes : List ℕ) (place bidders : ℕ) (ns : List ℕ) (next : ℕ) w
       are before [] rise = tt
       are before (n ∷ ns) rise = (omega (arith, ints, rise.0), omega (arith, ints, rise.1), are n ns rise.2)
 
+  -- a line of one number of at most 10, which is 0 without bidders, is read as the count of rows
   pub count_next : IsLineAt bytes place (codes "rows") (as_numbers ns) false next → (count : ℕ) → IsCount bidders ns count → LeadsCounted bytes place bidders next count
   count_next at count is = λ n like.
       let one : as_numbers ns ≡ pos count ∷ [] = ap as_numbers is.0 in
       line_next bytes place (codes "rows") n (pos count ∷ []) false next (subst (λ (l : List ℤ). IsLineAt bytes place (codes "rows") l false next) one at) refl (like.from (pos count ∷ []) (count, refl, is.1, is.2))
 
+  -- a line of what is no count of rows is of wrong form where one is to come
   pub count_other : IsLineAt bytes place (codes "rows") (as_numbers ns) false next → (FitNumbers (counted bidders) (as_numbers ns) → ⊥) → HaltsCounted bytes place bidders (Form place)
   count_other at other = λ n like. line_unfit bytes place (codes "rows") n (as_numbers ns) false next at (λ ms many same out fit. other (subst (FitNumbers (counted bidders)) (sym (same refl)) (like.to ms fit)))
 
@@ -91,6 +100,7 @@ module _ (bytes : List ℕ) (place bidders : ℕ) (ns : List ℕ) (next : ℕ) w
       small before [] low rise = tt
       small before (m ∷ ms) low rise = (omega (arith, ints, low, rise.0), omega (arith, ints, rise.1, few), small m ms (omega (arith, ints, low, rise.0)) rise.2)
 
+  -- a count of rows is from 0 to 65,535
   pub count_small : (ms : List ℤ) → FitNumbers (counted bidders) ms → AreNumbers 65535 ms
   count_small ms fit = subst (AreNumbers 65535) (sym fit.1) (omega (arith, ints), omega (arith, ints, fit.2), tt)
 
@@ -110,9 +120,11 @@ below_z a b e = lt_z_yes (subst T (sym e) tt)
 least_z : (a b : ℤ) → lt_z a b ≡ false → b ≤ℤ a
 least_z a b e = lt_z_no (subst (λ (c : Bool). T (not c)) (sym e) tt)
 
+-- with a number below 0 not all are such numbers
 pub low_other : (items : List ℤ) (i : ℕ) → i < length items → lt_z (get_or items i (pos 0)) (pos 0) ≡ true → AreNumbers 65535 items → ⊥
 low_other items i lt e all = let z = numbers_at items i lt all in omega (arith, ints, z.0, below_z (get_or items i (pos 0)) (pos 0) e)
 
+-- nor with one above 65,535
 pub high_other : (items : List ℤ) (i : ℕ) → i < length items → lt_z (pos 65535) (get_or items i (pos 0)) ≡ true → AreNumbers 65535 items → ⊥
 high_other items i lt e all = let z = numbers_at items i lt all in omega (arith, ints, z.1, below_z (pos 65535) (get_or items i (pos 0)) e)
 

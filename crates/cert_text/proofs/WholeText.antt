@@ -41,6 +41,7 @@ first_feed (c ∷ bytes) = first (c == 10) refl (first_feed bytes)
         more : suc (found.0 + 1) ≡ suc found.0 + 1
         more = omega arith
 
+-- where nothing is to come, bytes that are left are a faulty line
 pub end_halts : (bytes : List ℕ) (place : ℕ) → place < length bytes → HaltsAtEnd bytes place (Form place)
 end_halts bytes place lt whole items here = elim (first_feed (drop place bytes)) [
   | inl none ↦ reached-tail bytes place items here none (omega (arith, length-drop place bytes, lt))
@@ -60,6 +61,7 @@ module _ (b s : ℕ) (bytes : List ℕ) where
   stops : (stop : CertStop) → Halts bytes 0 (cert_plan b s) stop → StopsAt b s bytes stop
   stops stop h = cert_stops b s bytes stop (h.halts (cert_plan b s) [] [] start)
 
+  -- a stop in the lines of the version is what the bytes say
   pub version_stops : (stop : CertStop) → Halts bytes 0 (version_plan b s) stop → StopsAt b s bytes stop
   version_stops stop h = stops stop (halts_before bytes 0 (version_plan b s) stop (body_plan b s) h)
 
@@ -67,6 +69,7 @@ module _ (b s : ℕ) (bytes : List ℕ) where
     from_opening : (stop : CertStop) → Halts bytes n0 (body_plan b s) stop → StopsAt b s bytes stop
     from_opening stop h = stops stop (halts_then bytes 0 (version_plan b s) n0 (version_lines b s) (body_plan b s) stop zeroth h)
 
+    -- and so is one in the opening, behind the version
     pub opening_stops : (stop : CertStop) → Halts bytes n0 opening_plan stop → StopsAt b s bytes stop
     opening_stops stop h = from_opening stop (halts_before bytes n0 opening_plan stop (winning_kind b s ∷ (payment_plan b ++ closing_plan b s)) h)
 
@@ -74,6 +77,7 @@ module _ (b s : ℕ) (bytes : List ℕ) where
       from_winning : (stop : CertStop) → Halts bytes n1 (winning_kind b s ∷ (payment_plan b ++ closing_plan b s)) stop → StopsAt b s bytes stop
       from_winning stop h = from_opening stop (halts_then bytes n0 opening_plan n1 (opening_lines den value) (winning_kind b s ∷ (payment_plan b ++ closing_plan b s)) stop one h)
 
+      -- one at the winning choice, its table and its parts, behind the opening
       pub winning_stops : (stop : CertStop) → Halts bytes n1 (winning_kind b s ∷ []) stop → StopsAt b s bytes stop
       winning_stops stop h = from_winning stop (halts_before bytes n1 (winning_kind b s ∷ []) stop (payment_plan b ++ closing_plan b s) h)
 
@@ -81,10 +85,12 @@ module _ (b s : ℕ) (bytes : List ℕ) where
         from_payments : (stop : CertStop) → Halts bytes n2 (payment_plan b ++ closing_plan b s) stop → StopsAt b s bytes stop
         from_payments stop h = from_winning stop (halts_then bytes n1 (winning_kind b s ∷ []) n2 (winning_lines choice table (map without_value withouts)) (payment_plan b ++ closing_plan b s) stop two h)
 
+        -- one in the payments and rows, behind the parts
         pub payment_stops : (stop : CertStop) → Halts bytes n2 (payment_plan b) stop → StopsAt b s bytes stop
         payment_stops stop h = from_payments stop (halts_before bytes n2 (payment_plan b) stop (closing_plan b s) h)
 
         module _ (pay : List ℤ) (rows : List CertRow) (n3 : ℕ) (three : Leads bytes n2 (payment_plan b) n3 [] (payment_lines pay (map row_value rows))) where
+          -- one in the lowered table and the last line, behind the rows
           pub closing_stops : (stop : CertStop) → Halts bytes n3 (closing_plan b s) stop → StopsAt b s bytes stop
           closing_stops stop h = from_payments stop (halts_then bytes n2 (payment_plan b) n3 (payment_lines pay (map row_value rows)) (closing_plan b s) stop three h)
 
@@ -103,9 +109,11 @@ module _ (b s : ℕ) (bytes : List ℕ) where
             reached : Reached b s bytes n4 [] (version_lines b s ++ body_lines value_read)
             reached = whole.leads (cert_plan b s) [] [] start
 
+            -- and one behind the last line
             pub end_stops : (stop : CertStop) → HaltsAtEnd bytes n4 stop → StopsAt b s bytes stop
             end_stops stop h = cert_stops b s bytes stop (h (cert_plan b s) (version_lines b s ++ body_lines value_read) reached)
 
+            -- where no bytes are left, they are the text of the certificate that was read
             pub text_read : IsCertificate b s value_read → length (drop n4 bytes) ≡ 0 → IsTextOf (IsCertText b s) lines bytes (cert_lines value_read)
             text_read is none = reached-end bytes n4 (cert_lines value_read) (subst (λ (ls : List Line). Reached b s bytes n4 [] (ls ++ body_lines value_read)) (sym (version_is b s value_read is)) reached) none
 
@@ -114,6 +122,7 @@ pub made : (b s : ℕ) (den value : ℤ) (choice : List ℕ) (table : List (List
     → AreWithouts b s 1 choice (map without_value withouts) → (length pay ≡ b) × AllInRange pay → length (map row_value rows) ≤ 10 → AreRows b (map row_value rows) → IsTable b s lowered → IsCertificate b s (cert_from den value choice table withouts pay rows lowered)
 made b s den value choice table withouts pay rows lowered range c t w p few r l = record { den = range.0; value = range.1; choice = c; table = t; withouts = w; pay = p; few = few; rows = r; lowered = l }
 
+-- a table is as wide as there are states
 pub table_width : (b s : ℕ) (table : List (List ℤ)) → IsTable b s table → width_of table ≡ s
 table_width b s table t = lines_width s table t.1 (omega (arith, t.0))
 

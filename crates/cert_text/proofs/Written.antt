@@ -19,6 +19,7 @@ use Rattle.cert_text.specs.declared.certificate.Certificate.{Certificate}
 use Rattle.cert_text.specs.declared.certificate.CertRow.{CertRow}
 use Rattle.cert_text.specs.declared.certificate.WithoutPart.{WithoutPart}
 
+-- the bytes of lines and others behind them are those of both
 pub bytes_append : (xs ys : List Line) → bytes_of (xs ++ ys) ≡ bytes_of xs ++ bytes_of ys
 bytes_append [] ys = refl
 bytes_append (l ∷ ls) ys = ap (λ (b : List ℕ). spell l ++ 10 ∷ b) (bytes_append ls ys) ∙ sym (append_assoc (spell l) (10 ∷ bytes_of ls) (bytes_of ys))
@@ -74,18 +75,23 @@ module _ (b s : ℕ) where
   rows_range (r ∷ rows) h = (h.0.range, rows_range rows h.1)
 
   module _ (c : Certificate) (is : IsCertificate b s (cert_value c)) where
+    -- the numbers of its table are in range
     pub table_range : IsTableInRange c.table
     table_range = lines_range s c.table is.table.1
 
+    -- those of its lowered table are in range
     pub lowered_range : IsTableInRange c.lowered
     lowered_range = lines_range s c.lowered is.lowered.1
 
+    -- and so are those of the tables of its parts
     pub withouts_range : ArePartsInRange c.withouts
     withouts_range = parts_range 1 c.choice c.withouts is.withouts
 
+    -- it has at most ten rows
     pub few_rows : length c.rows ≤ 10
     few_rows = omega (arith, length-map c.rows row_value, is.few)
 
+    -- the multipliers of its rows are in range
     pub all_rows_range : AllByRecursion IsRowInRange c.rows
     all_rows_range = rows_range c.rows is.rows
 

@@ -12,6 +12,7 @@ first-kept (l ∷ lines) line h = refl
 one-even : (line : List ℤ) (k : ℕ) → k < 1 → length (get_or (line ∷ []) k []) ≡ length line
 one-even line k h = let first : k ≡ 0 = omega arith in rw first refl
 
+-- one more line of their width leaves the lines even
 pub even-more : (lines : Lines) (line : List ℤ) → IsEven lines → (0 < length lines → length line ≡ width_of lines) → IsEven (lines ++ line ∷ [])
 even-more [] line even same = one-even line
 even-more (l ∷ lines) line even same = λ k h.

@@ -226,6 +226,7 @@ pub past-first : (m : Menu) (counts : ℕ → ℕ → ℤ) (k j : ℕ) (left r :
 past-first m counts k j left r next empty g = rw next (past-none m counts k left r (rw next at empty) (rw next at g))
 
 module _ (m : Menu) (counts : ℕ → ℕ → ℤ) (k j : ℕ) (left : List ℕ) (next : j ≡ suc k) where
+  -- a number whose package isn't within what is left leaves the best choice as it is
   pub past-passes : (i : ℕ) (b : List ℕ) → 0 < i → is_within (m.lots j (i - 1 + 1)) left ≡ false → IsBestPast m counts k left i b → IsBestPast m counts k left (i - 1) b
   past-passes zero b some out h = absurd (omega (arith, some))
   past-passes (suc i) b some out h =
@@ -234,6 +235,7 @@ module _ (m : Menu) (counts : ℕ → ℕ → ℤ) (k j : ℕ) (left : List ℕ)
       rw low (past-skips m counts k left i b (rw (next, up) at out) h)
 
   module _ (r b after : List ℕ) where
+    -- a number that fits and, with the best choice of those after, counts at least as much gives the best choice
     pub past-better : (i : ℕ) → 0 < i → i ≤ m.bids j → IsTrue (is_within (m.lots j (i - 1 + 1)) left) → after ≡ less left (m.lots j (i - 1 + 1)) → IsFirstGreatest (fits_after m j after) (sum_after counts j) r → IsBestPast m counts k left i b → sum_after counts k b ≤ℤ sum_after counts k ((i - 1 + 1) ∷ r) → IsBestPast m counts k left (i - 1) ((i - 1 + 1) ∷ r)
     past-better zero some known own is g h most = absurd (omega (arith, some))
     past-better (suc i) some known own is g h most =
@@ -241,6 +243,7 @@ module _ (m : Menu) (counts : ℕ → ℕ → ℤ) (k j : ℕ) (left : List ℕ)
         let up : i + 1 ≡ suc i = omega arith in
         rw (low, up) (past-takes m counts k left i r b (rw next at known) (rw (next, low, up) at own) (rw (is, next, low, up) at g) h (rw (low, up) at most))
 
+    -- a number that fits but, with the best choice of those after, counts less leaves the best choice as it is
     pub past-worse : (i : ℕ) → 0 < i → i ≤ m.bids j → IsTrue (is_within (m.lots j (i - 1 + 1)) left) → after ≡ less left (m.lots j (i - 1 + 1)) → IsFirstGreatest (fits_after m j after) (sum_after counts j) r → IsBestPast m counts k left i b → sum_after counts k ((i - 1 + 1) ∷ r) <ℤ sum_after counts k b → IsBestPast m counts k left (i - 1) b
     past-worse zero some known own is g h less_than = absurd (omega (arith, some))
     past-worse (suc i) some known own is g h less_than =

@@ -85,6 +85,7 @@ module _ (terms : Terms) (st : DeskState) (same : st.terms ≡ terms) (runs : is
   close-state : clock_of (state_with st Close) ≡ after_close terms (clock_of st)
   close-state = ap (λ (s : DeskState). clock_of (state_with s Close)) staged-is ∙ staged-state terms st runs
 
+-- the desk after a log has the terms of the award
 pub terms-state_of : (terms : Terms) (log : List Event) → (state_of terms log).terms ≡ terms
 unfolding state_of
 terms-state_of terms log = refl

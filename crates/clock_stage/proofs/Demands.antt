@@ -11,6 +11,7 @@ use Rattle.auction_model.proofs.PlaceLaws.{states-positive}
 use Rattle.auction_rules.specs.Rounds.{sum_of}
 use Rattle.auction_rules.specs.Rounds.{listing}
 
+-- two packages of as many categories have as many together
 pub length-together : (p q : List ℕ) → length q ≡ length p → length (together p q) ≡ length p
 length-together [] [] e = refl
 length-together [] (b ∷ q) e = e
@@ -46,20 +47,24 @@ left_at-zero (s ∷ supply) =
     let rest : 0 % states_of supply ≡ 0 = omega arith in
     rw (none, rest) (ap (λ (p : List ℕ). 0 ∷ p) (left_at-zero supply))
 
+-- a package without a lot has 0 lots in sum
 pub zeros-sum : (supply : List ℕ) → sum (map {A = ℕ} {B = ℕ} (λ n. 0) supply) ≡ 0
 zeros-sum [] = refl
 zeros-sum (s ∷ supply) =
     let parts : sum (0 ∷ map {A = ℕ} {B = ℕ} (λ n. 0) supply) ≡ 0 + sum (map {A = ℕ} {B = ℕ} (λ n. 0) supply) = sum_by-cons (λ (n : ℕ). n) 0 (map {A = ℕ} {B = ℕ} (λ n. 0) supply) in
     omega (arith, parts, zeros-sum supply)
 
+-- a package without a lot is as many zeros as there are categories
 pub zeros-replicate : (supply : List ℕ) → map {A = ℕ} {B = ℕ} (λ n. 0) supply ≡ replicate (length supply) 0
 zeros-replicate [] = refl
 zeros-replicate (s ∷ supply) = ap (λ (p : List ℕ). 0 ∷ p) (zeros-replicate supply)
 
+-- a list whose elements all become one value is that value as many times
 pub map-same : {A B : Type 0} (y : B) (xs : List A) → map (λ x. y) xs ≡ replicate (length xs) y
 map-same y [] = refl
 map-same y (x ∷ xs) = ap (λ t. y ∷ t) (map-same y xs)
 
+-- a listing of one value for each number is that value as many times
 pub listing-same_each : {A : Type 0} (y : A) (n : ℕ) → listing (λ j. y) n ≡ replicate n y
 listing-same_each y zero = refl
 listing-same_each y (suc n) = ap (λ t. t ++ y ∷ []) (listing-same_each y n) ∙ replicate_more n y ∙ (rw add-one refl)

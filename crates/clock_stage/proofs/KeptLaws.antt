@@ -74,6 +74,7 @@ bid-kept clock i lots kept e few =
       room = kept.room;
     }
 
+-- there are as many raised prices as prices
 pub length-raised_prices : (tick : ℕ) (thresholds : List (ℕ × ℕ)) (prices d supply : List ℕ) → length (raised_prices tick thresholds prices d supply) ≡ length prices
 length-raised_prices tick thresholds [] d supply = refl
 length-raised_prices tick thresholds (p ∷ prices) [] supply = refl

@@ -20,15 +20,18 @@ blocks-more (u ∷ past) t = ap (with_block u.block) (blocks-more past t) ∙ wi
 pub blocks-block : (past : List Turn) (t : Turn) (b : Block) → t.block ≡ Some b → blocks_of (past ++ t ∷ []) ≡ blocks_of past ++ b ∷ []
 blocks-block past t b e = blocks-more past t ∙ ap (λ o. blocks_of past ++ with_block o []) e
 
+-- a turn without a block adds none
 pub blocks-last : (past : List Turn) (t : Turn) → t.block ≡ None → blocks_of (past ++ t ∷ []) ≡ blocks_of past
 blocks-last past t e = blocks-more past t ∙ ap (λ o. blocks_of past ++ with_block o []) e ∙ append-nil (blocks_of past)
 
+-- the rows with that of the block are the first ones and those of all turns with this one
 pub rows-block : (rows start : List Row) (past : List Turn) (t : Turn) (b : Block) → t.block ≡ Some b → rows ≡ start ++ block_rows past → rows ++ b.row ∷ [] ≡ start ++ block_rows (past ++ t ∷ [])
 rows-block rows start past t b e h =
     ap (λ l. l ++ b.row ∷ []) h
     ∙ append_assoc start (block_rows past) (b.row ∷ [])
     ∙ ap (λ l. start ++ l) (sym (map-append (λ b. b.row) (blocks_of past) (b ∷ [])) ∙ ap (map (λ b. b.row)) (sym (blocks-block past t b e)))
 
+-- the choices with that of the block are the first ones and those of all turns with this one
 pub choices-block : (choices start : List (List ℕ)) (past : List Turn) (t : Turn) (b : Block) → t.block ≡ Some b → choices ≡ start ++ block_choices past → choices ++ b.choice ∷ [] ≡ start ++ block_choices (past ++ t ∷ [])
 choices-block choices start past t b e h =
     ap (λ l. l ++ b.choice ∷ []) h
@@ -39,5 +42,6 @@ choices-block choices start past t b e h =
 pub rows-last : (past : List Turn) (t : Turn) → t.block ≡ None → block_rows (past ++ t ∷ []) ≡ block_rows past
 rows-last past t e = ap (map (λ b. b.row)) (blocks-last past t e)
 
+-- nor does it add a choice
 pub choices-last : (past : List Turn) (t : Turn) → t.block ≡ None → block_choices (past ++ t ∷ []) ≡ block_choices past
 choices-last past t e = ap (map (λ b. b.choice)) (blocks-last past t e)

@@ -26,6 +26,7 @@ use Rattle.core_price.specs.Turns.{point_of}
 use Rattle.core_price.proofs.Places.{place-of}
 use Rattle.core_price.proofs.Points.{at-bidder, asks-winners}
 
+-- where one number of a sum changes, the sum changes by as much
 pub sum-change : (n : ℕ) (f g : ℕ → ℤ) (k : ℕ) → k < n → ((i : ℕ) → i < n → ¬ (i ≡ k) → f i ≡ g i) → total n g ≡ total n f +ℤ (g k -ℤ f k)
 sum-change zero f g k lt h = absurd (omega arith)
 sum-change (suc n) f g k lt h =
@@ -99,6 +100,7 @@ module _ (m : Market) (lawful : IsMarket m) (z : List ℕ) (win : IsWinning m z)
       let b : suc k - 1 ≡ k = omega arith in
       tight-below t.0 t.1 (firsts.tight t.0 t.1 f) k lk (ap (has_bit z (row_at rows t.0).members) b ∙ q.1.member (row_at rows t.0).members h)
 
+  -- a free point with such multipliers, over a positive denominator and with no payment below 0, is in the core
   pub core-of : pos 1 ≤ℤ den → ((i : ℕ) → i < winners_in z → pos 0 ≤ℤ nth at i) → IsCorePoint m z (point_of z den at)
   core-of dp nonneg =
       let asks = asks-winners m z len den at in

@@ -15,6 +15,7 @@ use Rattle.core_price.specs.Answers.{IsAnswer}
 use Rattle.lin_solve.specs.Elimination.{AreQuotients}
 use Rattle.core_price.specs.Lowest.{IsMultiple}
 
+-- a number above 0 isn't 0
 pub not-zero : (g : ℤ) → pos 0 <ℤ g → g ≢ pos 0
 not-zero g p e = absurd (omega (arith, ints))
 
@@ -114,6 +115,7 @@ module _ (prices : List ℤ) (weights : List ℕ) (rows : List Row) (g den : ℤ
   den-below : (top : ℕ) → all_den <ℤ pos top → den <ℤ pos top
   den-below top small = size-below den top (let f = factor_size g den h.positive in let e = ap unsigned_abs h.den_is in let k = below-size all_den top a.meets.positive small in omega (arith, f, e, k))
 
+  -- an answer whose numbers are all divided by the same number is an answer
   pub answer-divided : IsAnswer prices weights rows den at first second
   answer-divided = record {
     long_at = h.at_is.long ∙ a.long_at;

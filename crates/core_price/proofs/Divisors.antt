@@ -37,6 +37,7 @@ pub record IsCommon (start : ℤ) (numbers : List ℤ) (k : ℕ) (divisor : ℤ)
   pub each : (i : ℕ) → i < k → Divides divisor (nth numbers i)
   pub greatest : (g : ℕ) → Divides (pos g) start → DividesAll (pos g) numbers → Divides (pos g) divisor
 
+-- before the first number of the list, the start itself is the greatest common divisor so far
 pub common-none : (start : ℤ) (numbers : List ℤ) → pos 0 <ℤ start → InRange start → IsCommon start numbers 0 start
 common-none start numbers p r = record {
   positive = p;
@@ -51,6 +52,7 @@ divisor-some d (pos zero) p low q = absurd (let e = q.1 in omega (arith, ints))
 divisor-some d (pos (suc x)) p low q = omega (arith, ints)
 divisor-some d (negsuc x) p low q = absurd (omega (arith, ints))
 
+-- the greatest common divisor so far and the next number have that of one number more
 pub common-more : (start : ℤ) (numbers : List ℤ) (k : ℕ) (divisor next : ℤ) → IsCommon start numbers k divisor → k < length numbers → pos 0 ≤ℤ next → IsGcd (unsigned_abs divisor) (unsigned_abs (nth numbers k)) (unsigned_abs next) → InRange next → IsCommon start numbers (k + 1) next
 common-more start numbers k divisor next far lt low is range =
     let d = gcd-divides divisor (nth numbers k) next low is in
@@ -110,5 +112,6 @@ point-divided den at first second one two all a b c =
       second_is = c.each;
     }
 
+-- what divides a point and its multipliers divides the greatest common divisor taken list by list
 pub point-greatest : (den : ℤ) (at first second : List ℤ) (one two all : ℤ) → IsGreatest den at one → IsGreatest one first two → IsGreatest two second all → (g : ℕ) → DividesPoint (pos g) den at first second → Divides (pos g) all
 point-greatest den at first second one two all a b c g q = c.greatest g (b.greatest g (a.greatest g q.den_is q.at_is) q.first_is) q.second_is

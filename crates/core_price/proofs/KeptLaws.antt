@@ -37,10 +37,12 @@ module _ (rows : List Row) (choices : List (List ℕ)) (first second : List ℤ)
       ∙ ap (λ l. kept ++ l) (sym (filter-true x (with_pairs (drop (i + 1) rows) (drop (i + 1) choices) (drop (i + 1) first) (drop (i + 1) second)) used) ∙ ap (λ (y : PricedRow). filter is_used (y ∷ with_pairs (drop (i + 1) rows) (drop (i + 1) choices) (drop (i + 1) first) (drop (i + 1) second))) is ∙ ap (filter is_used) (sym (pairs-step rows choices first second i r c f s)))
       ∙ far
 
+  -- a row whose pair isn't 0, 0 is kept, and those after it follow
   pub kept-one : (row : Row) (choice : List ℕ) (one two : ℤ) → row ≡ get_or rows i (record { members = 0; bound = pos 0 }) → choice ≡ get_or choices i [] → one ≡ get_or first i (pos 0) → two ≡ get_or second i (pos 0) → pair_used one two ≡ true
       → (kept ++ record { row = row; choice = choice; first = one; second = two } ∷ []) ++ filter is_used (with_pairs (drop (i + 1) rows) (drop (i + 1) choices) (drop (i + 1) first) (drop (i + 1) second)) ≡ all
   kept-one row choice one two a b c d used = kept-entry (record { row = row; choice = choice; first = one; second = two }) (cc) used
 
+  -- a row whose pair is 0, 0 is left out, and those after it follow
   pub kept-none : pair_used (get_or first i (pos 0)) (get_or second i (pos 0)) ≡ false → kept ++ filter is_used (with_pairs (drop (i + 1) rows) (drop (i + 1) choices) (drop (i + 1) first) (drop (i + 1) second)) ≡ all
   kept-none unused =
       ap (λ l. kept ++ l) (sym (filter-false (entry rows choices first second i) (with_pairs (drop (i + 1) rows) (drop (i + 1) choices) (drop (i + 1) first) (drop (i + 1) second)) unused) ∙ ap (filter is_used) (sym (pairs-step rows choices first second i r c f s)))

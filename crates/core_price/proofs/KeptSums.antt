@@ -21,6 +21,7 @@ use Rattle.core_price.specs.Lowest.{IsLowest}
 use Rattle.core_price.specs.declared.priced.PricedRow.{PricedRow}
 use Rattle.core_price.proofs.KeptLaws.{entry}
 
+-- in a used pair one multiplier isn't 0
 pub used-some : (f s : ℤ) → pair_used f s ≡ true → (f ≢ pos 0) ⊎ (s ≢ pos 0)
 used-some f s e = by (int_eq f (pos 0)) (int_eq s (pos 0)) (Decides-int_eq f (pos 0)).1 (Decides-int_eq s (pos 0)).1 e
   where
@@ -29,6 +30,7 @@ used-some f s e = by (int_eq f (pos 0)) (int_eq s (pos 0)) (Decides-int_eq f (po
     by true false p q e = inr (λ z. false≢true (q z))
     by false b p q e = inl (λ z. false≢true (p z))
 
+-- in a pair that isn't used both multipliers are 0
 pub unused-none : (f s : ℤ) → pair_used f s ≡ false → (f ≡ pos 0) × (s ≡ pos 0)
 unused-none f s e = by (int_eq f (pos 0)) (int_eq s (pos 0)) (Decides-int_eq f (pos 0)).0 (Decides-int_eq s (pos 0)).0 e
   where
@@ -47,6 +49,7 @@ pub record AreLong (rows : List Row) (choices : List (List ℕ)) (first second :
 abbrev pub kept_of : List Row → List (List ℕ) → List ℤ → List ℤ → List PricedRow
 kept_of rows choices first second = filter is_used (with_pairs rows choices first second)
 
+-- the first row is used and kept, or is neither
 pub take-or-skip : (x : PricedRow) (xs : List PricedRow) → ((is_used x ≡ true) × (filter is_used (x ∷ xs) ≡ x ∷ filter is_used xs)) ⊎ ((is_used x ≡ false) × (filter is_used (x ∷ xs) ≡ filter is_used xs))
 take-or-skip x xs = by (cases_Bool (is_used x))
   where
@@ -149,12 +152,14 @@ second-in kept i lt = get_or-map (λ r. r.second) kept i no_row (pos 0) lt
 
 -- the multipliers of all rows, at their point
 module _ (m : ℕ) (rows : List Row) (choices : List (List ℕ)) (first second : List ℤ) (long : AreLong rows choices first second) (den : ℤ) (at : ℕ → ℤ) where
+  -- at each coordinate the first multipliers of the kept rows come to what those of all rows come to
   pub first_sum : (j : ℕ) → sum_at (length (kept_of rows choices first second)) (coefficients (rows_in (kept_of rows choices first second))) (nth (firsts (kept_of rows choices first second))) j ≡ sum_at (length rows) (coefficients rows) (nth first) j
   first_sum j =
       total-same (length (kept_of rows choices first second)) (λ i. nth (firsts (kept_of rows choices first second)) i *ℤ coefficients (rows_in (kept_of rows choices first second)) i j) (λ i. (get_or (kept_of rows choices first second) i no_row).first *ℤ holds (get_or (kept_of rows choices first second) i no_row).row.members j)
       (λ i lt. ap (λ (t : ℤ). t *ℤ coefficients (rows_in (kept_of rows choices first second)) i j) (first-in (kept_of rows choices first second) i lt) ∙ ap (λ (r : Row). (get_or (kept_of rows choices first second) i no_row).first *ℤ holds r.members j) (row-in (kept_of rows choices first second) i lt))
       ∙ kept-total (λ x. x.first *ℤ holds x.row.members j) (λ x u. zero_times x.first (holds x.row.members j) (unused-none x.first x.second u).0) rows choices first second long
 
+  -- and so do the second multipliers
   pub second_sum : (j : ℕ) → sum_at (length (kept_of rows choices first second)) (coefficients (rows_in (kept_of rows choices first second))) (nth (seconds (kept_of rows choices first second))) j ≡ sum_at (length rows) (coefficients rows) (nth second) j
   second_sum j =
       total-same (length (kept_of rows choices first second)) (λ i. nth (seconds (kept_of rows choices first second)) i *ℤ coefficients (rows_in (kept_of rows choices first second)) i j) (λ i. (get_or (kept_of rows choices first second) i no_row).second *ℤ holds (get_or (kept_of rows choices first second) i no_row).row.members j)
@@ -162,6 +167,7 @@ module _ (m : ℕ) (rows : List Row) (choices : List (List ℕ)) (first second :
       ∙ kept-total (λ x. x.second *ℤ holds x.row.members j) (λ x u. zero_times x.second (holds x.row.members j) (unused-none x.first x.second u).1) rows choices first second long
 
   module _ (a : AreFirst m (length rows) (coefficients rows) (bounds rows) den at (nth first)) where
+    -- if all rows have first multipliers for the point, so have the kept rows
     pub kept-first : AreFirst m (length (kept_of rows choices first second)) (coefficients (rows_in (kept_of rows choices first second))) (bounds (rows_in (kept_of rows choices first second))) den at (nth (firsts (kept_of rows choices first second)))
     kept-first = record {
       positive = a.positive;
@@ -170,6 +176,7 @@ module _ (m : ℕ) (rows : List Row) (choices : List (List ℕ)) (first second :
     }
 
     module _ (target weight : ℕ → ℤ) (b : AreSecond m (length rows) (coefficients rows) (bounds rows) den at (nth first) (nth second) target weight) where
+      -- and the same of the second multipliers
       pub kept-second : AreSecond m (length (kept_of rows choices first second)) (coefficients (rows_in (kept_of rows choices first second))) (bounds (rows_in (kept_of rows choices first second))) den at (nth (firsts (kept_of rows choices first second))) (nth (seconds (kept_of rows choices first second))) target weight
       kept-second = record {
         sign = λ i lt z. subst (λ (t : ℤ). pos 0 ≤ℤ t) (sym (second-in (kept_of rows choices first second) i lt)) (each-at (λ x. x.first ≡ pos 0 → pos 0 ≤ℤ x.second) (kept_of rows choices first second) (kept-each (λ x. x.first ≡ pos 0 → pos 0 ≤ℤ x.second) rows choices first second long (λ j lj u e. b.sign j lj e)) i lt (sym (first-in (kept_of rows choices first second) i lt) ∙ z));

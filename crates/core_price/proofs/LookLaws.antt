@@ -31,6 +31,7 @@ abs-sum : (n : ℕ) (f : ℕ → ℕ) (b : ℕ) → ((j : ℕ) → 0 < j → j �
 abs-sum zero f b h = omega arith
 abs-sum (suc n) f b h = let r = abs-sum n f b (λ j q le. h j q (omega arith)) in let o = h (suc n) (omega arith) (omega arith) in omega arith
 
+-- a denominator of a turn times an amount of at most 2^46 is at most 2^80
 pub small-product : (d w : ℤ) → pos 0 ≤ℤ d → d ≤ℤ pos (320 ^ 4) → pos 0 ≤ℤ w → w ≤ℤ pos (2 ^ 46) → (d *ℤ w) ≤ℤ pos (2 ^ 80)
 small-product (negsuc d) w a b p q = absurd (omega (arith, ints))
 small-product (pos d) (negsuc w) a b p q = absurd (omega (arith, ints))
@@ -78,6 +79,7 @@ module _ (m : Market) (lawful : IsMarket m) (z : List ℕ) (win : IsWinning m z)
       let a = each k (omega arith) in
       rw e (abs-of ((den *ℤ worth_in m z (suc k)) -ℤ of_bidder (for_bidders z at) (suc k)) (2 ^ 110) (omega (arith, ints, a.0, a.1)) (omega (arith, ints, a.0, a.1)))
 
+  -- the point of a turn meets the conditions of the look for a block
   pub can-look : CanLook m z den (for_bidders z at)
   can-look = record {
     asks = asks-winners m z len den at;

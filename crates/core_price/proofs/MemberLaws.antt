@@ -25,6 +25,7 @@ module _ (z : List ℕ) (bits k rest : ℕ) (others : (i : ℕ) → has_bit (dro
   one-more false bidder ms = sym (append-nil ms)
 
   module _ (list new : List ℕ) (made : list ≡ members_of (row_of z bits) k) where
+    -- a loser adds no member
     pub loser-made : k < length z → get_or z k 0 ≡ 0 → new ≡ list → new ≡ members_of (row_of z bits) (k + 1)
     loser-made inside none is =
         let split : drop k z ≡ 0 ∷ drop (k + 1) z = drop_more z k 0 inside ∙ ap (λ (n : ℕ). n ∷ drop (k + 1) z) none in
@@ -34,6 +35,7 @@ module _ (z : List ℕ) (bits k rest : ℕ) (others : (i : ℕ) → has_bit (dro
         ap (members_of (row_of z bits)) up ∙ ap (λ (b : Bool). cond b (members_of (row_of z bits) k ++ suc k ∷ []) (members_of (row_of z bits) k)) out in
         is ∙ made ∙ sym same
 
+    -- a winner is one member more where the lowest bit that is left is set
     pub winner-made : (n : ℕ) → k < length z → get_or z k 0 ≡ suc n → new ≡ list ++ lowest_member rest (k + 1) → new ≡ members_of (row_of z bits) (k + 1)
     winner-made n inside some is =
         let split : drop k z ≡ suc n ∷ drop (k + 1) z = drop_more z k 0 inside ∙ ap (λ (x : ℕ). x ∷ drop (k + 1) z) some in
@@ -46,8 +48,10 @@ module _ (z : List ℕ) (bits k rest : ℕ) (others : (i : ℕ) → has_bit (dro
         ∙ ap (λ (j : ℕ). members_of (row_of z bits) k ++ lowest_member rest j) (sym up) in
         is ∙ ap (λ (l : List ℕ). l ++ lowest_member rest (k + 1)) made ∙ sym more
 
+  -- past a loser the bits that are left are those of the bidders after it
   pub loser-others : k < length z → get_or z k 0 ≡ 0 → (i : ℕ) → has_bit (drop (k + 1) z) rest i ≡ has_bit z bits (k + 1 + i)
   loser-others inside none = later 0 rest (drop_more z k 0 inside ∙ ap (λ (n : ℕ). n ∷ drop (k + 1) z) none) (λ i. refl)
 
+  -- past a winner the bits that are left but the lowest are those of the bidders after it
   pub winner-others : (n : ℕ) → k < length z → get_or z k 0 ≡ suc n → (i : ℕ) → has_bit (drop (k + 1) z) (rest / 2) i ≡ has_bit z bits (k + 1 + i)
   winner-others n inside some = later (suc n) (rest / 2) (drop_more z k 0 inside ∙ ap (λ (x : ℕ). x ∷ drop (k + 1) z) some) (λ i. refl)

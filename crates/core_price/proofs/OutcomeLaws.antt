@@ -36,9 +36,11 @@ module _ (m : Market) (lawful : IsMarket m) (z : List ℕ) (win : IsWinning m z)
     above = λ i lt. core-meets m lawful z len q core (row_at rows i) (choice_at choices i) (ended.given i lt);
   }
 
+  -- the turns are a run of pricing
   pub run : IsPricingRun m (weight_of weights) z (turns_of z turns)
   run = record { winning = win; turns_of = ended.run }
 
+  -- the last point is the core outcome by the weights
   pub outcome : IsCoreOutcome m (weight_of weights) z (point_of z den at)
   outcome = record {
     greatest = record { passed = win.passed; greatest = win.greatest };
@@ -50,5 +52,6 @@ module _ (m : Market) (lawful : IsMarket m) (z : List ℕ) (win : IsWinning m z)
       priced : (v : ℕ → ℤ) → AreVickreyPrices m z v → (k : ℕ) → k < m.bidders → v (suc k) ≡ of_bidder (for_bidders z prices) (suc k)
       priced v ps k lt = vickrey-one m z (suc k) (v (suc k)) (of_bidder (for_bidders z prices) (suc k)) (ps (suc k) (omega arith) (omega arith)) (can.vickrey (suc k) (omega arith) (omega arith))
 
+  -- den times one more than the value is below 2^120
   pub range : (den *ℤ (value_of m z +ℤ pos 1)) <ℤ pos (2 ^ 120)
   range = value-range den (value_of m z) (winners_in z) den-positive ended.answer.small_den (worth-nonneg m lawful z win.passed) can.worth can.few.0

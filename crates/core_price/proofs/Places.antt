@@ -19,6 +19,7 @@ odd zero h d = absurd (d refl)
 odd (suc zero) h d = refl
 odd (suc (suc r)) h d = absurd (omega arith)
 
+-- each winning bidder has a place among the winners
 pub place-of : (z : List ℕ) (k : ℕ) → k < length z → uses z (suc k) ≡ true → (i : ℕ) × IsPlace z k i
 place-of [] k lt e = absurd (omega arith)
 place-of (zero ∷ z) zero lt e = absurd (lie e)

@@ -33,6 +33,7 @@ pub record MeetsBits (m : Market) (z : List ℕ) (rows : List Row) (q : Point) :
   pub asks : AsksWinnersOnly m z q
   pub above : (i : ℕ) → i < length rows → Meets z (row_at rows i) q.den (for_winners z q.at)
 
+-- bidder k + 1 pays the number at place k
 pub at-bidder : (z : List ℕ) (xs : List ℤ) (k : ℕ) → of_bidder (for_bidders z xs) (suc k) ≡ nth (for_bidders z xs) k
 at-bidder z xs k = let b : suc k - 1 ≡ k = omega arith in rw b refl
 
@@ -48,32 +49,40 @@ asks-winners m z len den at = record {
     none (suc k) some u = at-bidder z at k ∙ loser-zero z at k u
 
 module _ (m : Market) (z : List ℕ) (len : length z ≡ m.bidders) where
+  -- a point that asks nothing of losers is the one made of its numbers for winners
   pub back-of : (q : Point) → AsksWinnersOnly m z q → for_bidders z (for_winners z q.at) ≡ q.at
   back-of q asks = there-and-back z q.at (omega (arith, asks.bidders, len)) (λ k lt e. let b : suc k - 1 ≡ k = omega arith in let h = asks.losers (suc k) (omega arith) (omega (arith, len)) e in rw b at h)
 
+  -- the payments of a point made of numbers for winners add up to the sum of these
   pub paid-own : (den : ℤ) (at : List ℤ) → paid m (point_of z den at) ≡ total (winners_in z) (nth at)
   paid-own den at = sym (ap (λ n. sum_over everyone (of_bidder (for_bidders z at)) n) len) ∙ paid-zip z at
 
+  -- the payments of a point that asks nothing of losers add up to the sum of its numbers for winners
   pub paid-asks : (q : Point) → AsksWinnersOnly m z q → paid m q ≡ total (winners_in z) (nth (for_winners z q.at))
   paid-asks q asks = ap (λ l. paid m (record { den = q.den; at = l })) (sym (back-of q asks)) ∙ paid-own q.den (for_winners z q.at)
 
 -- the answer of a turn, its prices being those of the winners
 module _ (m : Market) (z : List ℕ) (len : length z ≡ m.bidders) (weights : List ℕ) (weighed : CanWeigh m z weights) (prices : List ℤ) (some : length prices ≡ winners_in z) (rows : List Row) (den : ℤ) (at first second : List ℤ) (answer : IsAnswer prices (weights_in z weights) rows den at first second) where
+  -- it has first multipliers, with a coordinate for each winner
   pub firsts : AreFirst (winners_in z) (length rows) (coefficients rows) (bounds rows) den (nth at) (nth first)
   firsts = subst (λ w. AreFirst w (length rows) (coefficients rows) (bounds rows) den (nth at) (nth first)) some answer.firsts
 
+  -- at each winner the first multipliers come to den
   pub sums : SumsTo (winners_in z) (length rows) (coefficients rows) den (nth first)
   sums = subst (λ w. SumsTo w (length rows) (coefficients rows) den (nth first)) some answer.sums
 
+  -- it has second multipliers, by the weights of the winners
   pub seconds : AreSecond (winners_in z) (length rows) (coefficients rows) (bounds rows) den (nth at) (nth first) (nth second) (nth prices) (weight_at (weights_in z weights))
   seconds = subst (λ w. AreSecond w (length rows) (coefficients rows) (bounds rows) den (nth at) (nth first) (nth second) (nth prices) (weight_at (weights_in z weights))) some answer.seconds
 
+  -- it meets the rows, with a coordinate for each winner
   pub meets : MeetsRows (winners_in z) (length rows) (coefficients rows) (bounds rows) den (nth at)
   meets = subst (λ w. MeetsRows w (length rows) (coefficients rows) (bounds rows) den (nth at)) some answer.meets
 
   numbers-meet : (q : Point) → MeetsBits m z rows q → MeetsRows (winners_in z) (length rows) (coefficients rows) (bounds rows) q.den (nth (for_winners z q.at))
   numbers-meet q h = record { positive = let p = h.positive in omega (arith, ints); above = h.above }
 
+  -- no point that meets the rows and asks nothing of losers has a smaller sum
   pub least-of : HasLeastSum m (MeetsBits m z rows) (point_of z den at)
   least-of q h =
       let l = least (winners_in z) (length rows) (coefficients rows) (bounds rows) den (nth at) (nth first) firsts q.den (nth (for_winners z q.at))
@@ -147,6 +156,7 @@ module _ (m : Market) (z : List ℕ) (len : length z ≡ m.bidders) (weights : L
       whole = λ j lt. share-whole (get_or (weights_in z weights) j 0) (weighed.own.some j lt) (weighed.own.most j lt);
     }
 
+    -- every other such point of the same sum is farther from the prices by the weights
     pub nearest-of : IsNearestTo m (weight_of weights) v (MeetsBits m z rows) (point_of z den at)
     nearest-of q h same other =
         let xs : ℕ → ℤ = nth (for_winners z q.at) in

@@ -22,6 +22,7 @@ AreSame m [] (b ∷ bs) = ⊥
 AreSame m (a ∷ as_) [] = ⊥
 AreSame m (a ∷ as_) (b ∷ bs) = IsSame m a b × AreSame m as_ bs
 
+-- lists of the same length with the same row at each place are the same
 pub same-by_place : (m : Market) (d : Row) (xs ys : List Row) → length xs ≡ length ys → ((i : ℕ) → i < length xs → IsSame m (get_or xs i d) (get_or ys i d)) → AreSame m xs ys
 same-by_place m d [] [] long h = tt
 same-by_place m d [] (y ∷ ys) long h = absurd (omega arith)
@@ -65,6 +66,7 @@ point-same m w z v p xs ys h t = record {
   nearest = λ q met same other. t.nearest q (meets-same m z q ys xs (same-turned m xs ys h) met) same other;
 }
 
+-- turns that go on from some rows go on from the same rows in another list
 pub go-same : (m : Market) (w : ℕ → ℕ) (z : List ℕ) (v : ℕ → ℤ) (xs ys : List Row) (turns : List Turn) → AreSame m xs ys → GoOn m w z v xs turns → GoOn m w z v ys turns
 go-same m w z v xs ys [] h go = go
 go-same m w z v xs ys (t ∷ turns) h go =

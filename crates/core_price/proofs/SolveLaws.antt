@@ -8,6 +8,7 @@ use Rattle.point_laws.specs.Points.{MeetsRows}
 use Rattle.wide_num.specs.Sums.{nth}
 use Rattle.core_price.specs.Answers.{IsAnswer}
 
+-- a point that meets the rows, with both kinds of multipliers and none of them large, is an answer
 pub answer-of : (prices : List ℤ) (weights : List ℕ) (rows : List Row) (den : ℤ) (at first second : List ℤ)
     → (length at ≡ length prices) × (length first ≡ length rows) × (length second ≡ length rows)
     → MeetsRows (length prices) (length rows) (coefficients rows) (bounds rows) den (nth at)

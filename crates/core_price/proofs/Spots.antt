@@ -17,6 +17,7 @@ spot (zero ∷ z) i = suc (spot z i)
 spot (suc n ∷ z) zero = 0
 spot (suc n ∷ z) (suc i) = suc (spot z i)
 
+-- fewer bidders stand before a winner than there are
 pub spot-inside : (z : List ℕ) (i : ℕ) → i < winners_in z → spot z i < length z
 spot-inside [] i lt = absurd (omega arith)
 spot-inside (zero ∷ z) i lt = let h = spot-inside z i lt in omega arith
@@ -26,23 +27,27 @@ spot-inside (suc n ∷ z) (suc i) lt = let h = spot-inside z i (omega arith) in 
 next-used : (x : ℕ) (z : List ℕ) (k : ℕ) → uses (x ∷ z) (suc (suc k)) ≡ uses z (suc k)
 next-used x z k = let b : suc (suc k) - 1 ≡ suc (suc k - 1) = omega arith in rw b refl
 
+-- the bidder at the spot of a winner wins
 pub spot-wins : (z : List ℕ) (i : ℕ) → i < winners_in z → uses z (suc (spot z i)) ≡ true
 spot-wins [] i lt = absurd (omega arith)
 spot-wins (zero ∷ z) i lt = next-used 0 z (spot z i) ∙ spot-wins z i lt
 spot-wins (suc n ∷ z) zero lt = ap not (ne_eqb (suc n) 0 (omega arith))
 spot-wins (suc n ∷ z) (suc i) lt = next-used (suc n) z (spot z i) ∙ spot-wins z i (omega arith)
 
+-- the winner i + 1 is the bidder at its spot
 pub spot-winner : (s : ℕ) (z : List ℕ) (i : ℕ) → i < winners_in z → get_or (winners_after s z) i 0 ≡ suc (s + spot z i)
 spot-winner s [] i lt = absurd (omega arith)
 spot-winner s (zero ∷ z) i lt = spot-winner (suc s) z i lt ∙ omega arith
 spot-winner s (suc n ∷ z) zero lt = omega arith
 spot-winner s (suc n ∷ z) (suc i) lt = spot-winner (suc s) z i (omega arith) ∙ omega arith
 
+-- as many bidders are listed as winners as there are
 pub winners-count : (s : ℕ) (z : List ℕ) → length (winners_after s z) ≡ winners_in z
 winners-count s [] = refl
 winners-count s (zero ∷ z) = winners-count (suc s) z
 winners-count s (suc n ∷ z) = ap suc (winners-count (suc s) z)
 
+-- the bidder at the spot of a winner has the number of that winner
 pub spot-number : (z : List ℕ) (i : ℕ) (xs : List ℤ) → i < winners_in z → nth (for_bidders z xs) (spot z i) ≡ nth xs i
 spot-number [] i xs lt = absurd (omega arith)
 spot-number (zero ∷ z) i xs lt = spot-number z i xs lt
@@ -101,6 +106,7 @@ single-at v s (suc n ∷ z) (suc i) d lt = single-at v (suc s) z i d (omega arit
     one : (ℕ → ℤ) → ℕ → Row
     one v t = record { members = λ j. j == t; bound = v t }
 
+-- there is one single row for each winner
 pub singles-count : (v : ℕ → ℤ) (s : ℕ) (z : List ℕ) → length (single_rows v s z) ≡ winners_in z
 singles-count v s [] = refl
 singles-count v s (zero ∷ z) = singles-count v (suc s) z

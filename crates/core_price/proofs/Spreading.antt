@@ -9,6 +9,7 @@ pub record IsSpread (z : List ℕ) (at list : List ℤ) (k w : ℕ) : Type 0 whe
   pub made : list ++ for_bidders (drop k z) (drop w at) ≡ for_bidders z at
   pub left : length (drop w at) ≡ winners_in (drop k z)
 
+-- a loser gets a 0
 pub spread-loser : (z : List ℕ) (at list : List ℤ) (k w : ℕ) → IsSpread z at list k w → k < length z → get_or z k 0 ≡ 0 → IsSpread z at (list ++ pos 0 ∷ []) (k + 1) w
 spread-loser z at list k w far lt loses =
     let e : drop k z ≡ 0 ∷ drop (k + 1) z = rw (add-one, drop-cons z k 0, loses) refl in
@@ -17,6 +18,7 @@ spread-loser z at list k w far lt loses =
       left = rw e at far.left;
     }
 
+-- a winner gets the next number
 pub spread-winner : (z : List ℕ) (at list : List ℤ) (k w : ℕ) → IsSpread z at list k w → k < length z → get_or z k 0 ≢ 0 → IsSpread z at (list ++ nth at w ∷ []) (k + 1) (w + 1)
 spread-winner z at list k w far lt wins = by (get_or z k 0) wins (drop k z) (rw (add-one, drop-cons z k 0) refl) far.made far.left
   where

@@ -41,11 +41,13 @@ each-at P [] h i lt = absurd (omega arith)
 each-at P (x ∷ xs) h zero lt = h.0
 each-at P (x ∷ xs) h (suc i) lt = each-at P xs h.1 i (omega arith)
 
+-- the single row at a place has the bit of its winner and the price of that winner
 pub bits-at : (s : ℕ) (singles : List Single) (i : ℕ) → i < length singles → row_at (single_bits s singles) i ≡ record { members = 2 ^ (s + i); bound = (single_at singles i).price }
 bits-at s [] i lt = absurd (omega arith)
 bits-at s (x ∷ singles) zero lt = let e : s + 0 ≡ s = omega arith in rw e refl
 bits-at s (x ∷ singles) (suc i) lt = let e : suc s + i ≡ s + suc i = omega arith in rw e at (bits-at (suc s) singles i (omega arith))
 
+-- there is one single row for each single
 pub bits-count : (s : ℕ) (singles : List Single) → length (single_bits s singles) ≡ length singles
 bits-count s [] = refl
 bits-count s (x ∷ singles) = ap suc (bits-count (suc s) singles)
@@ -64,6 +66,7 @@ module _ (m : Market) (lawful : IsMarket m) (z : List ℕ) (win : IsWinning m z)
   len : length z ≡ m.bidders
   len = lawful.lengths z win.passed
 
+  -- there is one single for each winner
   pub count : length singles ≡ winners_in z
   count = sym (length-map singles (λ s. s.winner)) ∙ ap length are.winners ∙ winners-count 0 z
 
@@ -83,6 +86,7 @@ module _ (m : Market) (lawful : IsMarket m) (z : List ℕ) (win : IsWinning m z)
   price-at : (i : ℕ) → i < winners_in z → nth (prices_of singles) i ≡ (single_at singles i).price
   price-at i lt = get_or-map (λ s. s.price) singles i (record { winner = 0; price = pos 0; choice = [] }) (pos 0) (omega (arith, lt, count))
 
+  -- there is one price for each winner
   pub prices-count : length (prices_of singles) ≡ winners_in z
   prices-count = length-map singles (λ s. s.price) ∙ count
 
@@ -96,6 +100,7 @@ module _ (m : Market) (lawful : IsMarket m) (z : List ℕ) (win : IsWinning m z)
       let e : of_bidder (for_bidders z (prices_of singles)) (suc k) ≡ (single_at singles s.0).price = at-bidder z (prices_of singles) k ∙ ap (nth (for_bidders z (prices_of singles))) (sym s.2) ∙ spot-number z s.0 (prices_of singles) s.1 ∙ price-at s.0 s.1 in
       subst (λ x. IsVickreyPrice m z (suc k) x) (sym e) (subst (λ n. IsVickreyPrice m z (suc n) (single_at singles s.0).price) s.2 (price-of s.0 s.1))
 
+  -- the prices of the singles are the Vickrey prices
   pub vickrey : AreVickreyPrices m z (of_bidder (for_bidders z (prices_of singles)))
   vickrey zero some inside = absurd (omega arith)
   vickrey (suc k) some inside = by (cases_Bool (uses z (suc k)))
@@ -131,6 +136,7 @@ module _ (m : Market) (lawful : IsMarket m) (z : List ℕ) (win : IsWinning m z)
         let w = won-low m lawful z win.passed (suc (spot z i)) (omega arith) (let l = spot-low i lt in omega arith) in
         (r.0, omega (arith, ints, r.1, w.1), omega (arith, ints, r.1, w.1))
 
+    -- the prices of the singles meet the conditions of the turns
     pub can-turn : m.bidders ≤ 64 → (weights : List ℕ) → FewWin z weights → CanWeigh m z weights → CanTurn m z (prices_of singles) weights
     can-turn members weights win_few weighing = record {
       members = members;
@@ -184,6 +190,7 @@ module _ (m : Market) (lawful : IsMarket m) (z : List ℕ) (win : IsWinning m z)
             subst (λ x. IsSame m x (get_or (single_rows v 0 z) i none)) (sym (a ∙ ap (row_in z) (at-start i lt)))
             (subst (λ x. IsSame m (row_in z (record { members = 2 ^ i; bound = (single_at singles i).price })) x) (sym b) (rw e record { bound = p; members = bit-is i lt }))
 
+    -- the single rows with their choices are the rows when the first turn begins
     pub start : (weights : List ℕ) → IsSoFar m z weights (single_bits 0 singles) (map (λ s. s.choice) singles) []
     start weights = record {
       count = let a = rows-count in omega arith;

@@ -86,6 +86,7 @@ turns-few m z weights rows choices past far = by (cases_eq (winners_in z) 0)
         omega (arith, far.count, p, q)
     by (inr d) = let l = length-map rows (λ r. r.members) in omega (arith, below, far.count, d)
 
+-- the rows so far meet the conditions of the search for a point
 pub can-solve : (m : Market) (z : List ℕ) (prices : List ℤ) (weights : List ℕ) → CanTurn m z prices weights → (rows : List Row) (choices : List (List ℕ)) (past : List Turn) → IsSoFar m z weights rows choices past → CanSolve prices (weights_in z weights) rows
 can-solve m z prices weights can rows choices past far = record {
   few = omega (arith, can.few.0, can.long);
@@ -114,6 +115,7 @@ module _ (m : Market) (lawful : IsMarket m) (z : List ℕ) (win : IsWinning m z)
   len : length z ≡ m.bidders
   len = lawful.lengths z win.passed
 
+  -- the denominator of the answer is positive
   pub den-positive : pos 1 ≤ℤ den
   den-positive = let p = answer.meets.positive in omega (arith, ints)
 

@@ -44,6 +44,7 @@ without m lawful z t k lt =
     other : (i : ℕ) → ¬ (i ≡ k) → number_of z (suc i) ≡ number_of (slice_set z k 0) (suc i)
     other i d = let e : suc i - 1 ≡ i = omega arith in ap (λ n. get_or z n 0) e ∙ sym (ap (λ n. get_or (slice_set z k 0) n 0) e ∙ get_or-set_other z k i 0 0 d)
 
+-- the Vickrey price of a winner is from 0 to what it wins
 pub price-range : (m : Market) → IsMarket m → (z : List ℕ) → IsWinning m z → (k : ℕ) → k < m.bidders → uses z (suc k) ≡ true → (v : ℤ) → IsVickreyPrice m z (suc k) v → (pos 0 ≤ℤ v) × (v ≤ℤ worth_in m z (suc k))
 price-range m lawful z win k lt used v price =
     let g = price.0 used in
@@ -59,9 +60,11 @@ price-range m lawful z win k lt used v price =
 -- and no choice that doesn't use the winner gives it more.
 module _ (m : Market) (lawful : IsMarket m) (z : List ℕ) (win : IsWinning m z) (k : ℕ) (lt : k < m.bidders) (used : uses z (suc k) ≡ true) (v : ℤ) (price : IsVickreyPrice m z (suc k) v) (c : List ℕ) (first : IsFirstGreatest (allowed_without m (suc k)) (value_of m) c)
     (members : ℕ → Bool) (is : (j : ℕ) → 0 < j → j ≤ m.bidders → members j ≡ (j == suc k)) where
+  -- that choice is allowed
   pub single-allowed : IsTrue (m.allowed c)
   single-allowed = (and_parts (m.allowed c) (not (uses c (suc k))) first.passed).0
 
+  -- it doesn't use the one winner of the set
   pub single-idle : IsIdleSet m z c members
   single-idle j some inside member =
       let e : j ≡ suc k = eqb-true j (suc k) (sym (is j some inside) ∙ member) in
@@ -73,6 +76,7 @@ module _ (m : Market) (lawful : IsMarket m) (z : List ℕ) (win : IsWinning m z)
       let b = others-win m lawful z win.passed k lt in
       omega (arith, ints, a, b)
 
+  -- the bound that it gives the set is the Vickrey price
   pub single-given : v ≡ row_bound m z members c
   single-given =
       let g = price.0 used in
@@ -83,6 +87,7 @@ module _ (m : Market) (lawful : IsMarket m) (z : List ℕ) (win : IsWinning m z)
       let f = bound-is c in
       omega (arith, ints, a, b, e, f)
 
+  -- no allowed choice that doesn't use the winner gives the set a greater bound
   pub single-greatest : (g : List ℕ) → IsTrue (m.allowed g) → IsIdleSet m z g members → row_bound m z members g ≤ℤ v
   single-greatest g ok idle =
       let member : members (suc k) ≡ true = is (suc k) (omega arith) (omega arith) ∙ eq-eqb (suc k) (suc k) refl in

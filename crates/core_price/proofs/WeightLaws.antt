@@ -11,6 +11,7 @@ use Rattle.wide_num.proofs.Sums.{total-first}
 use Rattle.core_price.specs.Weights.{CanWeigh, WeighAlike, weights_in}
 use Rattle.core_price.proofs.Spots.{spot, spot-inside, spot-of, spot-wins}
 
+-- there is one weight for each winner
 pub weights-count : (z ws : List ℕ) → length (weights_in z ws) ≡ winners_in z
 weights-count [] ws = refl
 weights-count (zero ∷ z) [] = weights-count z []
@@ -28,9 +29,11 @@ weights-at (suc n ∷ z) [] (suc i) lt = weights-at z [] i (omega arith)
 weights-at (suc n ∷ z) (w ∷ ws) zero lt = refl
 weights-at (suc n ∷ z) (w ∷ ws) (suc i) lt = weights-at z ws i (omega arith)
 
+-- the weight of bidder k + 1 is that at place k
 pub weight-is : (ws : List ℕ) (k : ℕ) → weight_of ws (suc k) ≡ get_or ws k 0
 weight-is ws k = let b : suc k - 1 ≡ k = omega arith in rw b refl
 
+-- where all bidders have weights of 1 to 20, the winners have too
 pub can-weigh : (m : Market) (z ws : List ℕ) → length z ≡ m.bidders → AreWeights m.bidders ws → CanWeigh m z ws
 can-weigh m z ws len are = record {
   long = are.long;
@@ -70,6 +73,7 @@ more-winner z ws list k long lt wins made =
     by zero d rest e more f = absurd (d refl)
     by (suc n) d rest e more f = rw (e, f) refl
 
+-- and a loser adds none
 pub more-loser : (z ws list : List ℕ) (k : ℕ) → length ws ≡ length z → k < length z → get_or z k 0 ≡ 0 → list ++ weights_in (drop k z) (drop k ws) ≡ weights_in z ws
     → list ++ weights_in (drop (k + 1) z) (drop (k + 1) ws) ≡ weights_in z ws
 more-loser z ws list k long lt loses made =
@@ -92,9 +96,11 @@ wins-by z k u e = let b : suc k - 1 ≡ k = omega arith in lie (sym u ∙ rw (b,
 by-wins : (z : List ℕ) (k : ℕ) → get_or z k 0 ≢ 0 → uses z (suc k) ≡ true
 by-wins z k d = let b : suc k - 1 ≡ k = omega arith in rw b (ap not (ne_eqb (get_or z k 0) 0 d))
 
+-- where each bidder that wins weighs 1, all winners weigh 1
 pub all-alike : (z ws : List ℕ) (k : ℕ) → k ≡ length z → AlikeTo z ws k → WeighAlike z ws
 all-alike z ws k e h i lt = weights-at z ws i lt ∙ h (spot z i) (let s = spot-inside z i lt in omega (arith, s, e)) (wins-by z (spot z i) (spot-wins z i lt))
 
+-- where a bidder that wins weighs something else, not all winners weigh 1
 pub not-alike : (z ws : List ℕ) (k : ℕ) → k < length z → get_or z k 0 ≢ 0 → get_or ws k 0 ≢ 1 → WeighAlike z ws → ⊥
 not-alike z ws k lt wins d h =
     let s = spot-of z k lt (by-wins z k wins) in

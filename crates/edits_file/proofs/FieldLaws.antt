@@ -103,6 +103,7 @@ head_counts book fields name behind bidder lots rest is_name parted ends head =
     let parts = one_field name head.name behind (decimals_text lots ++ rest) (name_own name is_name) (name_own head.name head.named.name_is) ends (ends_front lots rest head.ends) (sym parted ∙ head.spelled) in
     record { count = head.named.count; each = head.named.each; spelled = parts.1; ends = head.ends }
 
+-- a bidder's name and the counts behind it are the front of the fields
 pub made_head : (book : Book) (fields name behind : List ℕ) (bidder : ℕ) (lots rest : List ℕ) → IsName name → fields ≡ name ++ behind → bidder ≡ number_among name 0 book.bidders
     → BeginsWithCounts (length book.supply) behind lots rest → IsHead book fields bidder lots rest
 made_head book fields name behind bidder lots rest is_name parted bidder_is are = record {
@@ -146,6 +147,7 @@ no_bid book fields j q rest head none bidder lots amount is =
     let one = rest_one book fields j bidder q lots rest (32 ∷ decimal amount) head (bid_head book fields bidder lots amount is) in
     none amount (record { low = is.top; spelled = one.1 ∙ sym (append-nil (32 ∷ decimal amount)); ends = tt })
 
+-- where the rest behind the counts is an amount, the fields are a bid
 pub made_bid : (book : Book) (fields : List ℕ) (bidder : ℕ) (lots rest : List ℕ) (amount : ℕ) → IsHead book fields bidder lots rest → BeginsWithNumber 1000000000000000000 rest amount [] → StatesBid book fields bidder lots amount
 made_bid book fields bidder lots rest amount head is = record {
   name = head.name;
@@ -161,6 +163,7 @@ no_package book fields j q rest head some bidder lots is =
     let one = rest_one book fields j bidder q lots rest [] head (package_head book fields bidder lots is) in
     omega (arith, some, ap length one.1)
 
+-- where nothing is behind the counts, the fields are a package
 pub made_package : (book : Book) (fields : List ℕ) (bidder : ℕ) (lots rest : List ℕ) → IsHead book fields bidder lots rest → rest ≡ [] → StatesPackage book fields bidder lots
 made_package book fields bidder lots rest head none = record {
   name = head.name;

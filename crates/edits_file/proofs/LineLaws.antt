@@ -17,9 +17,11 @@ use Rattle.edits_file.specs.Stages.{States, StatesBid, StatesPackage}
 use Rattle.book_form.proofs.TextLaws.{numbers-push}
 use Rattle.edits_file.proofs.FieldLaws.{AreLow, heads_one}
 
+-- the first line has no line feed
 pub first_word : IsLine (codes "edits 1")
 first_word = ((λ is. absurd (omega arith)), ((λ is. absurd (omega arith)), ((λ is. absurd (omega arith)), ((λ is. absurd (omega arith)), ((λ is. absurd (omega arith)), ((λ is. absurd (omega arith)), ((λ is. absurd (omega arith)), tt)))))))
 
+-- nor has the last one
 pub end_word : IsLine (codes "end")
 end_word = ((λ is. absurd (omega arith)), ((λ is. absurd (omega arith)), ((λ is. absurd (omega arith)), tt)))
 
@@ -55,6 +57,7 @@ kind_of (add name lots amount) = 97
 kind_of (raise name lots amount) = 114
 kind_of (remove name lots) = 100
 
+-- the line of an edit begins with the byte of its kind
 pub first_byte : (e : NamedEdit) → get_or (edit_text e) 0 0 ≡ kind_of e
 first_byte (add name lots amount) = refl
 first_byte (raise name lots amount) = refl
@@ -110,18 +113,21 @@ edit_one categories (remove name p) (raise other q n) x y is = let e = same_kind
 
 -- A line that begins with a word states just what its fields state.
 
+-- a line of the word `add` and the fields of a bid states that the bid is added
 pub add_stated : (book : Book) (line fields : List ℕ) (bidder : ℕ) (lots : List ℕ) (amount : ℕ) → line ≡ codes "add " ++ fields → StatesBid book fields bidder lots amount → (named : NamedEdit) × States book line named (Add bidder lots amount)
 add_stated book line fields bidder lots amount is bid = (
   add bid.name lots amount,
   record { valid = (bid.named, bid.top); spelled = is ∙ ap (λ (l : List ℕ). codes "add " ++ l) bid.spelled; edit_is = ap (λ (j : ℕ). Add j lots amount) bid.bidder_is },
 )
 
+-- a line of the word `raise` and the fields of a bid states that the bid is raised
 pub raise_stated : (book : Book) (line fields : List ℕ) (bidder : ℕ) (lots : List ℕ) (amount : ℕ) → line ≡ codes "raise " ++ fields → StatesBid book fields bidder lots amount → (named : NamedEdit) × States book line named (Raise bidder lots amount)
 raise_stated book line fields bidder lots amount is bid = (
   raise bid.name lots amount,
   record { valid = (bid.named, bid.top); spelled = is ∙ ap (λ (l : List ℕ). codes "raise " ++ l) bid.spelled; edit_is = ap (λ (j : ℕ). Raise j lots amount) bid.bidder_is },
 )
 
+-- a line of the word `drop` and the fields of a package states that its bid is taken out
 pub remove_stated : (book : Book) (line fields : List ℕ) (bidder : ℕ) (lots : List ℕ) → line ≡ codes "drop " ++ fields → StatesPackage book fields bidder lots → (named : NamedEdit) × States book line named (Remove bidder lots)
 remove_stated book line fields bidder lots is wanted = (
   remove wanted.name lots,
@@ -131,18 +137,21 @@ remove_stated book line fields bidder lots is wanted = (
 other_kind : (e : NamedEdit) (line word fields : List ℕ) (c : ℕ) → line ≡ (c ∷ word) ++ fields → line ≡ edit_text e → c ≡ kind_of e
 other_kind e line word fields c starts is = ap (λ (l : List ℕ). get_or l 0 0) (sym starts ∙ is) ∙ first_byte e
 
+-- a line of the word `add` and fields that are no bid states no edit
 pub add_only : (book : Book) (line fields : List ℕ) → line ≡ codes "add " ++ fields → ((bidder : ℕ) (lots : List ℕ) (amount : ℕ) → StatesBid book fields bidder lots amount → ⊥) → (named : NamedEdit) (edit : Edit) → States book line named edit → ⊥
 add_only book line fields is none (add name lots amount) edit s =
     none _ lots amount (record { name = name; named = s.valid.0; top = s.valid.1; spelled = append_cancel_left (codes "add ") fields (name ++ decimals_text (lots ++ amount ∷ [])) (sym is ∙ s.spelled); bidder_is = refl })
 add_only book line fields is none (raise name lots amount) edit s = omega (arith, other_kind (raise name lots amount) line (codes "dd ") fields 97 is s.spelled)
 add_only book line fields is none (remove name lots) edit s = omega (arith, other_kind (remove name lots) line (codes "dd ") fields 97 is s.spelled)
 
+-- a line of the word `raise` and fields that are no bid states no edit
 pub raise_only : (book : Book) (line fields : List ℕ) → line ≡ codes "raise " ++ fields → ((bidder : ℕ) (lots : List ℕ) (amount : ℕ) → StatesBid book fields bidder lots amount → ⊥) → (named : NamedEdit) (edit : Edit) → States book line named edit → ⊥
 raise_only book line fields is none (raise name lots amount) edit s =
     none _ lots amount (record { name = name; named = s.valid.0; top = s.valid.1; spelled = append_cancel_left (codes "raise ") fields (name ++ decimals_text (lots ++ amount ∷ [])) (sym is ∙ s.spelled); bidder_is = refl })
 raise_only book line fields is none (add name lots amount) edit s = omega (arith, other_kind (add name lots amount) line (codes "aise ") fields 114 is s.spelled)
 raise_only book line fields is none (remove name lots) edit s = omega (arith, other_kind (remove name lots) line (codes "aise ") fields 114 is s.spelled)
 
+-- a line of the word `drop` and fields that are no package states no edit
 pub remove_only : (book : Book) (line fields : List ℕ) → line ≡ codes "drop " ++ fields → ((bidder : ℕ) (lots : List ℕ) → StatesPackage book fields bidder lots → ⊥) → (named : NamedEdit) (edit : Edit) → States book line named edit → ⊥
 remove_only book line fields is none (remove name lots) edit s =
     none _ lots (record { name = name; named = s.valid; spelled = append_cancel_left (codes "drop ") fields (name ++ decimals_text lots) (sym is ∙ s.spelled); bidder_is = refl })

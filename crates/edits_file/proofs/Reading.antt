@@ -71,6 +71,7 @@ pub record Lifted (book : Book) (s : NamedStage) (l : List ℕ) (next : Stage) :
   pub step : NamedStep (length book.supply) s l to
   pub is : next ≡ held book to
 
+-- each step of the reader from a named stage is one of the named stages
 pub lifted : (book : Book) (s : NamedStage) (l : List ℕ) (next : Stage) → Step book (held book s) l next → Lifted book s l next
 lifted book beginning l next step = record { to = listing []; step = (step.0, refl); is = step.1 }
 lifted book (listing had) l next (inl last) = record { to = ended had; step = inl (last.0, refl); is = last.1 }
@@ -81,6 +82,7 @@ lifted book (listing had) l next (inr adds) = record {
 }
 lifted book (ended had) l next step = absurd step
 
+-- the named stage behind such a step exceeds the same limit as the reader's
 pub marked : (book : Book) (s : NamedStage) (l : List ℕ) (next : Stage) (mark : Option Excess) (up : Lifted book s l next) → excess next ≡ mark → named_excess up.to ≡ mark
 marked book s l next mark up is = sym (excess_held book up.to) ∙ ap excess (sym up.is) ∙ is
 
@@ -215,6 +217,7 @@ module _ (categories : ℕ) where
   one_value : (v w : List NamedEdit) → finish v ≡ finish w → v ≡ w
   one_value v w is = cc
 
+  -- the named stages read the form of a file of edits
   pub reads : Reads (IsSound categories) (NamedStep categories) named_excess begin finish (AreNamedEdits categories) lines
   reads = record {
     complete = complete;

@@ -20,6 +20,7 @@ pub record FirstCount (field more ns : List ℕ) : Type 0 where
   pub field_is : field ≡ decimal count
   pub more_is : more ≡ decimals_text later
 
+-- of a text of counts the field before the first space is the first count, and the rest spells the others
 pub first_count : (categories : ℕ) (text field more ns : List ℕ) → 0 < categories → text ≡ field ++ more → NoSpace field → FieldEnds more → AreCounts categories ns → text ≡ counts_text ns → FirstCount field more ns
 first_count categories text field more [] some split own stops are is = absurd (omega (arith, some, are.0))
 first_count categories text field more (n ∷ ns) some split own stops are is =
@@ -32,6 +33,7 @@ pub record Splits (text field more : List ℕ) : Type 0 where
   pub own : NoSpace field
   pub stops : FieldEnds more
 
+-- cut at its first space a text is a field without a space and what follows it
 pub splits : (text field more : List ℕ) (n : ℕ) → field ≡ take n text → more ≡ drop n text → NoSpace (take n text) → FieldEnds (drop n text) → Splits text field more
 splits text field more n front back own stops = record {
   split = sym (take-append-drop n text) ∙ ap (λ (l : List ℕ). l ++ drop n text) (sym front) ∙ ap (λ (l : List ℕ). field ++ l) (sym back);
@@ -39,6 +41,7 @@ splits text field more n front back own stops = record {
   stops = subst FieldEnds (sym back) stops;
 }
 
+-- a text of counts that falls apart at its first space has its first count before it
 pub first_of : (categories : ℕ) (text field more ns : List ℕ) → 0 < categories → Splits text field more → AreCounts categories ns → text ≡ counts_text ns → FirstCount field more ns
 first_of categories text field more ns some at are is = first_count categories text field more ns some at.split at.own at.stops are is
 

@@ -39,6 +39,7 @@ log_ends terms rows events left had none =
     let whole : rows ≡ had.before = had.whole ∙ ap (λ (l : Rows). had.before ++ l) none ∙ append-nil had.before in
     (subst (λ (l : Rows). AllState terms l events) (sym whole) had.states, had.few)
 
+-- what is left behind the events may be given by any equal records
 pub begin_at : (terms : Terms) (rows : Rows) (events : List Event) (left other : Rows) → BeginWith terms rows events left → left ≡ other → BeginWith terms rows events other
 begin_at terms rows events left other had is = subst (BeginWith terms rows events) is had
 
@@ -54,11 +55,14 @@ too_many terms rows events left r later had is many = (events, r, later, begin_a
 
 -- ---- answers
 
+-- a stop for want of memory may stand for any records
 pub memory_stop : {T : Type 0} (terms : Terms) (rows : Rows) (r : Result T LogStop) (e : LogStop) → r ≡ Err e → e ≡ Memory → IfErr r (IsStop terms rows)
 memory_stop terms rows r e is memory = rw (is, memory) tt
 
+-- a record that is read as an event states that event
 pub stated : (terms : Terms) (fields : List (List ℕ)) (o : Option Event) (e : Event) → o ≡ Some e → ReadsAs terms fields o → States terms fields e
 stated terms fields o e is reads = subst (ReadsAs terms fields) is reads
 
+-- a record that is read as no event states none
 pub unstated : (terms : Terms) (fields : List (List ℕ)) (o : Option Event) → o ≡ None → ReadsAs terms fields o → StatesNone terms fields
 unstated terms fields o is reads = subst (ReadsAs terms fields) is reads

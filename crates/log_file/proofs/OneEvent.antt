@@ -98,5 +98,6 @@ same_kind terms fields Close (Draft j q b) m s t = absurd (omega (arith, m))
 same_kind terms fields Close (Drop j q) m s t = absurd (omega (arith, m))
 same_kind terms fields Close (Submit j) m s t = absurd (omega (arith, m))
 
+-- two events that the same record states are the same
 pub one_event : (terms : Terms) (fields : List (List ℕ)) (e f : Event) → States terms fields e → States terms fields f → e ≡ f
 one_event terms fields e f s t = same_kind terms fields e f (sym (marked terms fields e s) ∙ marked terms fields f t) s t

@@ -23,6 +23,7 @@ states_length terms [] (e ∷ es) s = absurd s
 states_length terms (r ∷ rows) [] s = absurd s
 states_length terms (r ∷ rows) (e ∷ es) s = ap suc (states_length terms rows es s.1)
 
+-- records are the log of one list of events at most
 pub one_log : (terms : Terms) (rows : Rows) (es fs : List Event) → AreLog terms rows es → AreLog terms rows fs → es ≡ fs
 one_log terms rows es fs s t = states_one terms rows es fs s.0 t.0
 
@@ -35,9 +36,11 @@ short terms (x ∷ before) [] r later gs s none all = s
 short terms (x ∷ before) (e ∷ es) r later [] s none all = all
 short terms (x ∷ before) (e ∷ es) r later (g ∷ gs) s none all = short terms before es r later gs s.1 none all.1
 
+-- records that are a log have no faulty record
 pub log_or_fault : (terms : Terms) (rows : Rows) (es : List Event) (n : ℕ) → AreLog terms rows es → IsFirstFault terms rows n → ⊥
 log_or_fault terms rows es n log (events, r, later, had, none, few, is) = short terms had.before events r later es had.states none (subst (λ (l : Rows). AllState terms l es) had.whole log.0)
 
+-- records that are a log aren't too many
 pub log_or_many : (terms : Terms) (rows : Rows) (es : List Event) → AreLog terms rows es → AreTooMany terms rows → ⊥
 log_or_many terms rows es log (events, r, later, had, many) =
     omega (arith, log.1, many, states_length terms rows es log.0, states_length terms had.before events had.states, ap length had.whole, length-append had.before (r ∷ later))
@@ -59,6 +62,7 @@ not_before terms (x ∷ before) (y ∷ other) (e ∷ es) (f ∷ fs) r later left
     let tails : before ++ r ∷ later ≡ other ++ left = cc in
     not_before terms before other es fs r later left s.1 none t.1 tails (omega (arith, less))
 
+-- records with a first faulty record aren't too many
 pub fault_or_many : (terms : Terms) (rows : Rows) (n : ℕ) → IsFirstFault terms rows n → AreTooMany terms rows → ⊥
 fault_or_many terms rows n (events, r, later, had, none, few, is) (others, x, left, too, many) =
     not_before terms had.before too.before events others r later (x ∷ left) had.states none too.states (sym had.whole ∙ too.whole) (omega (arith, few, many))
@@ -66,6 +70,7 @@ fault_or_many terms rows n (events, r, later, had, none, few, is) (others, x, le
 same_count : (m n : ℕ) → (m < n → ⊥) → (n < m → ⊥) → suc m ≡ suc n
 same_count m n up down = omega (arith, up, down)
 
+-- records have one first faulty record at most
 pub one_fault : (terms : Terms) (rows : Rows) (m n : ℕ) → IsFirstFault terms rows m → IsFirstFault terms rows n → m ≡ n
 one_fault terms rows m n (events, r, later, had, none, few, is) (others, x, left, too, nothing, low, also) =
     let up : length events < length others → ⊥ = not_before terms had.before too.before events others r later (x ∷ left) had.states none too.states (sym had.whole ∙ too.whole) in

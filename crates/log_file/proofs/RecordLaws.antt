@@ -29,6 +29,7 @@ at_end : (b : Bool) (fs : List (List ℕ)) (q : Read) → (if b then Some (fs, s
 at_end true fs q h = let e : (fs, st.StartRecord, []) ≡ q = same_Some _ _ h in rw (← e) (omega arith, refl)
 at_end false fs q h = cc h
 
+-- a read of a record leaves no more bytes than there were, in a state in which a text may end
 pub next_at : (s : State) (fields : List (List ℕ)) (field xs : List ℕ) (q : Read) → next_record default_config s fields field xs ≡ Some q → (length q.2 ≤ length xs) × (ends_at_end q.1 ≡ false)
 unfolding next_record
 next_at s fields field [] q h = at_end (ends_at_end s) (fields ++ (field ∷ [])) q h
@@ -125,11 +126,13 @@ stops-flexible rem a b (kind.Utf8 pos err) flexible h = absurd (false≢true h.0
 stops-flexible rem a b (kind.Serialize text) flexible h = absurd h
 stops-flexible rem a b (kind.Deserialize pos err) flexible h = absurd h
 
+-- a read that found a record has the fields of the first one left, and the others are left
 pub found_one : {R : Type 0} (known : R → Option (List ℕ)) (reader : Reader R) (rows : List (List (List ℕ))) (found : Bool) (fields : List (List ℕ)) → found ≡ true → Takes known reader rows found fields
     → (rest : List (List (List ℕ))) × (rows ≡ fields ∷ rest) × HasLeft known reader rest
 found_one known reader rows true fields is taken = taken
 found_one known reader rows false fields is taken = absurd (false≢true is)
 
+-- where a read found no record none was left
 pub found_none : {R : Type 0} (known : R → Option (List ℕ)) (reader : Reader R) (rows : List (List (List ℕ))) (found : Bool) (fields : List (List ℕ)) → found ≡ false → Takes known reader rows found fields → rows ≡ []
 found_none known reader rows true fields is taken = absurd (false≢true (sym is))
 found_none known reader rows false fields is taken = taken

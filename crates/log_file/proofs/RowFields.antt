@@ -22,6 +22,7 @@ has_field [] i low = absurd (omega (arith, low))
 has_field (f ∷ fs) zero low = refl
 has_field (f ∷ fs) (suc i) low = has_field fs i (omega (arith, low))
 
+-- a look-up at a place below the number of fields finds a field
 pub found_field : (o : Option (Bor (List ℕ))) (fs : List (List ℕ)) (i : ℕ) → option_map (λ (s : Bor (List ℕ)). s.now) o ≡ field_at fs i → i < length fs → IsSome o
 found_field None fs i is low = subst IsSome (sym is) (has_field fs i low)
 found_field (Some s) fs i is low = refl

@@ -13,6 +13,7 @@ some-divisor zero d b some e = absurd (omega arith)
 some-divisor (suc g) d zero some e = absurd (omega arith)
 some-divisor (suc g) d (suc b) some e = (omega arith, omega arith)
 
+-- a greatest common divisor of a number above 0 is above 0
 pub divisor-above : (r d g : ℕ) → 0 < d → IsGcd r d g → 0 < g
 divisor-above r d g some is = (some-divisor g d (d / g) some (sym (mul-div_cancel' g is.1))).0
 
@@ -45,6 +46,7 @@ whole-and_rest n d q r g a b e f h =
     turned : (g a b : ℕ) → (g * a) * b ≡ (g * b) * a
     turned g a b = omega arith
 
+-- whole part, rest and denominator, the last two over their greatest common divisor, are in lowest terms
 pub lowest-terms : (n d g : ℕ) → 0 < d → IsGcd (n % d) d g → IsFraction (pos n) (pos d) (n / d) (n % d / g) (d / g)
 lowest-terms n d g some is =
     let rest : n % d ≡ g * (n % d / g) = sym (mul-div_cancel' g is.0) in
@@ -63,6 +65,7 @@ lowest-terms n d g some is =
     grouped : (g k a : ℕ) → g * k * a ≡ g * (k * a)
     grouped g k a = omega arith
 
+-- a fraction that is greater by a whole number has just a greater whole part
 pub greater : (n d : ℤ) (whole rest parts more : ℕ) → IsFraction n d whole rest parts → IsFraction (n +ℤ (d *ℤ pos more)) d (whole + more) rest parts
 greater n d whole rest parts more f =
     let split : pos ((whole + more) * parts + rest) ≡ pos (whole * parts + rest) +ℤ pos (more * parts) = ap pos (omega arith) in

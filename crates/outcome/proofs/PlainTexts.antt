@@ -38,6 +38,7 @@ plain-each : (text : List ℕ) → IsPlain text → AllByRecursion (λ b. b < 12
 plain-each [] p = tt
 plain-each (x ∷ text) p = let parts = and_parts (nat_lt x 128) (is_plain text) p in (ltb-true x 128 parts.0, plain-each text parts.1)
 
+-- plain bytes are below 128
 pub plain-ascii : (text : List ℕ) → IsPlain text → IsAscii text
 plain-ascii text p = IsAscii-from_all text (All-from_recursion (λ b. b < 128) text (plain-each text p))
 
@@ -71,6 +72,7 @@ numbers-plain : (ns : List ℕ) → IsPlain (decimals_text ns)
 numbers-plain [] = refl
 numbers-plain (n ∷ ns) = plain-append (decimal n) (decimals_text ns) (decimal-plain n) (numbers-plain ns)
 
+-- the text of a fraction is plain
 pub parts-plain : (whole rest parts : ℕ) → IsPlain (parts_text whole rest parts)
 parts-plain whole zero parts = decimal-plain whole
 parts-plain whole (suc rest) parts =

@@ -27,9 +27,11 @@ names = map (λ s. s.winner)
 pub no-winner : (s : Single) (ss : List Single) → names (s ∷ ss) ≡ [] → ⊥
 no-winner s ss e = cc
 
+-- an empty list of winners has no first bidder
 pub some-winner : (j : ℕ) (js : List ℕ) → names [] ≡ j ∷ js → ⊥
 some-winner j js e = cc
 
+-- the first winner is the first bidder of the list, and the others are the rest
 pub first-winner : (s : Single) (ss : List Single) (j : ℕ) (js : List ℕ) → names (s ∷ ss) ≡ j ∷ js → (s.winner ≡ j) × (names ss ≡ js)
 first-winner s ss j js e = (cc, cc)
 
@@ -64,6 +66,7 @@ module _ (book : Book) (z : List ℕ) (p : Point) where
   prices-push (t ∷ ss) [] s w are is = absurd are
   prices-push (t ∷ ss) (x ∷ ws) s w are is = (are.0, prices-push ss ws s w are.1 is)
 
+  -- there are as many prices as winners
   pub prices-length : (ss : List Single) (ws : List WinnerPrice) → AreWinnerPrices book z p ss ws → length ws ≡ length ss
   prices-length [] ws are = ap length are
   prices-length (s ∷ ss) [] are = absurd are
@@ -71,6 +74,7 @@ module _ (book : Book) (z : List ℕ) (p : Point) where
 
   -- the winners of a list so far, and one more
   module _ (all items : List Single) (same : items ≡ all) where
+    -- one price more
     pub next-price : (i : ℕ) (s : Single) → i < length items → s ≡ get_or items i s → (before prices : List WinnerPrice) (price : WinnerPrice) → AreWinnerPrices book z p (take i all) before
         → IsWinnerPrice book z p s price → prices ≡ before ++ price ∷ [] → AreWinnerPrices book z p (take (i + 1) all) prices
     next-price i s inside item before prices price so-far is made =
@@ -80,6 +84,7 @@ module _ (book : Book) (z : List ℕ) (p : Point) where
         subst (λ (l : List WinnerPrice). AreWinnerPrices book z p (take (i + 1) all) l) (sym made)
         (subst (λ (ss : List Single). AreWinnerPrices book z p ss (before ++ price ∷ [])) (sym more) (prices-push (take i all) before s price so-far is))
 
+    -- where no winner is left, the prices are those of all
     pub all-prices : (i : ℕ) → length items ≤ i → (prices : List WinnerPrice) → AreWinnerPrices book z p (take i all) prices → AreWinnerPrices book z p all prices
     all-prices i past prices are =
         subst (λ (ss : List Single). AreWinnerPrices book z p ss prices) (take_all i all (omega (arith, past, ap (λ (l : List Single). length l) same))) are
@@ -102,6 +107,7 @@ module _ (book : Book) (z : List ℕ) (p : Point) where
   no-reserve : (j : ℕ) → reserve_of book j 0 ≡ pos 0
   no-reserve j = ap pos (free book.reserves)
 
+  -- the reserves of the choice sum to those of the winners' packages
   pub reserves-are : (k : ℕ) (c : List ℕ) (ss : List Single) (ws : List WinnerPrice) → c ≡ drop k z → names ss ≡ winners_after k c → AreWinnerPrices book z p ss ws → sum_after (reserve_of book) k c ≡ pos (reserves_of ws)
   reserves-are k [] [] ws at who are = ap (λ (l : List WinnerPrice). pos (reserves_of l)) (sym are)
   reserves-are k [] (s ∷ ss) ws at who are = absurd (no-winner s ss who)
@@ -119,10 +125,14 @@ module _ (book : Book) (z : List ℕ) (p : Point) where
   module _ (v : ℕ → ℤ) where
     -- what is printed of bidder k + 1, which wins with bid i + 1
     pub record IsOwn (k i : ℕ) (w : WinnerPrice) : Type 0 where
+      -- its bidder is k + 1
       pub bidder : w.bidder ≡ suc k
+      -- its bid is i + 1
       pub bid : w.bid ≡ suc i
+      -- its Vickrey price is that of the bidder and the reserve of the package
       pub vickrey : w.vickrey ≡ v (suc k) +ℤ reserve_of book (suc k) (suc i)
 
+    -- what is printed of the winner k + 1 with bid i + 1 has these numbers
     pub own-price : (k i : ℕ) (s : Single) (w : WinnerPrice) → s.winner ≡ suc k → number_of z (suc k) ≡ suc i → s.price ≡ v s.winner → IsWinnerPrice book z p s w → IsOwn k i w
     own-price k i s w who number price is = record {
       bidder = is.bidder_is ∙ who;

@@ -37,6 +37,7 @@ module _ (book : Book) (z : List ℕ) (p : Point) (ss : List Single) (ws : List 
   long : length z ≡ length book.bidders
   long = omega (arith, known-length (menu_of book) 0 z known)
 
+  -- no more win than there are bidders
   pub few : length ws ≤ length book.bidders
   few = omega (arith, prices-length book z p ss ws are, length-map ss (λ (s : Single). s.winner), ap (λ (l : List ℕ). length l) who, winners-few 0 z, long)
 
@@ -50,12 +51,14 @@ module _ (book : Book) (z : List ℕ) (p : Point) (ss : List Single) (ws : List 
       ap (sum_over everyone (λ j. reserve_of book j (number_of z j))) (sym long) ∙ over-is everyone (λ j. reserve_of book j (number_of z j)) (length z)
       ∙ sym (choice-is (reserve_of book) z) ∙ reserves-are book z p 0 z ss ws refl who are
 
+  -- all payments and, times the denominator, the reserves of the winners sum to the revenue
   pub revenue-is : total (length p.at) (nth p.at) +ℤ (p.den *ℤ pos (reserves_of ws)) ≡ revenue_of book z p (length book.bidders)
   revenue-is =
       sym (split-sum (of_bidder p.at) (λ j. reserve_of book j (number_of z j)) p.den (length book.bidders)
       ∙ ap (λ (x : ℤ). x +ℤ (p.den *ℤ sum_over everyone (λ j. reserve_of book j (number_of z j)) (length book.bidders))) payments-are
       ∙ ap (λ (x : ℤ). total (length p.at) (nth p.at) +ℤ (p.den *ℤ x)) reserves-sum)
 
+  -- the lines of the winners, of the net value and of the revenue are the text of the outcome
   pub price-text : (revenue : Fraction) (text : List ℕ) → IsFractionOf (revenue_of book z p (length book.bidders)) p.den revenue
       → text ≡ lines_of book ws ++ net_line (value_of (market_of book) z) ++ codes "revenue " ++ fraction_text revenue ++ codes "\n"
       → (v : ℕ → ℤ) → HavePrices v ss → IsPriceText book z v p text

@@ -25,6 +25,7 @@ module _ (n k : ℕ) (f : ℕ → ℤ) (s : ℤ) (inside : k < n) (least : (i : 
       let high : total (suc k) f ≤ℤ total n f = total-up n (suc k) f (omega arith) least in
       omega (arith, ints)
 
+  -- in 128 bits it is the sum of one more
   pub next-is : to_z w128 (of_z w128 (s +ℤ to_z w128 (of_z w128 (f k)))) ≡ total (k + 1) f
   next-is =
       let before : pos 0 ≤ℤ total k f = total-nonneg k f (λ i l. least i (omega arith)) in

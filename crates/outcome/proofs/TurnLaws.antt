@@ -11,6 +11,7 @@ use Rattle.print_form.specs.Turns.{ArePoints, IsTurnEnd, IsTurnLine, AreTurnLine
 use Rattle.row_laws.specs.Winners.{winners_in, for_bidders}
 use Rattle.outcome.specs.Turns.{Grows, AreFractions}
 
+-- behind its end nothing is left of a list
 pub nothing-left : {A : Type 0} (i : ℕ) (l : List A) → length l ≤ i → drop i l ≡ []
 nothing-left zero [] le = refl
 nothing-left zero (x ∷ l) le = absurd (omega arith)
@@ -19,6 +20,7 @@ nothing-left (suc i) (x ∷ l) le = nothing-left i l (omega arith)
 
 -- ---- payments
 module _ (den : ℤ) (at : List ℤ) (i : ℕ) (start text : List ℕ) (so-far : (rest : List ℕ) → AreFractions den (drop i at) rest → Grows start (text ++ rest) (AreFractions den at)) where
+  -- one payment more
   pub next-payment : (new price : List ℕ) (n : ℤ) → i < length at → n ≡ get_or at i (pos 0) → new ≡ (text ++ 32 ∷ []) ++ price → IsFractionText n den price
       → (rest : List ℕ) → AreFractions den (drop (i + 1) at) rest → Grows start (new ++ rest) (AreFractions den at)
   next-payment new price n inside item made is rest are =
@@ -29,6 +31,7 @@ module _ (den : ℤ) (at : List ℤ) (i : ℕ) (start text : List ℕ) (so-far :
       grouped : (a b c d : List ℕ) → ((a ++ b) ++ c) ++ d ≡ a ++ (b ++ (c ++ d))
       grouped a b c d = simp append_assoc
 
+  -- where no payment is left, the text has grown by all
   pub all-payments : length at ≤ i → Grows start text (AreFractions den at)
   all-payments past =
       let all = so-far [] (subst (λ (l : List ℤ). AreFractions den l []) (sym (nothing-left i at past)) refl) in
@@ -72,11 +75,13 @@ turn-line z number t text pointed new long points end = (
     grouped : (t r s d p q e : List ℕ) → ((((t ++ r) ++ (s ++ d)) ++ p) ++ q) ++ e ≡ t ++ (((((r ++ s) ++ d) ++ p) ++ q) ++ e)
     grouped t r s d p q e = simp append_assoc
 
+-- the pieces of the line of a block, put one by one behind a text, are the whole line behind it
 pub block-line : (t r m c n e f l : List ℕ) → ((((((t ++ r) ++ m) ++ c) ++ n) ++ e) ++ f) ++ l ≡ t ++ ((((((r ++ m) ++ c) ++ n) ++ e) ++ f) ++ l)
 block-line t r m c n e f l = simp append_assoc
 
 -- ---- all turns
 module _ (z : List ℕ) (turns : List Turn) (i : ℕ) (text : List ℕ) (so-far : (rest : List ℕ) → AreTurnLines z i (turns_of z (drop i turns)) rest → AreTurnLines z 0 (turns_of z turns) (text ++ rest)) where
+  -- one turn more
   pub next-turn : (t : Turn) (new : List ℕ) → i < length turns → t ≡ get_or turns i t → Grows text new (IsTurnLine z (i + 1) (turn_of z t))
       → (rest : List ℕ) → AreTurnLines z (i + 1) (turns_of z (drop (i + 1) turns)) rest → AreTurnLines z 0 (turns_of z turns) (new ++ rest)
   next-turn t new inside item grown rest are =
@@ -87,6 +92,7 @@ module _ (z : List ℕ) (turns : List Turn) (i : ℕ) (text : List ℕ) (so-far 
       let all = so-far (grown.0 ++ rest) (subst (λ (l : List Turn). AreTurnLines z i (turns_of z l) (grown.0 ++ rest)) (sym split) (grown.0, rest, own, tail, refl)) in
       subst (AreTurnLines z 0 (turns_of z turns)) (sym (append_assoc text grown.0 rest) ∙ ap (λ (l : List ℕ). l ++ rest) (sym grown.2)) all
 
+  -- where no turn is left, the text has the lines of all
   pub all-turns : length turns ≤ i → AreTurnLines z 0 (turns_of z turns) text
   all-turns past =
       subst (AreTurnLines z 0 (turns_of z turns)) (append-nil text) (so-far [] (subst (λ (l : List Turn). AreTurnLines z i (turns_of z l) []) (sym (nothing-left i turns past)) refl))

@@ -28,9 +28,11 @@ some-number zero h = absurd (lie h)
 some-number (suc n) h = omega arith
 
 module _ (book : Book) (z : List ℕ) (known : IsTrue (is_known_after (menu_of book) 0 z)) (j : ℕ) (some : 0 < j) (most : j ≤ length z) where
+  -- a bidder of the choice is one of the book
   pub winner-in : j ≤ length book.bidders
   winner-in = omega (arith, most, known-length (menu_of book) 0 z known)
 
+  -- the number of a winner is that of one of its bids
   pub bid-in : IsTrue (uses z j) → (0 < number_of z j) × (number_of z j ≤ length (bids_of book j))
   bid-in wins =
       let up : j - 1 + 1 ≡ j = omega (arith, some) in
@@ -57,6 +59,7 @@ is-winner book facts is items same i s inside item =
 pub gross-is : (v : ℤ) (r : ℕ) → unsigned_abs v ≤ 2 ^ 47 → r < 2 ^ 64 → to_z w128 (of_z w128 (to_z w128 (of_z w128 v) +ℤ to_z w128 r)) ≡ v +ℤ pos r
 gross-is v r small low = omega (arith, ints, small, to_z_pos w128 r (omega (arith, low)))
 
+-- the sum fits 128 bits
 pub gross-fits : (v : ℤ) (r : ℕ) → unsigned_abs v ≤ 2 ^ 47 → r < 2 ^ 64 → FitsSigned w128 (to_z w128 (of_z w128 v) +ℤ to_z w128 r)
 gross-fits v r small low = omega (arith, ints, small, to_z_pos w128 r (omega (arith, low)))
 
@@ -70,6 +73,7 @@ module _ (book : Book) (facts : CertFacts) (s : Single) (small : unsigned_abs s.
   own-reserve : pos price.reserve ≡ reserve_of book s.winner (number_of facts.choice s.winner)
   own-reserve = reserve ∙ ap (reserve_of book s.winner) number
 
+  -- its bidder, its bid, its Vickrey price and what it pays, with the reserve added to both
   pub is-price : IsWinnerPrice book facts.choice (point_of facts) s price
   is-price = record {
     bidder_is = bidder;

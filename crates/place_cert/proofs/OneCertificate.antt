@@ -139,6 +139,7 @@ module _ (b : ℕ) where
       let table_rest : table_lines c.cert.table ≡ table_lines d.cert.table = cc (front.0) in
       record { table = table_same c.cert.table d.cert.table table_rest; parts = parts_same 1 c.cert.choice c.cert.withouts d.cert.withouts c.part_orders d.part_orders g.withouts others front.1; behind = head.1 }
 
+  -- two placement certificates for as many bidders with the same lines are the same
   pub one_place_certificate : (c d : PlaceCertValue) → IsPlaceCertificate b c → IsPlaceCertificate b d → place_lines c ≡ place_lines d → c ≡ d
   one_place_certificate c d g h e =
       let dens : line (codes "den") (c.cert.den ∷ []) ≡ line (codes "den") (d.cert.den ∷ []) = cc in

@@ -32,13 +32,16 @@ module _ (bytes : List ℕ) (place bidders : ℕ) where
   abbrev OrderLeads : ℕ → List ℕ → Type 0
   OrderLeads next order = LeadsLike bytes place (codes "order") (chosen bidders) next (as_numbers order)
 
+  -- a stop at the order is the stop at an order with a choice
   pub ordered_first : (stop : CertStop) → HaltsLike bytes place (codes "order") (chosen bidders) stop → HaltsOrdered bytes place bidders stop
   ordered_first stop h = λ n like. halts_before bytes place (order_kind bidders ∷ []) stop (kind (codes "choice") n ∷ []) (h (chosen bidders) (same_kind (chosen bidders)))
 
   module _ (n1 : ℕ) (order : List ℕ) (a : OrderLeads n1 order) where
+    -- behind the order, a stop at the choice is the stop at both
     pub ordered_second : (stop : CertStop) → HaltsChosen bytes n1 bidders stop → HaltsOrdered bytes place bidders stop
     ordered_second stop h = λ n like. halts_then bytes place (order_kind bidders ∷ []) n1 (order_line order ∷ []) (kind (codes "choice") n ∷ []) stop (a (chosen bidders) (same_kind (chosen bidders))) (h n like)
 
+    -- an order and the choice behind it are read as both
     pub ordered_done : (choice : List ℕ) (n2 : ℕ) → LeadsChosen bytes n1 bidders n2 choice → LeadsOrdered bytes place bidders n2 order choice
     ordered_done choice n2 b = λ n like.
         leads_on bytes place (ordered_kinds bidders n) n1 (kind (codes "choice") n ∷ []) (order_line order ∷ []) n2 (after_numbers n (as_numbers choice)) (choice_line choice ∷ [])
@@ -59,13 +62,16 @@ module _ (bytes : List ℕ) (place bidders : ℕ) where
     head : Leads bytes place (placing_plan bidders) n1 left (ordered_lines order choice)
     head = a (ordered_head bidders) (placed_choice bidders)
 
+    -- behind the choice, a stop at the table is the stop at the whole head
     pub placing_second : (stop : CertStop) → Halts bytes n1 (table_plan bidders) stop → Halts bytes place (placing_plan bidders) stop
     placing_second stop h = halts_later bytes place (placing_plan bidders) n1 left (ordered_lines order choice) stop head (halts_before bytes n1 (table_plan bidders) stop parts_plan h)
 
     module _ (table : List (List ℤ)) (n2 : ℕ) (b : Leads bytes n1 (table_plan bidders) n2 [] (named_lines table)) where
+      -- behind the table, a stop at the parts is the stop at the whole head
       pub placing_third : (stop : CertStop) → Halts bytes n2 parts_plan stop → Halts bytes place (placing_plan bidders) stop
       placing_third stop h = halts_later bytes place (placing_plan bidders) n1 left (ordered_lines order choice) stop head (halts_then bytes n1 (table_plan bidders) n2 (named_lines table) parts_plan stop b h)
 
+      -- with the parts behind its table the whole head is read
       pub placing_done : (parts : List PlaceWithout) (n3 : ℕ) → Leads bytes n2 parts_plan n3 [] (part_lines parts) → Leads bytes place (placing_plan bidders) n3 [] (placing_lines order choice table parts)
       placing_done parts n3 c = leads_on bytes place (placing_plan bidders) n1 left (ordered_lines order choice) n3 [] (named_lines table ++ part_lines parts) head
           (leads_then bytes n1 (table_plan bidders) n2 (named_lines table) parts_plan n3 (part_lines parts) b c)
@@ -87,6 +93,7 @@ module _ (bytes : List ℕ) (place bidders : ℕ) where
     from_count : (stop : CertStop) → Halts bytes n1 (count_kind ∷ []) stop → Halts bytes place (payment_plan bidders) stop
     from_count stop h = halts_then bytes place (pay_kind ∷ []) n1 (line (codes "pay") pay ∷ []) (count_kind ∷ []) stop a h
 
+    -- behind the payments, a stop at the count of rows is the stop at all these lines
     pub payment_second : (stop : CertStop) → HaltsCounted bytes n1 bidders stop → Halts bytes place (payment_plan bidders) stop
     payment_second stop h = from_count stop (h (ordered_count bidders) (placed_count bidders))
 
@@ -94,9 +101,11 @@ module _ (bytes : List ℕ) (place bidders : ℕ) where
       counts : Leads bytes n1 (count_kind ∷ []) n2 (ordered_rows_plan bidders count) (count_line count ∷ [])
       counts = b (ordered_count bidders) (placed_count bidders)
 
+      -- behind the count, a stop at the rows is the stop at all these lines
       pub payment_third : (stop : CertStop) → Halts bytes n2 (ordered_rows_plan bidders count) stop → Halts bytes place (payment_plan bidders) stop
       payment_third stop h = from_count stop (halts_later bytes n1 (count_kind ∷ []) n2 (ordered_rows_plan bidders count) (count_line count ∷ []) stop counts h)
 
+      -- with as many rows as the count says all these lines are read
       pub payment_done : (rows : List PlaceRow) (n3 : ℕ) → length rows ≡ count → Leads bytes n2 (ordered_rows_plan bidders count) n3 [] (row_lines rows) → Leads bytes place (payment_plan bidders) n3 [] (payment_lines pay rows)
       payment_done rows n3 many c = subst (λ (n : ℕ). Leads bytes place (payment_plan bidders) n3 [] (line (codes "pay") pay ∷ count_line n ∷ row_lines rows)) (sym many)
           (leads_then bytes place (pay_kind ∷ []) n1 (line (codes "pay") pay ∷ []) (count_kind ∷ []) n3 (count_line count ∷ row_lines rows) a

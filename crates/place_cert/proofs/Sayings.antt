@@ -41,8 +41,10 @@ module _ (b : ℕ) (bytes : List ℕ) where
   from_lines (beyond p) (faulty q) h g e = cc
   from_lines (beyond p) (beyond q) h g e = cc
 
+  -- bytes say one thing of a placement certificate
   pub one_saying : (x y : Said PlaceCertValue ℕ) → PlaceCertSays b bytes x → PlaceCertSays b bytes y → x ≡ y
   one_saying x y h g = from_lines x y h g (says_one x y h g)
 
+-- the text of a placement certificate states it
 pub text_says : (b : ℕ) (c : PlaceCertValue) → b < 2 ^ 100 → IsPlaceCertificate b c → PlaceCertSays b (place_text c) (stated c)
 text_says b c small h = (h, places_state b small c h)

@@ -52,6 +52,7 @@ module _ (b : ℕ) (bytes : List ℕ) where
   stops : (stop : CertStop) → Halts bytes 0 (places_plan b) stop → PlaceStopsAt b bytes stop
   stops stop h = place_stops b bytes stop (h.halts (places_plan b) [] [] start)
 
+  -- a stop at the first line is the stop at the whole text
   pub version_stops : (stop : CertStop) → Halts bytes 0 version_plan stop → PlaceStopsAt b bytes stop
   version_stops stop h = stops stop (halts_before bytes 0 version_plan stop body_plan h)
 
@@ -59,6 +60,7 @@ module _ (b : ℕ) (bytes : List ℕ) where
     stops_behind : (stop : CertStop) → Halts bytes n0 body_plan stop → PlaceStopsAt b bytes stop
     stops_behind stop h = stops stop (halts_then bytes 0 version_plan n0 version_line body_plan stop zeroth h)
 
+    -- a stop at the denominator or the value is the stop at the whole text
     pub opening_stops : (stop : CertStop) → Halts bytes n0 opening_plan stop → PlaceStopsAt b bytes stop
     opening_stops stop h = stops_behind stop (halts_before bytes n0 opening_plan stop from_placing h)
 
@@ -66,6 +68,7 @@ module _ (b : ℕ) (bytes : List ℕ) where
       stops_opened : (stop : CertStop) → Halts bytes n1 from_placing stop → PlaceStopsAt b bytes stop
       stops_opened stop h = stops_behind stop (halts_then bytes n0 opening_plan n1 (opening_lines den value) from_placing stop one h)
 
+      -- a stop at the head's order, choice, table or parts is the stop at the whole text
       pub placing_stops : (stop : CertStop) → Halts bytes n1 (placing_plan b) stop → PlaceStopsAt b bytes stop
       placing_stops stop h = stops_opened stop (halts_before bytes n1 (placing_plan b) stop (payment_plan b ++ last_plan) h)
 
@@ -73,10 +76,12 @@ module _ (b : ℕ) (bytes : List ℕ) where
         stops_placed : (stop : CertStop) → Halts bytes n2 (payment_plan b ++ last_plan) stop → PlaceStopsAt b bytes stop
         stops_placed stop h = stops_opened stop (halts_then bytes n1 (placing_plan b) n2 (placing_lines order choice table withouts) (payment_plan b ++ last_plan) stop two h)
 
+        -- a stop at the payments or the rows is the stop at the whole text
         pub payment_stops : (stop : CertStop) → Halts bytes n2 (payment_plan b) stop → PlaceStopsAt b bytes stop
         payment_stops stop h = stops_placed stop (halts_before bytes n2 (payment_plan b) stop last_plan h)
 
         module _ (pay : List ℤ) (rows : List PlaceRow) (n3 : ℕ) (three : Leads bytes n2 (payment_plan b) n3 [] (payment_lines pay rows)) where
+          -- a stop at the lowered table or the last line is the stop at the whole text
           pub closing_stops : (stop : CertStop) → Halts bytes n3 last_plan stop → PlaceStopsAt b bytes stop
           closing_stops stop h = stops_placed stop (halts_then bytes n2 (payment_plan b) n3 (payment_lines pay rows) last_plan stop three h)
 
@@ -102,9 +107,11 @@ module _ (b : ℕ) (bytes : List ℕ) where
             reached : ReachedBy (places_plan b) bytes n4 [] (place_lines value_read)
             reached = subst (λ (ls : List Line). ReachedBy (places_plan b) bytes n4 [] ls) same_lines (whole.leads (places_plan b) [] [] start)
 
+            -- a stop behind the last line is the stop at the whole text
             pub end_stops : (stop : CertStop) → HaltsAtEnd bytes n4 stop → PlaceStopsAt b bytes stop
             end_stops stop h = place_stops b bytes stop (h (places_plan b) (place_lines value_read) reached)
 
+            -- where nothing stands behind the last line, the bytes are the text of the certificate that was read
             pub text_read : length (drop n4 bytes) ≡ 0 → IsTextOf (IsPlacesText b) lines bytes (place_lines value_read)
             text_read none = reached-end bytes n4 (place_lines value_read) reached none
 

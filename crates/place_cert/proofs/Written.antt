@@ -48,18 +48,23 @@ module _ (b : ℕ) where
   rows_range (r ∷ rows) h = (h.0.range, rows_range rows h.2)
 
   module _ (c : PlaceCertificate) (is : IsPlaceCertificate b (place_cert_value c)) where
+    -- the entries of the head's table are in range
     pub table_range : IsTableInRange c.table
     table_range = lines_range (2 ^ b) c.table is.table.1
 
+    -- the entries of the lowered table are in range
     pub lowered_range : IsTableInRange c.lowered
     lowered_range = lines_range (2 ^ b) c.lowered is.lowered.1
 
+    -- the entries of the parts' tables are in range
     pub withouts_range : ArePartsInRange c.withouts
     withouts_range = parts_range 1 c.choice c.withouts is.withouts
 
+    -- there are at most ten rows
     pub few_rows : length c.rows ≤ 10
     few_rows = omega (arith, length-map c.rows row_value, is.few)
 
+    -- the multipliers of the rows are in range
     pub all_rows_range : AllByRecursion IsRowInRange c.rows
     all_rows_range = rows_range c.rows is.rows
 

@@ -11,6 +11,7 @@ pub amount-past : (slots : SlotList) (j i : ℕ) → length (bids_of slots j) < 
 amount-past slots j zero past = refl
 amount-past slots j (suc i) past = ap (λ (b : SlotBid). pos b.amount) (get_or_past (bids_of slots j) i no_bid (omega (arith, past)))
 
+-- no number of a bidder has an amount above 2^42
 pub amount-most : (slots : SlotList) → AreSlots slots → (j i : ℕ) → 0 < j → j ≤ length slots.bidders → (bid_of slots j i).amount ≤ 2 ^ 42
 amount-most slots kept j zero some low = omega arith
 amount-most slots kept j (suc i) some low =

@@ -30,6 +30,7 @@ parts-form b j (zero ∷ numbers) (w ∷ parts) are i other lt = parts-form b (s
 parts-form b j (suc n ∷ numbers) (w ∷ parts) are zero other lt = record { choice = are.0.choice.0; table = are.0.table }
 parts-form b j (suc n ∷ numbers) (w ∷ parts) are (suc i) other lt = parts-form b (suc j) numbers parts are.1 i other (omega arith)
 
+-- each part of a certificate has a choice and a table of the right form
 pub part-form : (slots : SlotList) (cert : PlaceCertificate) → IsFor slots cert → (items : List PlaceWithout) (i : ℕ) (part : PlaceWithout) → items ≡ cert.withouts → i < length items → part ≡ get_or items i part
     → HasForm (length slots.bidders) part
 part-form slots cert shape items i part same lt is =
@@ -54,12 +55,15 @@ module _ (parts : List PlaceWithout) (i j : ℕ) (part : PlaceWithout) (lt : i <
   order-here : order_without (map part_value parts) (map part_order parts) j ≡ order_without (map part_value (part ∷ drop (suc i) parts)) (map part_order (part ∷ drop (suc i) parts)) j
   order-here = from.order ∙ ap (λ (ps : List PlaceWithout). order_without (map part_value ps) (map part_order ps) j) (split-at parts i part lt is)
 
+  -- where no earlier part is the winner's and the part at hand is, it is the part without the winner
   pub found-part : part.winner ≡ j → part_of (map part_value parts) j ≡ part_value part
   found-part own = part-here ∙ cond-true (part.winner == j) (part_value part) (part_of (map part_value (drop (suc i) parts)) j) (eq-eqb part.winner j own)
 
+  -- its order is the order without the winner
   pub found-order : part.winner ≡ j → order_without (map part_value parts) (map part_order parts) j ≡ part_order part
   found-order own = order-here ∙ cond-true (part.winner == j) (part_order part) (order_without (map part_value (drop (suc i) parts)) (map part_order (drop (suc i) parts)) j) (eq-eqb part.winner j own)
 
+  -- where the part at hand is another winner's, the part and the order are those of the parts behind it
   pub from-next : (part.winner ≡ j → ⊥) → IsFrom parts (i + 1) j
   from-next other =
       let up : suc i ≡ i + 1 = omega arith in
@@ -69,6 +73,7 @@ module _ (parts : List PlaceWithout) (i j : ℕ) (part : PlaceWithout) (lt : i <
         order = order-here ∙ cond-false (part.winner == j) (part_order part) (order_without (map part_value (drop (suc i) parts)) (map part_order (drop (suc i) parts)) j) no;
       })
 
+-- from the first part on, the part and the order are those of all parts
 pub from-start : (parts : List PlaceWithout) (j : ℕ) → IsFrom parts 0 j
 from-start parts j = record { part = refl; order = refl }
 

@@ -21,9 +21,11 @@ abbrev pub IsPast : ℕ → ℕ → Type 0
 IsPast n place = (0 < place) × (place ≤ n) → ⊥
 
 module _ (m : Market) (c : CertValue) where
+  -- P5 asks nothing at a place that is no bidder's
   pub pays-past : (place : ℕ) → IsPast m.bidders place → PaysWithinBids m c place
   pays-past place past = record { winner = λ some low wins. absurd (past (some, low)); loser = λ some low loses. absurd (past (some, low)) }
 
+  -- P5 asks of a winner that it pays at least 0 and at most its bid
   pub pays-winner : (j : ℕ) (paid most : ℤ) (b : Bool) → 0 < j → j ≤ m.bidders → IsTrue (uses c.choice j) → paid ≡ of_bidder c.pay j → most ≡ c.den *ℤ won_in m c j
       → (IsTrue b ↔ ((pos 0 ≤ℤ paid) × (paid ≤ℤ most))) → IsTrue b ↔ PaysWithinBids m c j
   pays-winner j paid most b some le wins paid_is most_is test = (
@@ -34,15 +36,18 @@ module _ (m : Market) (c : CertValue) where
     λ h. let two = h.winner some le wins in test.1 (subst (λ (z : ℤ). pos 0 ≤ℤ z) (sym paid_is) two.0, subst (λ (z : ℤ). paid ≤ℤ z) (sym most_is) (subst (λ (z : ℤ). z ≤ℤ (c.den *ℤ won_in m c j)) (sym paid_is) two.1)),
   )
 
+  -- P5 asks of a loser that it pays nothing
   pub pays-loser : (j : ℕ) (b : Bool) → 0 < j → j ≤ m.bidders → IsFalse (uses c.choice j) → (IsTrue b ↔ (of_bidder c.pay j ≡ pos 0)) → IsTrue b ↔ PaysWithinBids m c j
   pays-loser j b some le loses test = (
     λ t. record { winner = λ s l wins. absurd (both_ways (uses c.choice j) loses wins); loser = λ s l no. test.0 t },
     λ h. test.1 (h.loser some le loses),
   )
 
+  -- P7 asks nothing at a place that is no row's and no bidder's
   pub first-past : (place : ℕ) → IsPast (length c.rows + m.bidders) place → ShowsLeastSum m c place
   first-past place past = record { sign = λ some le. absurd (past (some, omega (arith, le))); columns = λ j some le e wins. absurd (past (omega (arith, e, some), omega (arith, e, le))) }
 
+  -- P7 asks of a row that its first multiplier isn't below 0
   pub first-sign : (place : ℕ) (row : RowValue) (b : Bool) → 0 < place → place ≤ length c.rows → row_of c.rows place ≡ row → (IsTrue b ↔ (pos 0 ≤ℤ row.first)) → IsTrue b ↔ ShowsLeastSum m c place
   first-sign place row b some le same test = (
     λ t. record {
@@ -52,6 +57,7 @@ module _ (m : Market) (c : CertValue) where
     λ h. test.1 (subst (λ (r : RowValue). pos 0 ≤ℤ r.first) same (h.sign some le)),
   )
 
+  -- P7 asks of a winner that the first multipliers of the rows that hold it come to the denominator
   pub first-sum : (place j : ℕ) (b : Bool) → place ≡ length c.rows + j → 0 < j → j ≤ m.bidders
       → (IsTrue b ↔ (IsTrue (uses c.choice j) → sum_holding c.rows j (λ row. row.first) (length c.rows) ≡ c.den)) → IsTrue b ↔ ShowsLeastSum m c place
   first-sum place j b here some le test = (
@@ -64,9 +70,11 @@ module _ (m : Market) (c : CertValue) where
     λ h. test.1 (h.columns j some le here),
   )
 
+  -- P8 asks nothing at a place that is no row's and no bidder's
   pub second-past : (w : ℕ → ℕ) (place : ℕ) → IsPast (length c.rows + m.bidders) place → ShowsNearest m w c place
   second-past w place past = record { sign = λ some le. absurd (past (some, omega (arith, le))); columns = λ j some le e wins. absurd (past (omega (arith, e, some), omega (arith, e, le))) }
 
+  -- P8 asks of a row that its first multiplier is above 0 or its second isn't below 0
   pub second-sign : (w : ℕ → ℕ) (place : ℕ) (row : RowValue) (b : Bool) → 0 < place → place ≤ length c.rows → row_of c.rows place ≡ row → (IsTrue b ↔ ((pos 0 <ℤ row.first) ⊎ (pos 0 ≤ℤ row.second))) → IsTrue b ↔ ShowsNearest m w c place
   second-sign w place row b some le same test = (
     λ t. record {
@@ -76,6 +84,7 @@ module _ (m : Market) (c : CertValue) where
     λ h. test.1 (subst (λ (r : RowValue). (pos 0 <ℤ r.first) ⊎ (pos 0 ≤ℤ r.second)) same (h.sign some le)),
   )
 
+  -- P8 asks of a winner that it pays above its Vickrey price the second multipliers of its rows, times its weight
   pub second-sum : (w : ℕ → ℕ) (place j : ℕ) (b : Bool) → place ≡ length c.rows + j → 0 < j → j ≤ m.bidders
       → (IsTrue b ↔ (IsTrue (uses c.choice j) → (of_bidder c.pay j -ℤ (c.den *ℤ vickrey_in m c j)) ≡ pos (w j) *ℤ sum_holding c.rows j (λ row. row.second) (length c.rows))) → IsTrue b ↔ ShowsNearest m w c place
   second-sum w place j b here some le test = (
@@ -89,6 +98,7 @@ module _ (m : Market) (c : CertValue) where
   )
 
 module _ (slots : SlotList) (p : PlaceCertValue) where
+  -- P2 asks nothing but at the places of the bidders, of the order and of the value
   pub choice-past : (place : ℕ) → IsPast (length slots.bidders + 2) place → P2 slots p place
   choice-past place past = record {
     known = λ some low. absurd (past (some, omega (arith, low)));
@@ -96,30 +106,36 @@ module _ (slots : SlotList) (p : PlaceCertValue) where
     value = λ e. absurd (past (omega (arith, e), omega (arith, e)));
   }
 
+  -- P2 asks of a bidder that its number is 0 or that of one of its bids
   pub choice-known : (place : ℕ) (b : Bool) → 0 < place → place ≤ length slots.bidders → (IsTrue b ↔ (number_of p.cert.choice place ≤ length (bids_of slots place))) → IsTrue b ↔ P2 slots p place
   choice-known place b some low test = (
     λ t. record { known = λ s l. test.0 t; allowed = λ e. absurd (omega (arith, e, low)); value = λ e. absurd (omega (arith, e, low)) },
     λ h. test.1 (h.known some low),
   )
 
+  -- P2 asks behind the bidders that the order allows the choice
   pub choice-allowed : (place : ℕ) (b : Bool) → place ≡ length slots.bidders + 1 → b ≡ allows slots p.order p.cert.choice → IsTrue b ↔ P2 slots p place
   choice-allowed place b here is = (
     λ t. record { known = λ s l. absurd (omega (arith, here, l)); allowed = λ e. sym is ∙ t; value = λ e. absurd (omega (arith, here, e)) },
     λ h. is ∙ h.allowed here,
   )
 
+  -- P2 asks last that the choice is worth the value
   pub choice-value : (place : ℕ) (b : Bool) → place ≡ length slots.bidders + 2 → (IsTrue b ↔ (value_of (market_of slots) p.cert.choice ≡ p.cert.value)) → IsTrue b ↔ P2 slots p place
   choice-value place b here test = (
     λ t. record { known = λ s l. absurd (omega (arith, here, l)); allowed = λ e. absurd (omega (arith, here, e)); value = λ e. test.0 t },
     λ h. test.1 (h.value here),
   )
 
+  -- P4 asks nothing at a place that is no bidder's
   pub part-past : (place : ℕ) → IsPast (length slots.bidders) place → P4 slots p place
   part-past place past = record { part = λ some low wins. absurd (past (some, low)) }
 
+  -- P4 asks nothing of a loser
   pub part-loser : (place : ℕ) → IsFalse (uses p.cert.choice place) → P4 slots p place
   part-loser place loses = record { part = λ some low wins. absurd (both_ways (uses p.cert.choice place) loses wins) }
 
+  -- P4 asks of a winner that its part and the order beside it show the best choice without it
   pub part-winner : (place : ℕ) (b : Bool) → 0 < place → place ≤ length slots.bidders → IsTrue (uses p.cert.choice place)
       → (IsTrue b ↔ IsPlacedPart slots place (part_of p.cert.withouts place) (order_without p.cert.withouts p.part_orders place)) → IsTrue b ↔ P4 slots p place
   part-winner place b some low wins test = (
@@ -127,9 +143,11 @@ module _ (slots : SlotList) (p : PlaceCertValue) where
     λ h. test.1 (h.part some low wins),
   )
 
+  -- P6 asks nothing at a place that is no row's
   pub row-past : (place : ℕ) → IsPast (length p.cert.rows) place → P6 slots p place
   row-past place past = record { row = record { row = λ some low. absurd (past (some, low)) }; order = λ some low. absurd (past (some, low)) }
 
+  -- P6 asks of a row that it is tight and that its order allows its choice
   pub row-tight : (place : ℕ) (row : RowValue) (order : List ℕ) (b : Bool) → 0 < place → place ≤ length p.cert.rows → row_of p.cert.rows place ≡ row → order_in_row p.row_orders place ≡ order
       → (IsTrue b ↔ IsTightPlaced slots p.cert row order) → IsTrue b ↔ P6 slots p place
   row-tight place row order b some low row_is order_is test = (

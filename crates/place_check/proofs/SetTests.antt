@@ -23,6 +23,7 @@ module _ (b : Board) (worth : ℕ → ℕ → ℤ) (table : List (List ℤ)) (bi
   abbrev pub KeepsTo : ℕ → Type 0
   KeepsTo k = (j : ℕ) → 0 < j → j < k → KeepsBidder b worth table bits j (b.bids j)
 
+  -- one bidder more whose rules the entry keeps
   pub keeps-next : (j : ℕ) → KeepsTo j → KeepsBidder b worth table bits j (b.bids j) → KeepsTo (j + 1)
   keeps-next j to own i some low =
       elim (cases_lt i j) [
@@ -30,6 +31,7 @@ module _ (b : Board) (worth : ℕ → ℕ → ℤ) (table : List (List ℤ)) (bi
         | inr here ↦ (let same : j ≡ i = omega (arith, low, here) in subst (λ (h : ℕ). KeepsBidder b worth table bits h (b.bids h)) same own)
       ]
 
+  -- an entry that keeps the rules of each bidder, and is at least 0 at the set of all, obeys the rules
   pub obeys-all : (k : ℕ) → b.bidders < k → (bits ≡ 2 ^ b.bidders - 1 → pos 0 ≤ℤ entry_at table 0 bits) → KeepsTo k → ObeysSet b worth table bits
   obeys-all k past last to = record {
     last = last;
@@ -37,6 +39,7 @@ module _ (b : Board) (worth : ℕ → ℕ → ℤ) (table : List (List ℤ)) (bi
     bid = λ j i some low new positive known may. (to j some (omega (arith, low, past))).bid new i positive known may;
   }
 
+  -- an entry that obeys the rules keeps those of each bidder
   pub obeys-one : (j : ℕ) → 0 < j → j ≤ b.bidders → ObeysSet b worth table bits → KeepsBidder b worth table bits j (b.bids j)
   obeys-one j some low o = record {
     none = λ new. o.none j some low new;
@@ -47,6 +50,7 @@ module _ (b : Board) (worth : ℕ → ℕ → ℤ) (table : List (List ℤ)) (bi
   abbrev pub KeepsBids : ℕ → ℕ → Type 0
   KeepsBids j k = (i : ℕ) → 0 < i → i < k → KeepsBid b worth table bits j i
 
+  -- one bid more whose rule the entry keeps
   pub bids-next : (j i : ℕ) → KeepsBids j i → KeepsBid b worth table bits j i → KeepsBids j (i + 1)
   bids-next j i to own h some low =
       elim (cases_lt h i) [
@@ -54,9 +58,11 @@ module _ (b : Board) (worth : ℕ → ℕ → ℤ) (table : List (List ℤ)) (bi
         | inr here ↦ (let same : i ≡ h = omega (arith, low, here) in subst (λ (n : ℕ). KeepsBid b worth table bits j n) same own)
       ]
 
+  -- an entry that keeps the rules of a bidder's bids, and is no less than that with the bidder, keeps its rules
   pub bids-all : (j k some : ℕ) → some < k → entry_at table 0 (bits + 2 ^ (j - 1)) ≤ℤ entry_at table 0 bits → KeepsBids j k → KeepsBidder b worth table bits j some
   bids-all j k some past least to = record { none = λ new. least; bid = λ new i positive known. to i positive (omega (arith, known, past)) }
 
+  -- a bidder inside the set asks nothing of its entry
   pub inside-keeps : (j some : ℕ) → holds bits j ≡ true → KeepsBidder b worth table bits j some
   inside-keeps j some inside = record {
     none = λ new. absurd (false≢true (sym new ∙ inside));
@@ -67,6 +73,7 @@ module _ (b : Board) (worth : ℕ → ℕ → ℤ) (table : List (List ℤ)) (bi
 abbrev pub ObeysTo : Board → (ℕ → ℕ → ℤ) → List (List ℤ) → ℕ → Type 0
 ObeysTo b worth table k = (bits : ℕ) → bits < k → ObeysSet b worth table bits
 
+-- one set more that obeys the rules
 pub sets-next : (b : Board) (worth : ℕ → ℕ → ℤ) (table : List (List ℤ)) (k : ℕ) → ObeysTo b worth table k → ObeysSet b worth table k → ObeysTo b worth table (k + 1)
 sets-next b worth table k to own h low =
     elim (cases_lt h k) [
@@ -76,18 +83,21 @@ sets-next b worth table k to own h low =
 
 -- a place of a table
 module _ (b : Board) (worth : ℕ → ℕ → ℤ) (table : List (List ℤ)) (most : ℤ) (place : ℕ) where
+  -- a place before the last asks for the rules at that set
   pub table-set : (x : Bool) → place < 2 ^ b.bidders → IsTrue x ↔ ObeysSet b worth table place → IsTrue x ↔ SetTableAt b worth table most place
   table-set x low h = (
     λ t. record { rules = λ _. h.0 t; top = λ e. absurd (omega (arith, e, low)) },
     λ s. h.1 (s.rules low),
   )
 
+  -- the last place asks that the entry of nobody is at most the bound
   pub table-top : (x : Bool) → place ≡ 2 ^ b.bidders → IsTrue x ↔ (entry_at table 0 0 ≤ℤ most) → IsTrue x ↔ SetTableAt b worth table most place
   table-top x here h = (
     λ t. record { rules = λ low. absurd (omega (arith, here, low)); top = λ e. h.0 t },
     λ s. h.1 (s.top here),
   )
 
+  -- a place behind the last asks nothing
   pub table-past : 2 ^ b.bidders < place → SetTableAt b worth table most place
   table-past past = record { rules = λ low. absurd (omega (arith, past, low)); top = λ e. absurd (omega (arith, past, e)) }
 
@@ -102,6 +112,7 @@ set-same b f g table bits same o = record {
       omega (arith, ints, own, e);
 }
 
+-- where nobody is left out, each bidder has all its bids
 pub bids-same : (slots : SlotList) (j : ℕ) → 0 < j → (board_without slots 0).bids j ≡ (board_of slots).bids j
 bids-same slots j some = cond-false (eqb j 0) 0 (length (bids_of slots j)) (ne_eqb j 0 (omega (arith, some)))
 
@@ -113,6 +124,7 @@ whole-set slots f table bits o = record {
   bid = λ j i some low new positive known may. o.bid j i some low new positive (let e = bids-same slots j some in omega (arith, e, known)) may;
 }
 
+-- a set that obeys the rules for all bids obeys them where nobody is left out
 pub none-left : (slots : SlotList) (f : ℕ → ℕ → ℤ) (table : List (List ℤ)) (bits : ℕ) → ObeysSet (board_of slots) f table bits → ObeysSet (board_without slots 0) f table bits
 none-left slots f table bits o = record {
   last = o.last;
@@ -128,6 +140,7 @@ whole-table slots f g table most top place same is t = record {
   top = λ e. let own = t.top e in omega (arith, ints, own, is);
 }
 
+-- the same the other way round
 pub table-whole : (slots : SlotList) (f g : ℕ → ℕ → ℤ) (table : List (List ℤ)) (most top : ℤ) (place : ℕ) → ((j i : ℕ) → 0 < j → j ≤ length slots.bidders → f j i ≡ g j i) → most ≡ top
     → SetTableAt (board_of slots) g table top place → SetTableAt (board_without slots 0) f table most place
 table-whole slots f g table most top place same is t = record {

@@ -29,6 +29,7 @@ once-small a most = omega (arith, ints, most)
 pub plain-worth : (slots : SlotList) (n j i : ℕ) → worth_with slots (pos 1) (replicate n (pos 0)) j i ≡ amount_of slots j i
 plain-worth slots n j i = once (amount_of slots j i) (of_bidder (replicate n (pos 0)) j) (zeros-at n (j - 1))
 
+-- with a denominator of 1 and no gains, no worth of a bid leaves the range
 pub plain-small : (slots : SlotList) (skip n : ℕ) → AreSlots slots → length slots.bidders ≤ n → HasSmallWorths slots skip (pos 1) (replicate n (pos 0))
 plain-small slots skip n kept many = record {
   count = let e = length-replicate {A = ℤ} n (pos 0) in omega (arith, e, many);
@@ -48,6 +49,7 @@ module _ (slots : SlotList) (p : PlaceCertValue) (numbers : length p.cert.choice
       let whole = (p2 (length slots.bidders + 2)).value refl in
       omega (arith, ints, one, whole)
 
+  -- where P1 and P2 hold, the denominator times what a bidder wins stays in the range
   pub small-products : HasSmallProducts slots p
   small-products j some low =
       let won = worth_in (market_of slots) p.cert.choice j in
@@ -56,6 +58,7 @@ module _ (slots : SlotList) (p : PlaceCertValue) (numbers : length p.cert.choice
         scaled-small p.cert.den won p.cert.value ((p1 1).den refl) least (won-most j some low) ((p1 3).size refl),
       )
 
+  -- where P1, P2, P3 and P5 hold, no lowered worth leaves the range
   pub can-lower : ((place : ℕ) → P3 slots p place) → ((place : ℕ) → P5 slots p place) → CanLower slots p
   can-lower p3 p5 = record {
     products = small-products;
@@ -70,6 +73,7 @@ kept-small : (x y : ℤ) → pos 0 ≤ℤ y → y ≤ℤ x → unsigned_abs x < 
 kept-small x y least most small = omega (arith, ints, least, most, small)
 
 module _ (slots : SlotList) (p : PlaceCertValue) (can : CanLower slots p) where
+  -- what a bidder gains at the payments stays in the range
   pub gain-small : (j : ℕ) → 0 < j → j ≤ length slots.bidders → unsigned_abs (gain_in slots p j) < 2 ^ 120
   gain-small j some low =
       let won = p.cert.den *ℤ worth_in (market_of slots) p.cert.choice j in
@@ -88,6 +92,7 @@ module _ (slots : SlotList) (p : PlaceCertValue) (can : CanLower slots p) where
       → (j i : ℕ) → 0 < j → j ≤ length slots.bidders → worth_with slots p.cert.den gains j i ≡ lowered_in (market_of slots) p.cert j i
   lowered-worth gains same j i some low = ap (λ (z : ℤ). (p.cert.den *ℤ amount_of slots j i) -ℤ z) (same j some low)
 
+  -- with what the bidders gain at the payments, no worth of a bid leaves the range
   pub lowered-small : (gains : List ℤ) → length slots.bidders ≤ length gains → ((j : ℕ) → 0 < j → j ≤ length slots.bidders → of_bidder gains j ≡ gain_in slots p j) → HasSmallWorths slots 0 p.cert.den gains
   lowered-small gains many same = record {
     count = many;
@@ -107,5 +112,6 @@ product-is den won f g h = rw (to_z-of_z w128 den f, to_z-of_z w128 won g) (to_z
 pub less-same : (x y a b : ℤ) → x ≡ a → y ≡ b → x -ℤ y ≡ a -ℤ b
 less-same x y a b e f = ap (λ (z : ℤ). z -ℤ y) e ∙ ap (λ (z : ℤ). a -ℤ z) f
 
+-- a difference of numbers of at most 2^120, or ten times that, fits in 128 bits
 pub less-fits : (x y a b : ℤ) → x ≡ a → y ≡ b → unsigned_abs a < 2 ^ 120 → unsigned_abs b ≤ 10 * 2 ^ 120 → FitsSigned w128 (x -ℤ y)
 less-fits x y a b e f g h = omega (arith, ints, e, f, g, h)

@@ -9,18 +9,23 @@ use Rattle.place_laws.specs.PlaceTests.{Asks, Holds, FailsFirst, P1, P2, P3, P5}
 use Rattle.place_check.specs.Verdicts.{HoldsUpTo}
 
 module _ (slots : SlotList) (p : PlaceCertValue) (t : ℕ) (before : HoldsUpTo slots p t) where
+  -- behind test 1, P1 holds at all places
   pub held-P1 : 1 < t → (place : ℕ) → P1 p place
   held-P1 lt place = (before 1 place lt).0 refl
 
+  -- behind test 2, P2 holds at all places
   pub held-P2 : 2 < t → (place : ℕ) → P2 slots p place
   held-P2 lt place = (before 2 place lt).1 refl
 
+  -- behind test 3, P3 holds at all places
   pub held-P3 : 3 < t → (place : ℕ) → P3 slots p place
   held-P3 lt place = (before 3 place lt).2 refl
 
+  -- behind test 5, P5 holds at all places
   pub held-P5 : 5 < t → (place : ℕ) → P5 slots p place
   held-P5 lt place = (before 5 place lt).4 refl
 
+  -- where a test fails nowhere, all tests up to it hold
   pub held-next : IsFirstFailing (Asks slots p t) None → HoldsUpTo slots p (t + 1)
   held-next all u place lt =
       elim (cases_lt u t) [
@@ -28,6 +33,7 @@ module _ (slots : SlotList) (p : PlaceCertValue) (t : ℕ) (before : HoldsUpTo s
         | inr past ↦ (let same : t ≡ u = omega arith in subst (λ (x : ℕ). Asks slots p x place) same (all place))
       ]
 
+  -- where a test fails first at a place, and all tests before it hold, that is the first failure
   pub fails-first : (place : ℕ) → IsFirstFailing (Asks slots p t) (Some place) → FailsFirst slots p t place
   fails-first place first = record {
     fails = first.0;
@@ -37,6 +43,7 @@ module _ (slots : SlotList) (p : PlaceCertValue) (t : ℕ) (before : HoldsUpTo s
     ];
   }
 
+  -- behind test 9 all tests hold
   pub held-all : 9 < t → Holds slots p
   held-all lt = record {
     p1 = λ place. (before 1 place (omega arith)).0 refl;

@@ -23,6 +23,7 @@ use Rattle.place_laws.specs.PlaceTests.{P2, P3, IsPlacedPart, P5, P9}
 use Rattle.place_laws.proofs.Exact.{plain-obeys, without-obeys, lowered-obeys}
 use Rattle.place_laws.proofs.FirstEntry.{whole-entry, without-entry}
 
+-- where the order allows the choice and the value is its worth, P2 holds
 pub head-choice : (slots : SlotList) (p : PlaceCertValue) → IsTrue (allows slots p.order p.cert.choice) → value_of (market_of slots) p.cert.choice ≡ p.cert.value → (place : ℕ) → P2 slots p place
 head-choice slots p allowed value place = record {
   known = λ some low. placed-number (board_of slots) (slots-idle slots) p.cert.choice place (allowed-says slots p.cert.choice p.order allowed).known some low;
@@ -30,6 +31,7 @@ head-choice slots p allowed value place = record {
   value = λ e. value;
 }
 
+-- where the choice is greatest, the value is its worth and the table is exact, P3 holds
 pub head-table : (slots : SlotList) (p : PlaceCertValue) → IsGreatest (market_of slots).allowed (value_of (market_of slots)) p.cert.choice → value_of (market_of slots) p.cert.choice ≡ p.cert.value
     → IsSetTable (board_of slots) (amount_of slots) p.cert.table → (place : ℕ) → P3 slots p place
 head-table slots p greatest value exact place = record {
@@ -40,6 +42,7 @@ head-table slots p greatest value exact place = record {
       omega (arith, ints, most, first.2, value);
 }
 
+-- the best choice without a winner, with its placement and the exact table, is a part as P4 asks for it
 pub part-passes : (slots : SlotList) (j : ℕ) (part : WithoutValue) (order : List ℕ) → 0 < j → IsBestPlacedPart slots j part order → IsPlacedPart slots j part order
 part-passes slots j part order some best =
     let both = and_parts ((market_of slots).allowed part.choice) (not (uses part.choice j)) best.choice.passed in
@@ -53,6 +56,7 @@ part-passes slots j part order some best =
           omega (arith, ints, most, first.2);
     }
 
+-- where payments are within the bids, no choice counts more than is paid, and the table is exact, P9 holds
 pub lowered-table : (slots : SlotList) (p : PlaceCertValue) → length p.cert.pay ≡ length slots.bidders → ((place : ℕ) → P5 slots p place)
     → IsSetTable (board_of slots) (lowered p.cert.den (amount_of slots) (surpluses_of (market_of slots) p.cert.choice p.cert.den p.cert.pay)) p.cert.lowered
     → ((f : List ℕ) → IsTrue ((market_of slots).allowed f) → lowered_sum (market_of slots) p.cert.choice (cert_point p.cert) f ≤ℤ paid (market_of slots) (cert_point p.cert)) → (place : ℕ) → P9 slots p place

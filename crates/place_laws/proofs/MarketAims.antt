@@ -48,6 +48,7 @@ module _ (m : Market) (w : ℕ → ℕ) (own : AreShares m.bidders (pos 23279256
     | inr loses ↦ inr (loser-stands q point j lt loses)
   ]
 
+  -- no core point has a smaller sum than the payments
   pub least_sum : IsLeastSum m c.choice (cert_point c)
   least_sum q point =
       let n = m.bidders in
@@ -88,6 +89,7 @@ module _ (m : Market) (w : ℕ → ℕ) (own : AreShares m.bidders (pos 23279256
       ];
     }
 
+    -- each other core point of the same sum is farther from the Vickrey prices than the payments
     pub nearest_point : IsNearest m w c.choice v (cert_point c)
     nearest_point q point same other =
         let n = m.bidders in

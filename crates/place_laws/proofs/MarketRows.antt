@@ -17,12 +17,15 @@ abbrev pub bound : Market → CertValue → ℕ → ℤ
 bound m c i = row_bound m c.choice (is_member (row_of c.rows (suc i)).members) (row_of c.rows (suc i)).choice
 
 module _ (m : Market) (c : CertValue) (rows : (place : ℕ) → HasTightRow m c place) where
+  -- each row of the certificate is tight
   pub row-at : (i : ℕ) → i < length c.rows → IsTightRow m c (row_of c.rows (suc i))
   row-at i lt = (rows (suc i)).row (omega arith) (omega (arith, lt))
 
+  -- the payments are tight at each row
   pub tight : (i : ℕ) → i < length c.rows → IsTight m.bidders (coefficient c.rows i) (bound m c i) c.den (λ j. of_bidder c.pay (suc j))
   tight i lt = members-pay c.rows i m.bidders c.pay ∙ (row-at i lt).tight
 
+  -- each core point meets all rows
   pub meets : (q : Point) → IsCorePoint m c.choice q → MeetsRows m.bidders (length c.rows) (coefficient c.rows) (bound m c) q.den (λ j. of_bidder q.at (suc j))
   meets q point = record {
     positive = (let p = point.den_positive in omega (arith, ints, p));

@@ -79,6 +79,7 @@ one-part slots j a b order other law x y =
       table = one-table (board_without slots j) (amount_of slots) a.table b.table x.table y.table;
     }
 
+-- two certificates that pricing writes of slots have the same choice, value, placement, tables, parts and payments
 pub one-pricing : (slots : SlotList) (p q : PlaceCertValue) → length slots.bidders < 2 ^ 16 → IsPricedPlaceCert slots p → IsPricedPlaceCert slots q → IsSamePricing slots p q
 one-pricing slots p q few a b =
     let m = market_of slots in

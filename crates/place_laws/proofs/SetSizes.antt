@@ -28,6 +28,7 @@ module _ (b : Board) (worth : ℕ → ℕ → ℤ) (table : List (List ℤ)) (ru
       let step = (rules bits below).none j q.1 q.2 q.3 in
       omega (arith, ints, rest, step)
 
+  -- no entry is below 0
   pub entry-least : (bits : ℕ) → bits < 2 ^ b.bidders → pos 0 ≤ℤ entry_at table 0 bits
   entry-least bits below = least (outside (holds bits) b.bidders) bits below refl
 
@@ -52,9 +53,11 @@ module _ (b : Board) (worth : ℕ → ℕ → ℤ) (table : List (List ℤ)) (ru
             omega (arith, ints, step, before))
       ]
 
+  -- no entry is above the first
   pub entry-most : (bits : ℕ) → bits < 2 ^ b.bidders → entry_at table 0 bits ≤ℤ entry_at table 0 0
   entry-most bits below = most b.bidders bits (omega arith) below below
 
+  -- no bid that can be given behind a set is worth more than the first entry
   pub worth-most : (bits j i : ℕ) → bits < 2 ^ b.bidders → 0 < j → j ≤ b.bidders → holds bits j ≡ false → 0 < i → i ≤ b.bids j → IsTrue (b.may (holds bits) j i) → worth j i ≤ℤ entry_at table 0 0
   worth-most bits j i below some low new positive known may =
       let step = (rules bits below).bid j i some low new positive known may in

@@ -111,6 +111,7 @@ module _ (slots : SlotList) (p : PlaceCertValue) (h : Holds slots p) where
       (λ j some low wins. vickrey-one m p.cert.choice j (v j) (prices_in m p.cert j) (is j some low) (vickrey j some low) ∙ ap (λ (b : Bool). if b then vickrey_in m p.cert j else pos 0) wins)
       (λ j some low loses. (is j some low).1 loses) h.p8
 
+  -- a placement certificate that passes all tests, with a payment for each bidder, is sound
   pub sound : length p.cert.pay ≡ length slots.bidders → IsPlaceSound slots p
   sound pay_is = record {
     order = order-allows;

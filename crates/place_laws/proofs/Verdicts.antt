@@ -9,9 +9,11 @@ use Rattle.place_laws.specs.PlaceTests.{Asks, Holds, FailsFirst}
 all_asked : (slots : SlotList) (p : PlaceCertValue) → Holds slots p → (t place : ℕ) → Asks slots p t place
 all_asked slots p h t place = (λ e. h.p1 place, λ e. h.p2 place, λ e. h.p3 place, λ e. h.p4 place, λ e. h.p5 place, λ e. h.p6 place, λ e. h.p7 place, λ e. h.p8 place, λ e. h.p9 place)
 
+-- no certificate passes all tests and fails one first
 pub not_both : (slots : SlotList) (p : PlaceCertValue) (t place : ℕ) → Holds slots p → FailsFirst slots p t place → ⊥
 not_both slots p t place h f = f.fails (all_asked slots p h t place)
 
+-- there is one first failure, at one place of one test
 pub one_verdict : (slots : SlotList) (p : PlaceCertValue) (t place u q : ℕ) → FailsFirst slots p t place → FailsFirst slots p u q → (t ≡ u) × (place ≡ q)
 one_verdict slots p t place u q f g =
     elim (cases_order t u) [

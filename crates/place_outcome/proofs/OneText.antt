@@ -38,6 +38,7 @@ module _ (one : OneFraction) (slots : SlotList) (v w : ℕ → ℤ) (p q : Point
       let rest : these.1 ≡ those.1 = same-lines (suc k) c these.1 those.1 (omega (arith, long)) these.3 those.3 in
       these.4 ∙ same-line k i these.0 those.0 these.1 those.1 inside pays rest ∙ sym those.4
 
+  -- for the same fractions and Vickrey prices, one order and one choice have one text
   pub one-place : (order z t u : List ℕ) → length z ≡ length slots.bidders → IsPlaceText slots order z v p t → IsPlaceText slots order z w q u → t ≡ u
   one-place order z t u long x y =
       let lines : x.lines ≡ y.lines = same-lines 0 z x.lines y.lines (omega (arith, long)) x.are_lines y.are_lines in

@@ -26,12 +26,14 @@ module _ (m : Market) (w y : ℕ → ℕ) (same : (j : ℕ) → 0 < j → j ≤ 
   turns-same rows [] h = h
   turns-same rows (t ∷ turns) h = (point-same rows t.point h.0, next-same rows turns t.point t.block (λ more. turns-same more turns) h.1)
 
+-- a pricing run with a weight of 1 for each bidder is one in which all weigh 1
 pub run-alike : (m : Market) (z : List ℕ) (turns : List Turn) → IsPricingRun m (weight_of (replicate m.bidders 1)) z turns → IsPricingRun m alike z turns
 run-alike m z turns run = record {
   winning = run.winning;
   turns_of = λ v prices. turns-same m (weight_of (replicate m.bidders 1)) alike (one-at m.bidders) z v (single_rows v 0 z) turns (run.turns_of v prices);
 }
 
+-- what P8 asks with a weight of 1 for each bidder, it asks where all weigh 1
 pub nearest-alike : (m : Market) (c : CertValue) (place : ℕ) → ShowsNearest m (weight_of (replicate m.bidders 1)) c place → ShowsNearest m alike c place
 nearest-alike m c place h = record {
   sign = h.sign;

@@ -23,6 +23,7 @@ use Rattle.slot_places.proofs.OrderLaws.{new-parts}
 pub allowed-known : (slots : SlotList) (c : List ℕ) → IsTrue ((market_of slots).allowed c) → IsTrue (is_known (board_of slots) c)
 allowed-known slots c t = (and_parts (is_known (board_of slots) c) (can_place (board_of slots) c (length slots.bidders) nobody) t).0
 
+-- slots are a lawful market
 pub lawful : (slots : SlotList) → AreSlots slots → IsMarket (market_of slots)
 lawful slots kept = market-of_slots slots (let f = kept.few in omega (arith, f))
 
@@ -38,6 +39,7 @@ bid-most slots kept j (suc i) some known =
           absurd (omega (arith, known, count)))
     ]
 
+-- an allowed choice is worth at most 2^42 for each of its winners
 pub value-most : (slots : SlotList) → AreSlots slots → (z : List ℕ) → IsTrue ((market_of slots).allowed z) → value_of (market_of slots) z ≤ℤ pos (winners_in z * 2 ^ 42)
 value-most slots kept z t = sum-most (menu_of (board_of slots)) (amount_of slots) (λ j. refl) (bid-most slots kept) 0 z (allowed-known slots z t)
 
@@ -46,6 +48,7 @@ new-most : (n : ℕ) (s : ℕ → Bool) (order : List ℕ) → n ≤ 65535 → I
 new-most n s [] le t = tt
 new-most n s (j ∷ order) le t = let p = new-parts n s j order t in (omega (arith, le, p.1), new-most n (joined j s) order le p.3)
 
+-- a placement has a number of at most 65,535 for each bidder
 pub order-shape : (slots : SlotList) (c order : List ℕ) → AreSlots slots → IsPlacement slots c order → IsChoice (length slots.bidders) order
 order-shape slots c order kept is =
     let a = allowed-says slots c order is.allowed in
@@ -55,9 +58,11 @@ order-shape slots c order kept is =
 pub own-small : (slots : SlotList) → AreSlots slots → (z : List ℕ) → IsTrue ((market_of slots).allowed z) → (j : ℕ) → 0 < j → j ≤ length slots.bidders → unsigned_abs (worth_in (market_of slots) z j) ≤ 2 ^ 42
 own-small slots kept z t j some low = let b = bid-most slots kept j (number_of z j) some ((lawful slots kept).numbers z j t some low) in omega (arith, ints, b)
 
+-- what is left of a value without one bid fits in 128 bits
 pub left-small : (all own : ℤ) → unsigned_abs all ≤ 6 * 2 ^ 42 → unsigned_abs own ≤ 2 ^ 42 → unsigned_abs (all -ℤ own) < 2 ^ 127
 left-small all own p q = omega (arith, ints)
 
+-- a Vickrey price fits in 128 bits
 pub price-small : (others all own : ℤ) → unsigned_abs others ≤ 6 * 2 ^ 42 → unsigned_abs all ≤ 6 * 2 ^ 42 → unsigned_abs own ≤ 2 ^ 42 → unsigned_abs (others -ℤ (all -ℤ own)) < 2 ^ 127
 price-small others all own p q r = omega (arith, ints)
 

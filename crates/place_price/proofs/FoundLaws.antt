@@ -52,8 +52,10 @@ found-by slots own chosen whole singles parts priced same_slots same_choice winn
 
 -- the turns that led to these prices, for the choice of the certificate
 module _ (slots : SlotList) (z choice : List ℕ) (singles : List Single) (priced : Priced (List (List ℤ))) (turns : List Turn) (own : IsPriced (market_of slots) z (ones slots) singles priced) (choice_is : choice ≡ z) (turns_are : turns ≡ priced.turns) where
+  -- the turns are a pricing run, in which all bidders weigh 1
   pub run-of : IsPricingRun (market_of slots) alike choice (turns_of choice turns)
   run-of = rw (choice_is, turns_are) (run-alike (market_of slots) z (turns_of z priced.turns) own.turns.run)
 
+  -- each turn has a payment for each winner, none below 0 and all small, over a small denominator
   pub each-turn : AllByRecursion (IsPointOfTurn choice (ones slots)) turns
   each-turn = rw (choice_is, turns_are) own.turns.each

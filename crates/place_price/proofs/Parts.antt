@@ -29,6 +29,7 @@ parts-push (x ∷ singles) s (u ∷ tables) t e = ap (λ (l : List WithoutValue)
 abbrev table_in : PlaceWithout → List (List ℤ)
 table_in w = w.table
 
+-- there are as many tables as parts
 pub tables-count : (parts : List PlaceWithout) → length (tables_of parts) ≡ length parts
 tables-count parts = length-map parts table_in
 

@@ -54,21 +54,26 @@ module _ (slots : SlotList) (kept : AreSlots slots) (whole : Found (List (List �
   pub own : IsPriced (market_of slots) whole.choice (ones slots) singles priced
   own = found.priced_is
 
+  -- the payments that were found are a core point
   pub core : IsCorePoint (market_of slots) whole.choice (cert_point (cert_found slots whole singles parts priced))
   core = own.prices.outcome.core
 
+  -- the choice that was found has a number for each bidder
   pub long : length whole.choice ≡ length slots.bidders
   long = (lawful slots kept).lengths whole.choice found.winning.passed
 
+  -- there are as many tables of parts as winners
   pub count : length (tables_of parts) ≡ length singles
   count = tables-count parts ∙ found.are_parts.count
 
+  -- the value of the choice that was found isn't below 0
   pub least : pos 0 ≤ℤ value_of (market_of slots) whole.choice
   least = worth-nonneg (market_of slots) (lawful slots kept) whole.choice found.winning.passed
 
   greatest : IsGreatest (market_of slots).allowed (value_of (market_of slots)) whole.choice
   greatest = record { passed = found.winning.passed; greatest = found.winning.greatest }
 
+  -- the certificate of what was found passes P5
   pub passes-5 : (place : ℕ) → PaysWithinBids (market_of slots) (cert_found slots whole singles parts priced) place
   passes-5 = kept_payments (market_of slots) whole.choice (value_of (market_of slots) whole.choice) whole.table singles (tables_of parts) priced.den priced.at priced.rows priced.last.table core
 
@@ -109,6 +114,7 @@ module _ (slots : SlotList) (kept : AreSlots slots) (whole : Found (List (List �
         nearest-alike (market_of slots) (cert_found slots whole singles parts priced) place
         (kept_seconds (market_of slots) whole.choice long (ones slots) (value_of (market_of slots) whole.choice) whole.table singles (tables_of parts) priced.den priced.at priced.rows priced.last.table refl found.are_singles count own.shown.first own.shown.second place)
 
+    -- the certificate of what was found passes P9
     pub passes-9 : (place : ℕ) → P9 slots (places_found slots whole singles parts priced order rows) place
     passes-9 = lowered-table slots (places_found slots whole singles parts priced order rows) core.bidders passes-5 found.lowered free
 
@@ -125,6 +131,7 @@ module _ (slots : SlotList) (kept : AreSlots slots) (whole : Found (List (List �
       p9 = passes-9;
     }
 
+    -- the certificate of what was found is one that pricing writes
     pub priced_passes : IsPricedPlaceCert slots (places_found slots whole singles parts priced order rows)
     priced_passes = record {
       holds = holds;

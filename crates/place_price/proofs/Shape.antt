@@ -135,6 +135,7 @@ module _ (slots : SlotList) (kept : AreSlots slots) (whole : Found (List (List �
       subst (λ (values : List RowValue). AreOrderedRows (length slots.bidders) values (map row_order rows)) rows_are
       (ordered-rows slots kept rows placed (subst (AreRows (length slots.bidders)) (sym rows_are) shape))
 
+  -- the certificate of what pricing finds keeps what a placement certificate keeps
   pub priced_shape : IsPlaceCertificate (length slots.bidders) (places_found slots whole singles parts priced order rows)
   priced_shape = record {
     den = numbers.0;
@@ -154,6 +155,7 @@ module _ (slots : SlotList) (kept : AreSlots slots) (whole : Found (List (List �
   module _ (den value : ℤ) (choice : List ℕ) (table : List (List ℤ)) (pay : List ℤ) (lowered_lines : List (List ℤ))
       (den_is : den ≡ priced.den) (value_is : value ≡ value_of (market_of slots) whole.choice) (choice_is : choice ≡ whole.choice) (table_is : table ≡ whole.table)
       (pay_is : pay ≡ for_bidders whole.choice priced.at) (lowered_is : lowered_lines ≡ priced.last.table) where
+    -- the fields that the program fills make the certificate of what was found
     pub made_is : place_cert_from den value choice order table parts pay rows lowered_lines ≡ places_found slots whole singles parts priced order rows
     made_is = λ t. record {
       cert = record { den = den_is t; value = value_is t; choice = choice_is t; table = table_is t; withouts = found.are_parts.made t; pay = pay_is t; rows = rows_are t; lowered = lowered_is t };
@@ -162,6 +164,7 @@ module _ (slots : SlotList) (kept : AreSlots slots) (whole : Found (List (List �
       row_orders = map row_order rows;
     }
 
+    -- the certificate of these fields keeps what one keeps for as many bidders as its choice has numbers
     pub made_shape : IsPlaceCertificate (length choice) (place_cert_from den value choice order table parts pay rows lowered_lines)
     made_shape =
         subst (IsPlaceCertificate (length choice)) (sym made_is)

@@ -24,6 +24,7 @@ all-in_range : (line : List ℤ) → ((i : ℕ) → i < length line → InRange 
 all-in_range [] small = tt
 all-in_range (x ∷ line) small = (small 0 (omega arith), all-in_range line (λ i lt. small (suc i) (omega (arith, lt))))
 
+-- an exact table that obeys the rules, with a first entry in range, has an entry in range for each set
 pub sets-shape : (b : Board) (worth counts : ℕ → ℕ → ℤ) (table : List (List ℤ)) → IsSetTable b worth table → ObeysSets b counts table → entry_at table 0 0 <ℤ pos (2 ^ 120) → HasSets b.bidders table
 sets-shape b worth counts [] exact rules first = absurd (let l = exact.lines in omega (arith, l))
 sets-shape b worth counts (t ∷ u ∷ table) exact rules first = absurd (let l = exact.lines in omega (arith, l))

@@ -84,6 +84,7 @@ scaled m z p q same s f =
     over-both p.den q.den (row_bound m z s f) (sum_over s (of_bidder p.at) m.bidders) (sum_over s (of_bidder q.at) m.bidders) (excess_of m z p s f) (excess_of m z q s f) (excess-bound m z p s f) (excess-bound m z q s f)
     (sums s (of_bidder p.at) (of_bidder q.at) q.den p.den m.bidders (λ j some inside. *ℤ_comm (of_bidder p.at j) q.den ∙ same j some inside ∙ *ℤ_comm p.den (of_bidder q.at j)))
 
+-- points that are the same are the same the other way round
 pub same-turned : (m : Market) (p q : Point) → SamePoint m p q → SamePoint m q p
 same-turned m p q same j some inside = sym (same j some inside)
 
@@ -122,6 +123,7 @@ module _ (m : Market) (law : IsMarket m) (z : List ℕ) (p q : Point) (dp : pos 
       same-truth (b.row.members j) (c.row.members j) (members-within m z p q dp dq same b c of-p of-q e j some inside)
       (members-within m z q p dq dp (same-turned m p q same) c b of-q of-p (sym e) j some inside)
 
+  -- the blocks of the same point are the same
   pub same-block : (b c : Block) → IsBlockOf m z p b → IsBlockOf m z q c → IsSameBlock m p.den q.den b c
   same-block b c of-p of-q = record {
     choices = same-choice b c of-p of-q;

@@ -23,6 +23,7 @@ AreAlike m (row ∷ rows) (other ∷ others) = IsAlike m row other × AreAlike m
 alike-turned : (m : Market) (row other : Row) → IsAlike m row other → IsAlike m other row
 alike-turned m row other a = record { bound = sym a.bound; members = λ j some inside. sym (a.members j some inside) }
 
+-- what is alike is alike the other way round
 pub all-turned : (m : Market) (rows others : List Row) → AreAlike m rows others → AreAlike m others rows
 all-turned m [] [] a = tt
 all-turned m [] (other ∷ others) a = absurd a
@@ -83,6 +84,7 @@ module _ (m : Market) (w : ℕ → ℕ) (z : List ℕ) (v : ℕ → ℤ) (rows o
   not_apart apart =
       strict _ _ (a.nearest q q-meets equal-sums apart) (weaker _ _ (b.nearest p p-meets (sym equal-sums) (λ same. apart (λ j some inside. sym (same j some inside)))))
 
+  -- turns with alike rows have the same point
   pub same-point : SamePoint m p q
   same-point j some inside =
       by_lt_z (q.den *ℤ of_bidder p.at j) (p.den *ℤ of_bidder q.at j)

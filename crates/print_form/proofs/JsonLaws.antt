@@ -33,6 +33,7 @@ module _ (m : Market) (z : List ℕ) (long : length z ≡ m.bidders) where
 pub last-plain : (z : List ℕ) (winners : List Data) (a b : Members) → AreLastMembers z None winners a → AreLastMembers z None winners b → a ≡ b
 last-plain z winners a b these those = these ∙ sym those
 
+-- they are the same for two runs of one choice, with the same winners
 pub last-turns : (m : Market) (law : IsMarket m) (w : ℕ → ℕ) (z : List ℕ) (v : ℕ → ℤ) → AreVickreyPrices m z v → (runs others : List Turn) → IsPricingRun m w z runs → IsPricingRun m w z others
     → (winners : List Data) (a b : Members) → AreLastMembers z (Some runs) winners a → AreLastMembers z (Some others) winners b → a ≡ b
 last-turns m law w z v prices runs others x y winners a b these those =

@@ -17,6 +17,7 @@ more x y a b r same = omega (arith, lin, same, *ℤ_comm (x +ℤ (a *ℤ r)) b, 
 
 module _ (book : Book) (z : List ℕ) (v w : ℕ → ℤ) (p q : Point) (dp : pos 1 ≤ℤ p.den) (dq : pos 1 ≤ℤ q.den) (same : SamePoint (market_of book) p q)
     (agree : (j : ℕ) → 0 < j → j ≤ (market_of book).bidders → v j ≡ w j) where
+  -- at the same point each bidder pays the same fraction, gross
   pub same-gross : (j : ℕ) → 0 < j → j ≤ (market_of book).bidders → gross_of book z p j *ℤ q.den ≡ gross_of book z q j *ℤ p.den
   same-gross j some inside = more (of_bidder p.at j) (of_bidder q.at j) p.den q.den (reserve_of book j _) (same j some inside)
 
@@ -36,6 +37,7 @@ module _ (book : Book) (z : List ℕ) (v w : ℕ → ℤ) (p q : Point) (dp : po
       let rest : these.1 ≡ those.1 = same-lines (suc k) c these.1 those.1 (omega arith) these.3 those.3 in
       these.4 ∙ same-line k i these.0 those.0 these.1 those.1 (omega arith) pays rest ∙ sym those.4
 
+  -- at the same point, with the same Vickrey prices, the texts of prices are the same
   pub same-text : (t u : List ℕ) → length z ≡ (market_of book).bidders → IsPriceText book z v p t → IsPriceText book z w q u → t ≡ u
   same-text t u long these those =
       let lines : these.0 ≡ those.0 = same-lines 0 z these.0 those.0 (omega arith) these.2 those.2 in

@@ -47,6 +47,7 @@ module _ (m : Market) (z : List ℕ) (long : length z ≡ m.bidders) where
       ∙ ap (λ (l : List ℕ). codes " row" ++ decimals_text (members_of c.row.members (length z)) ++ codes " choice" ++ decimals_text c.choice ++ codes " excess " ++ l ++ codes "\n") excess
       ∙ sym those.2
 
+  -- the lines of the same turn are the same
   pub same-line : (number : ℕ) (turn other : Turn) → IsSameTurn m turn other → (t u : List ℕ) → IsTurnLine z number turn t → IsTurnLine z number other u → t ≡ u
   same-line number turn other same t u these those =
       let points : these.0 ≡ those.0 = same-points turn.point other.point same.positive same.also_positive same.points 0 z these.0 those.0 (omega arith) these.2 those.2 in
@@ -75,11 +76,14 @@ same-last m (turn ∷ t ∷ turns) (other ∷ o ∷ others) same p q these those
 
 -- the runs of one choice
 module _ (m : Market) (law : IsMarket m) (w : ℕ → ℕ) (z : List ℕ) (v : ℕ → ℤ) (prices : AreVickreyPrices m z v) (runs others : List Turn) (a : IsPricingRun m w z runs) (b : IsPricingRun m w z others) where
+  -- they go through the same turns
   pub same-runs : AreSameTurns m runs others
   same-runs = same-turns m law w z v runs others (single_rows v 0 z) (single_rows v 0 z) (all-own m (single_rows v 0 z)) (a.turns_of v prices) (b.turns_of v prices)
 
+  -- they have the same lines
   pub same-text : (t u : List ℕ) → AreTurnLines z 0 runs t → AreTurnLines z 0 others u → t ≡ u
   same-text = same-lines m z (law.lengths z a.winning.passed) 0 runs others same-runs
 
+  -- they end with the same point
   pub same-end_point : (p q : Point) → IsLastPoint runs p → IsLastPoint others q → SamePoint m p q
   same-end_point = same-last m runs others same-runs

@@ -41,6 +41,7 @@ module _ (m : Market) (law : IsMarket m) (w : ℕ → ℕ) (z : List ℕ) (v : �
         let block = same-block m law z p q dp dq same b c f.0 g.0 in
         (block, next (rows ++ b.row ∷ []) (others ++ c.row ∷ []) (all-more m rows others b.row c.row alike block.rows) f.1 g.1)
 
+  -- pricing goes on from alike rows through the same turns
   pub same-turns : (turns these : List Turn) (rows others : List Row) → AreAlike m rows others → GoOn m w z v rows turns → GoOn m w z v others these → AreSameTurns m turns these
   same-turns [] these rows others alike g h = absurd g
   same-turns (t ∷ turns) [] rows others alike g h = absurd h

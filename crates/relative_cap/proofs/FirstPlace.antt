@@ -54,6 +54,7 @@ first-same (r ∷ rounds) lots inside =
           subst (λ n. is_same (get_or (r ∷ rounds) n no_round).held lots ≡ true) (sym is) (first-same rounds lots (omega (arith, is, inside)))
     ]
 
+-- in the round at the first place of a package the bidder held it
 pub first-held : (history : List Round) (j : ℕ) (lots : List ℕ) → first_place (rounds_of j history) lots < length history → (own_in history j (first_place (rounds_of j history) lots + 1)).held ≡ lots
 first-held history j lots inside =
     let place : ℕ = first_place (rounds_of j history) lots in
@@ -77,6 +78,7 @@ first-inside-from (r ∷ rounds) (suc k) inside =
       | inr apart ↦ let is : first_place (r ∷ rounds) lots ≡ suc (first_place rounds lots) = cond-false (is_same r.held lots) 0 (suc (first_place rounds lots)) apart in omega (arith, is, rest)
     ]
 
+-- what a bidder held in a round has a first place among the rounds
 pub first-inside : (history : List Round) (j r : ℕ) → 1 ≤ r → r ≤ length history → first_place (rounds_of j history) (own_in history j r).held < length history
 first-inside history j r low high =
     let count : length (rounds_of j history) ≡ length history = length-map history (own_of j) in
@@ -88,5 +90,6 @@ first-inside history j r low high =
 pub own-empty : (history : List Round) (j rounds : ℕ) (lots : List ℕ) → is_empty lots ≡ true → rounds ≡ length history → rounds ≡ own_place history j lots
 own-empty history j rounds lots empty is = is ∙ sym (cond-true (is_empty lots) (length history) (first_place (rounds_of j history) lots) empty)
 
+-- the place of a package with a lot is the first at which it was held
 pub own-some : (history : List Round) (j place : ℕ) (lots : List ℕ) → is_empty lots ≡ false → place ≡ first_place (rounds_of j history) lots → place ≡ own_place history j lots
 own-some history j place lots some is = is ∙ sym (cond-false (is_empty lots) (length history) (first_place (rounds_of j history) lots) some)

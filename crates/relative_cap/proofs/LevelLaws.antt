@@ -38,12 +38,14 @@ peak-at history j r low high =
     ap (λ (h : List Round). peak_of (rounds_of j h)) (drop_more history (r - 1) kept.no_round (omega arith))
     ∙ ap (λ m. max (eligibility_in history j r) (peak_from history j m)) next
 
+-- the peak from a round on is the greater of its eligibility and the peak behind it
 pub peak-step : (history : List Round) (j k peak eligibility more : ℕ) → k < length history → peak ≡ peak_from history j (k + 1) → eligibility ≡ eligibility_in history j (k + 1)
     → more ≡ max peak eligibility → more ≡ peak_from history j k
 peak-step history j k peak eligibility more inside is own by =
     let back : k ≡ k + 1 - 1 = omega arith in
     omega (arith, is, own, by, ap (peak_from history j) back, peak-at history j (k + 1) (omega arith) (omega arith))
 
+-- behind the last round the peak is 0
 pub peak-end : (history : List Round) (j k : ℕ) → length history ≤ k → peak_from history j k ≡ 0
 peak-end [] j zero past = refl
 peak-end [] j (suc k) past = refl
@@ -76,6 +78,7 @@ later-of history j needed peaks rounds r count are most (inr short) =
       ]
     ]
 
+-- the last round from which on the peak is enough is the constraining round
 pub constraining-by_peaks : (history : List Round) (j needed : ℕ) (peaks : List ℕ) (rounds r : ℕ) → rounds ≡ length history → ArePeaksFrom 0 history j peaks
     → IsLastEnough needed peaks rounds r → IsConstraining needed history j r
 constraining-by_peaks history j needed peaks rounds r count are is =

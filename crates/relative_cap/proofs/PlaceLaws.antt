@@ -21,6 +21,7 @@ order-at (p ∷ ps) k zero order less inside = absurd (omega arith)
 order-at (p ∷ ps) zero (suc m) order less inside = after-at p ps m order.0 (omega arith)
 order-at (p ∷ ps) (suc k) (suc m) order less inside = order-at ps k m order.1 (omega arith) (omega arith)
 
+-- where the package in the middle comes before this one, so do all up to it
 pub before-more : (list : List Bid) (lots : List ℕ) (middle : ℕ) → InOrder (map entry_lots list) → middle < length list → is_before (lots_at list middle) lots ≡ true → AreBefore list lots (middle + 1)
 before-more list lots middle order inside own k low =
     elim (cases_order k middle) [
@@ -31,6 +32,7 @@ before-more list lots middle order inside own k low =
       ]
     ]
 
+-- where the package in the middle doesn't come before this one, none behind it does
 pub behind-more : (list : List Bid) (lots : List ℕ) (middle : ℕ) → InOrder (map entry_lots list) → is_before (lots_at list middle) lots ≡ false → AreBehind list lots middle
 behind-more list lots middle order own k low inside =
     elim (cases_order k middle) [
@@ -82,6 +84,7 @@ behind-apart list lots place k order is low inside =
 pub lots-read : (list : List Bid) (k : ℕ) (x : Bid) → k < length list → lots_at list k ≡ (get_or list k x).«package»
 lots-read list k x inside = get_or-map entry_lots list k x [] inside
 
+-- a package that stands at its place has the amount of that entry
 pub amount-there : (list : List Bid) (lots : List ℕ) (place : ℕ) (d x : Bid) → InOrder (map entry_lots list) → IsPlace list lots place → place < length list
     → is_same (get_or list place x).«package» lots ≡ true → (get_or list place d).amount ≡ greatest lots (map bid_value list)
 amount-there list lots place d x order is inside same =
@@ -90,9 +93,11 @@ amount-there list lots place d x order is inside same =
     sym (greatest-one list lots place d inside own
     (λ k other below. elim other [ inl less ↦ before-apart list lots place k is less | inr more ↦ behind-apart list lots place k order is more below ]))
 
+-- a package whose place is behind all entries has no amount
 pub amount-past : (list : List Bid) (lots : List ℕ) (place : ℕ) → IsPlace list lots place → length list ≤ place → 0 ≡ greatest lots (map bid_value list)
 amount-past list lots place is past = sym (greatest-none list lots (λ k below. before-apart list lots place k is (omega arith)))
 
+-- a package that isn't the one at its place has no amount
 pub amount-absent : (list : List Bid) (lots : List ℕ) (place : ℕ) → InOrder (map entry_lots list) → IsPlace list lots place → is_same (lots_at list place) lots ≡ false → 0 ≡ greatest lots (map bid_value list)
 amount-absent list lots place order is apart = sym (greatest-none list lots (λ k below. elim (cases_order k place) [
   | inl same ↦ subst (λ m. is_same (lots_at list m) lots ≡ false) (sym same) apart

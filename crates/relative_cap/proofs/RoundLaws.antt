@@ -30,9 +30,11 @@ last-enough p number d (r ∷ rounds) (suc i) inside long later =
       | inr short ↦ rw short (rest d)
     ]
 
+-- round r as a bidder has it stands at place r - 1 of its rounds
 pub own-at : (j : ℕ) (history : List Round) (r : ℕ) → 1 ≤ r → r ≤ length history → get_or (rounds_of j history) (r - 1) no_round ≡ own_in history j r
 own-at j history r low high = get_or-map (own_of j) history (r - 1) kept.no_round no_round (omega arith)
 
+-- at place k of the rounds of a bidder stands round k + 1
 pub own-before : (j : ℕ) (history : List Round) (k : ℕ) → k < length history → get_or (rounds_of j history) k no_round ≡ own_in history j (suc k)
 own-before j history k inside =
     let e : suc k - 1 ≡ k = omega arith in

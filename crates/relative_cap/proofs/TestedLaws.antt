@@ -137,6 +137,7 @@ own-not-empty history points j lots e tested inside own empty meet =
     let is : e.terms.own ≡ own_place history j lots = tested.terms.own ∙ ap (own_place history j) own in
     omega (arith, past, is, meet, inside)
 
+-- over one tested entry more the amount at the place of its package is raised to its amount
 pub highs-more : (history : List Round) (points : List ℕ) (j : ℕ) (bids : List BookBid) (highs : List ℕ) (e : TestedEntry) → IsTested history points j e → AreHighs history j bids highs
     → AreHighs history j (bids ++ tested_bid e ∷ []) (raised e.terms.own e.bid.amount highs)
 highs-more history points j bids highs e tested are = record {
@@ -174,6 +175,7 @@ round-fits history j bids highs lots r t are low high is =
       );
     }
 
+-- what the rounds say of a package fits the highest amounts: its places are among them, and its costs are small
 pub terms-fit : (history : List Round) (points : List ℕ) (j : ℕ) (bids : List BookBid) (highs lots : List ℕ) (t : PackageTerms) → AreHighs history j bids highs → 1 ≤ length history
     → IsTerms history points j lots t → FitsTerms highs t
 terms-fit history points j bids highs lots t are some is = record {
@@ -251,6 +253,7 @@ front-inserted history points j place before entries new e b front is own =
     ∙ ap (λ (bs : List BookBid). bs ++ tested_bid e ∷ []) (sym (take-map tested_bid place entries) ∙ front.same)
     ∙ ap (λ (x : BookBid). before ++ x ∷ []) own
 
+-- where a tested entry is put in, all entries are tested ones
 pub inserted-each : (history : List Round) (points : List ℕ) (j place : ℕ) (before : List BookBid) (entries new : List TestedEntry) (e : TestedEntry)
     → IsFront history points j place before entries → new ≡ insert entries place e → IsTested history points j e → All (IsTested history points j) new
 inserted-each history points j place before entries new e front is own =
@@ -329,11 +332,13 @@ entries-all history j entries k highs past are = subst (λ (es : List TestedEntr
 
 -- ---- tests of a list
 
+-- what the rounds say of each tested entry fits the highest amounts
 pub fits-each : (history : List Round) (points : List ℕ) (j : ℕ) (bids : List BookBid) (highs : List ℕ) (entries : List TestedEntry) → AreHighs history j bids highs → 1 ≤ length history
     → All (IsTested history points j) entries → All (λ e. FitsTerms highs e.terms) entries
 fits-each history points j bids highs entries are some each =
     λ k d inside. terms-fit history points j bids highs (get_or entries k d).bid.«package» (get_or entries k d).terms are some (each k d inside).terms
 
+-- each tested entry has the cap of the rules
 pub caps-each : (final : Bool) (history : List Round) (points : List ℕ) (j : ℕ) (bids : List BookBid) (highs : List ℕ) (entries : List TestedEntry) → AreHighs history j bids highs
     → 1 ≤ length history → All (IsTested history points j) entries
     → All (λ e. terms_cap final highs e.terms ≡ cap_of final points (rounds_of j history) bids e.bid.«package») entries

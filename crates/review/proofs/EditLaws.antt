@@ -41,11 +41,13 @@ right-edit book (Add j lots amount) lines some are = right-with book j _ some li
 right-edit book (Raise j lots amount) lines some are = right-with book j _ some lines are
 right-edit book (Remove j lots) lines some are = right-with book j _ some lines are
 
+-- after an edit the lines of the bidders up to each before its own stay
 pub left-edit : (book : Book) (edit : Edit) (lines : List (List ℤ)) → 0 < edit_bidder edit → edit_bidder edit ≤ length book.bidders → AreLeftLines book (length book.bidders) lines → AreLeftLines (edited book edit) (edit_bidder edit - 1) lines
 left-edit book (Add j lots amount) lines some known are = left-with book j _ some lines known are
 left-edit book (Raise j lots amount) lines some known are = left-with book j _ some lines known are
 left-edit book (Remove j lots) lines some known are = left-with book j _ some lines known are
 
+-- a book has as many bidders after an edit as before
 pub bidders-edit : (book : Book) (edit : Edit) → 0 < edit_bidder edit → length (edited book edit).bidders ≡ length book.bidders
 bidders-edit book (Add j lots amount) some = bidders-same book j _ some
 bidders-edit book (Raise j lots amount) some = bidders-same book j _ some

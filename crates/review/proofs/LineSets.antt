@@ -24,6 +24,7 @@ module _ (book : Book) (k : ℕ) (lines : List (List ℤ)) (line : List ℤ) (kn
     ];
   }
 
+  -- with the line of the bidders after k in place, the right side holds from k on where it held behind k
   pub right-set : AreRightLines book (k + 1) lines → IsRightLine book k line → AreRightLines book k (set lines k line)
   right-set are is = record {
     full = full-set are.full is.places;
@@ -36,6 +37,7 @@ module _ (book : Book) (k : ℕ) (lines : List (List ℤ)) (line : List ℤ) (kn
     ];
   }
 
+  -- with the line of the bidders up to k in place, the left side holds up to k where it held before k
   pub left-set : 0 < k → AreLeftLines book (k - 1) lines → IsLeftLine book k line → AreLeftLines book k (set lines k line)
   left-set some are is = record {
     full = full-set are.full is.places;
@@ -66,12 +68,14 @@ module _ (book : Book) (lines : List (List ℤ)) (states : ℕ) (is : lines ≡ 
   zero-entries : (k s : ℕ) → k ≤ length book.bidders → s < states_of book.supply → get_or (get_or lines k []) s (pos 0) ≡ pos 0
   zero-entries k s h inside = ap (λ (l : List ℤ). get_or l s (pos 0)) (zero-at k h) ∙ get_or-replicate states s (pos 0) (pos 0) (omega (arith, inside, all))
 
+  -- the last one is the line of the right side behind all bidders
   pub zero-right : AreRightLines book (length book.bidders) lines
   zero-right = record {
     full = zero-full;
     exact = λ k from h. line-last (menu_of book) (net_of book) book.supply k (get_or lines k []) (omega (arith, from, h)) (zero-places k h) (λ s inside. zero-entries k s h inside);
   }
 
+  -- the first one is the line of the left side before all bidders
   pub zero-left : AreLeftLines book 0 lines
   zero-left = record {
     full = zero-full;
@@ -97,6 +101,7 @@ module _ (lines : List (Vec ℤ Global)) (k : ℕ) where
   pub lines-set : (x y : Vec ℤ Global) → lines_of (set (set lines k x) k y) ≡ set (lines_of lines) k y.items
   lines-set x y = ap lines_of (set-set lines k x y) ∙ map-set (λ (w : Vec ℤ Global). w.items) lines k y
 
+  -- there are as many lines as the code holds
   pub count-of : length (lines_of lines) ≡ length lines
   count-of = length-map lines (λ (w : Vec ℤ Global). w.items)
 
@@ -107,6 +112,7 @@ line-read book lines k d line known are is =
     let own : line ≡ get_or (lines_of lines) k [] = is ∙ sym (get_or-map (λ (w : Vec ℤ Global). w.items) lines k d [] inside) in
     subst (λ (l : List ℤ). IsRightLine book k l) (sym own) (are.exact k (omega arith) known)
 
+-- and the number read at a place is the entry of the bidders after k for what the place leaves
 pub entry-read : (book : Book) (lines : List (Vec ℤ Global)) (k : ℕ) (d : Vec ℤ Global) (place : ℕ) (here : ℤ) → k ≤ length book.bidders → place < states_of book.supply → AreRightLines book 0 (lines_of lines) → here ≡ get_or (get_or lines k d).items place here
     → IsEntry (menu_of book) (net_of book) k (left_at book.supply place) here
 entry-read book lines k d place here known inside are read =

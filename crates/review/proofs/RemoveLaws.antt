@@ -16,6 +16,7 @@ behind-without lots (b ∷ bids) behind =
     let apart : is_same lots b.lots ≡ false = is_before-not_same lots b.lots (behind 0 (omega arith)) in
     rw apart (ap (λ (l : List BookBid). b ∷ l) (behind-without lots bids (λ k inside. behind (suc k) (omega (arith, inside)))))
 
+-- bids in package order without the one for a package are those without the bid of its number
 pub without-removed : (bids : List BookBid) (lots : List ℕ) (i : ℕ) → InPackageOrder bids → i < length bids → (get_or bids i no_bid).lots ≡ lots → without_entry lots bids ≡ remove bids i
 without-removed [] lots i order inside own = absurd (omega (arith, inside))
 without-removed (b ∷ bids) lots zero order inside own =

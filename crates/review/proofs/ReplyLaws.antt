@@ -66,6 +66,7 @@ pub record IsFit (book : Book) (j : ℕ) (lots : List ℕ) : Type 0 where
 known-of : (j n : ℕ) → not (nat_lt 0 j && nat_le j n) ≡ false → (0 < j) × (j ≤ n)
 known-of j n is = (grind (arith, nat_tests), grind (arith, nat_tests))
 
+-- where an edit for a package isn't unfit, the bidder is known, and the package is within the supply and not empty
 pub fit-of : (book : Book) (j : ℕ) (lots : List ℕ) → unfit book j lots ≡ None → IsFit book j lots
 fit-of book j lots is =
     let first = none-step (unknown book j) (supply_reply (first_over 1 lots book.supply) ∷ when (is_empty lots) reply.Empty ∷ []) is in
@@ -86,6 +87,7 @@ pub record HasAmount (bids : List BookBid) (lots : List ℕ) (amount : ℕ) : Ty
   pub own : (get_or bids place no_bid).lots ≡ lots
   pub is : (get_or bids place no_bid).amount ≡ amount
 
+-- where there is an amount for a package, one of the bids has this package and this amount
 pub amount-bid : (bids : List BookBid) (lots : List ℕ) (amount : ℕ) → amount_for lots bids ≡ Some amount → HasAmount bids lots amount
 amount-bid [] lots amount is = absurd (cc is)
 amount-bid (b ∷ bids) lots amount is =
@@ -181,6 +183,7 @@ remove-has book j lots is =
 
 -- ---- the bid for a package, number by number
 
+-- of the bids from the one for a package on, the amount for it is that of this bid
 pub amount-found : (lots : List ℕ) (bids : List BookBid) (i : ℕ) → i < length bids → (get_or bids i no_bid).lots ≡ lots → amount_for lots (drop i bids) ≡ Some (get_or bids i no_bid).amount
 amount-found lots [] i inside own = absurd (omega (arith, inside))
 amount-found lots (b ∷ bids) zero inside own =
@@ -188,6 +191,7 @@ amount-found lots (b ∷ bids) zero inside own =
     rw same refl
 amount-found lots (b ∷ bids) (suc i) inside own = amount-found lots bids i (omega (arith, inside)) own
 
+-- past a bid for another package the amount for this one is that of the bids behind
 pub amount-passed : (lots : List ℕ) (bids : List BookBid) (i : ℕ) → i < length bids → ((get_or bids i no_bid).lots ≡ lots → ⊥) → amount_for lots (drop i bids) ≡ amount_for lots (drop (suc i) bids)
 amount-passed lots [] i inside other = absurd (omega (arith, inside))
 amount-passed lots (b ∷ bids) zero inside other =

@@ -92,6 +92,7 @@ module _ (choices : (m : Market) (c d : List ℕ) → IsMarket m → IsWinning m
       let rest = one-lines (suc before) (behind book e) edits q t next (counted-behind book e edits are.1) xs ys in
       whole ∙ (λ i. first i ++ rest i) ∙ sym other
 
+  -- edits of a book within its limits have one text, where each has a count for each category
   pub one-text : (book : Book) (edits : List Edit) (a b : List ℕ) → IsBookWithinLimits book → AreCounted book edits → IsReviewText book edits a → IsReviewText book edits b → a ≡ b
   one-text book edits a b is are x y =
       let first = one-state 0 book x.first y.first is x.is_first y.is_first in

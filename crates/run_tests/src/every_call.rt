@@ -1,10 +1,12 @@
 // Each load, append and put of a clean run fails in turn.
+ghost use Rattle.std.specs.Prelude.{◌<◌};
+
 use crate::auction::{LOWERED, SAMPLE};
 use crate::cert::DAY_CRAMTON_CERT;
 use crate::places::{BACK, FRONT, MIDDLE, ORDER, PAY, PLACE, PLACE_CHECK, SLOTS};
 use crate::price::{CHECK, PRICE};
 use crate::reviews::{EDITS, REVIEW};
-use crate::settings::{DAY_CRAMTON, fill, joined, left_at, no_files, words_of};
+use crate::settings::{DAY_CRAMTON, fill, joined, left_at, no_files_in, words_of};
 use crate::weigh::{ALL_ALIKE, WEIGH, WEIGH_CHECK};
 use cca_base::MemSink;
 use cca_run::{FileKind, Status, run};
@@ -54,8 +56,21 @@ fn run_failing(
     held: Held<'_>,
     failing: Failing,
 ) -> Result<Ended, AllocError> {
+    run_in_bites(alloc, words, held, 100, failing)
+}
+
+// A run in which at most so many bytes of a file and 5 of the output go in one call.
+fn run_in_bites(
+    alloc: Global,
+    words: &[&str],
+    held: Held<'_>,
+    bite: usize,
+    failing: Failing,
+) -> Result<Ended, AllocError>
+    requires { 0 < bite }
+{
     let words = words_of(alloc, words)?;
-    let mut files = no_files(alloc, &words)?;
+    let mut files = no_files_in(alloc, &words, bite)?;
     fill(&mut files, &words, 1, held.first)?;
     fill(&mut files, &words, 2, held.second)?;
     fill(&mut files, &words, 3, held.third)?;
@@ -176,6 +191,10 @@ const AUDIT: &[&str] = &["audit", "AWARD", "LOG", "CERT"];
 const LOWERED_BOOK: &str =
     "book 1\nsupply 3\nreserve 10\nbidder east\nbid 1 20\nbid 3 44\nbidder west\nbid 2 24\nend\n";
 
+// Its first 80 bytes.
+const LOWERED_BOOK_FRONT: &str =
+    "book 1\nsupply 3\nreserve 10\nbidder east\nbid 1 20\nbid 3 44\nbidder west\nbid 2 24\nen";
+
 const BOOK_FAULT: &str = "cca: read fault book\n";
 
 const CERT_FAULT: &str = "cca: read fault cert\n";
@@ -189,6 +208,8 @@ const WEIGHTS_FAULT: &str = "cca: read fault weights\n";
 const SLOTS_FAULT: &str = "cca: read fault slots\n";
 
 const EDITS_FAULT: &str = "cca: read fault edits\n";
+
+const BOOK_WRITE_FAULT: &str = "cca: write fault book\n";
 
 const CERT_WRITE_FAULT: &str = "cca: write fault cert\n";
 
@@ -285,7 +306,7 @@ fn auction_stands_each_fault(rt: HostRuntime) -> Result<(), Fail> {
         AUCTION,
         held,
         FileKind::Book,
-        "cca: write fault book\n",
+        BOOK_WRITE_FAULT,
         LOWERED_BOOK.as_bytes(),
     )?;
     puts_fail(&rt, alloc, AUCTION, held, 19)
@@ -410,4 +431,54 @@ fn review_stands_each_fault(rt: HostRuntime) -> Result<(), Fail> {
     loads_fail(&rt, alloc, REVIEW, held, FileKind::Book, BOOK_FAULT, 1, 4)?;
     loads_fail(&rt, alloc, REVIEW, held, edits, EDITS_FAULT, 4, 6)?;
     puts_fail(&rt, alloc, REVIEW, held, 31)
+}
+
+// What stands after a run whose third file is appended to in bites of 40 bytes, and whose append of this number fails.
+fn leaves_a_front(
+    rt: &impl Abort,
+    alloc: Global,
+    held: Held<'_>,
+    append: u64,
+    front: &str,
+) -> Result<(), Fail> {
+    let failing = Failing { append, ..CLEAN };
+    let ended = run_in_bites(alloc, AUCTION, held, 40, failing)?;
+    let file = FileKind::Book;
+    assert_eq!(rt; ended.status, Status::WriteFault { file });
+    assert_eq!(rt; ended.printed.as_slice(), BOOK_WRITE_FAULT.as_bytes());
+    assert!(rt; ended.third.as_deref().unwrap_or(b"") == front.as_bytes());
+    Ok(())
+}
+
+#[test]
+fn a_book_holds_the_bites_before_a_fault(rt: HostRuntime) -> Result<(), Fail> {
+    let alloc = rt.alloc();
+    let award = joined(alloc, SAMPLE)?;
+    let log = joined(alloc, LOWERED)?;
+    let held = Held {
+        first: Some(&award),
+        second: Some(&log),
+        third: None,
+    };
+    let clean = run_in_bites(alloc, AUCTION, held, 40, CLEAN)?;
+    assert_eq!(&rt; clean.appends, 3);
+    assert!(&rt; holds(&clean.third, Some(LOWERED_BOOK.as_bytes())));
+    leaves_a_front(&rt, alloc, held, 3, LOWERED_BOOK_FRONT)
+}
+
+#[test]
+fn a_certificate_that_held_something_still_holds_it(rt: HostRuntime) -> Result<(), Fail> {
+    let alloc = rt.alloc();
+    let held = Held {
+        first: Some(DAY_CRAMTON.as_bytes()),
+        second: Some("x".as_bytes()),
+        third: None,
+    };
+    let failing = Failing { append: 1, ..CLEAN };
+    let ended = run_failing(alloc, PRICE, held, failing)?;
+    let file = FileKind::Cert;
+    assert_eq!(&rt; ended.status, Status::WriteFault { file });
+    assert_eq!(&rt; ended.printed.as_slice(), CERT_WRITE_FAULT.as_bytes());
+    assert!(&rt; holds(&ended.second, Some("x".as_bytes())));
+    Ok(())
 }

@@ -69,7 +69,19 @@ pub(crate) fn words_of(alloc: Global, words: &[&str]) -> Result<Vec<String>, All
 pub(crate) fn no_files(alloc: Global, words: &[String]) -> Result<MemFiles, AllocError>
     ensures { IfOk result (λ files. All (λ w. IsTrue ((mem_folder files.files.items).knows w)) (map string_bytes words.now)) }
 {
-    let files = MemFiles::new(alloc, words, 100)?;
+    no_files_in(alloc, words, 100)
+}
+
+/// Files that know the words, and are all missing. At most so many bytes go in one call.
+pub(crate) fn no_files_in(
+    alloc: Global,
+    words: &[String],
+    bite: usize,
+) -> Result<MemFiles, AllocError>
+    requires { 0 < bite }
+    ensures { IfOk result (λ files. All (λ w. IsTrue ((mem_folder files.files.items).knows w)) (map string_bytes words.now)) }
+{
+    let files = MemFiles::new(alloc, words, bite)?;
     Ok(files)
 }
 

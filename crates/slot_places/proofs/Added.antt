@@ -15,6 +15,7 @@ use Rattle.slot_places.proofs.ReadLaws.{bidders-read, bidder-read}
 abbrev pub with_fields : Inside → Vec BandBidder Global → Inside
 with_fields s bidders = record { band = s.band; bidders = bidders }
 
+-- fields with a bidder more, without bids, hold the slots with that bidder
 pub bidder_added : (s : Inside) (slots : SlotList) (made : BandBidder) (bidders : Vec BandBidder Global) → slots_value s ≡ slots → bidders.items ≡ s.bidders.items ++ made ∷ [] → made.places.items ≡ []
     → slots_value (with_fields s bidders) ≡ with_bidders slots (slots.bidders ++ bidder_with made.name made.width [] ∷ [])
 bidder_added s slots made bidders is pushed none =

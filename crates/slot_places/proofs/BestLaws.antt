@@ -8,6 +8,7 @@ use Rattle.auction_model.specs.Greatest.{IsFirstGreatest}
 use Rattle.auction_model.proofs.OrderLaws.{before-says, before-self, before-greater, before-none, earlier-says, earlier-number, earlier-rest, earlier-not_both, earlier-cases}
 use Rattle.slot_places.specs.Steps.{IsBefore}
 
+-- no choice comes before itself
 pub earlier-self : (c : List ℕ) → IsTrue (is_earlier c c) → ⊥
 earlier-self c t = earlier-not_both c c t t
 
@@ -22,6 +23,7 @@ number-trans (suc h) i (suc j) t u =
       | inr low ↦ elim q.1 [ inl none ↦ absurd (omega (arith, none)) | inr high ↦ before-greater h j (omega (arith, low, high)) ]
     ]
 
+-- of three choices, each before the next, the first comes before the last
 pub earlier-trans : (c d e : List ℕ) → IsTrue (is_earlier c d) → IsTrue (is_earlier d e) → IsTrue (is_earlier c e)
 earlier-trans [] d e t u = absurd (false≢true t)
 earlier-trans (h ∷ c) [] e t u = absurd (false≢true t)
@@ -41,6 +43,7 @@ earlier-trans (h ∷ c) (i ∷ d) (j ∷ e) t u =
     ]
 
 module _ (value : List ℕ → ℤ) where
+  -- a choice is no worse than itself
   pub before-same : (c : List ℕ) → IsBefore value c c
   before-same c = record { most = omega (arith, ints); first = λ t. absurd (earlier-self c t) }
 
@@ -48,6 +51,7 @@ module _ (value : List ℕ → ℤ) where
   pub before-by_value : (c d : List ℕ) → value d <ℤ value c → IsBefore value c d
   before-by_value c d less = record { most = omega (arith, ints, less); first = λ t. less }
 
+  -- a choice that counts no less and comes first in the order of ties is no worse
   pub before-by_ties : (c d : List ℕ) → value d ≤ℤ value c → IsTrue (is_earlier c d) → IsBefore value c d
   before-by_ties c d most t = record { most = most; first = λ u. absurd (earlier-not_both c d t u) }
 
@@ -55,12 +59,15 @@ module _ (value : List ℕ → ℤ) where
   pub before-by_sums : (c d : List ℕ) (x y : ℤ) → x ≡ value c → y ≡ value d → y <ℤ x → IsBefore value c d
   before-by_sums c d x y p q less = before-by_value c d (let low : value d <ℤ value c = omega (arith, ints, p, q, less) in low)
 
+  -- a choice whose sum is no smaller and that comes first in the order of ties is no worse
   pub before-by_order : (c d : List ℕ) (x y : ℤ) → x ≡ value c → y ≡ value d → y ≤ℤ x → is_earlier c d ≡ true → IsBefore value c d
   before-by_order c d x y p q most t = before-by_ties c d (let low : value d ≤ℤ value c = omega (arith, ints, p, q, most) in low) t
 
+  -- a choice whose sum is no smaller and before which the other doesn't come is no worse
   pub before-by_rest : (c d : List ℕ) (x y : ℤ) → x ≡ value c → y ≡ value d → y ≤ℤ x → is_earlier d c ≡ false → IsBefore value c d
   before-by_rest c d x y p q most f = record { most = (let low : value d ≤ℤ value c = omega (arith, ints, p, q, most) in low); first = λ t. absurd (false≢true (sym f ∙ t)) }
 
+  -- of three choices of one length, each no worse than the next, the first is no worse than the last
   pub before-trans : (c d e : List ℕ) → length c ≡ length d → length d ≡ length e → IsBefore value c d → IsBefore value d e → IsBefore value c e
   before-trans c d e one two p q =
       let a : value d ≤ℤ value c = p.most in

@@ -23,15 +23,19 @@ one_only text field behind whole own ends other first second first_own is =
     let parts = one_field field first behind (32 ∷ second) own first_own ends refl (sym whole ∙ is) in
     other second parts.1
 
+-- a band of more than 40 slots exceeds the limit of lots
 pub many_lots : (n : ℕ) → 40 < n → band_excess n ≡ Some (Lots, n)
 many_lots n many = grind (arith, nat_tests)
 
+-- a band of at most 40 slots exceeds no limit
 pub few_lots : (n : ℕ) → n ≤ 40 → band_excess n ≡ None
 few_lots n few = grind (arith, nat_tests)
 
+-- a bidder behind six or more exceeds the limit of bidders
 pub many_bidders : (n : ℕ) → 6 ≤ n → bidder_excess (n + 1) ≡ Some (Bidders, 7)
 many_bidders n many = grind (arith, nat_tests)
 
+-- a bidder behind fewer than six exceeds no limit
 pub few_bidders : (n : ℕ) → n < 6 → bidder_excess (n + 1) ≡ None
 few_bidders n few = grind (arith, nat_tests)
 
@@ -45,6 +49,7 @@ unused_more bidders name j lt all other =
     push [] x all is = (is, tt)
     push (y ∷ xs) x all is = (all.0, push xs x all.1 is)
 
+-- the name of bidder j + 1 is that of the one behind j others
 pub name_at : (slots : SlotList) (j : ℕ) → (bidder_of slots (j + 1)).name ≡ (get_or slots.bidders j no_bidder).name
 name_at slots j = ap (λ (k : ℕ). (get_or slots.bidders k no_bidder).name) (omega arith)
 
@@ -62,6 +67,7 @@ entrant_fields slots fields first second name width is own e =
     let parts = two_parts name first (decimal width) second (name_own name e.valid) own (sym e.spelled ∙ is) in
     (parts.0, sym parts.1)
 
+-- a valid name that isn't used, and a width that there is room for, make a bidder that may follow
 pub made_entrant : (slots : SlotList) (fields first second text : List ℕ) (width room : ℕ) → fields ≡ first ++ 32 ∷ second → text ≡ first → IsName first → AllByRecursion (λ b. b.name ≢ first) slots.bidders
     → 1 ≤ width → width ≤ room → second ≡ decimal width → room + width_together slots.bidders ≡ slots.band → IsEntrant slots fields text width
 made_entrant slots fields first second text width room is same valid unused some low spelled left =
@@ -77,6 +83,7 @@ next_fields slots line fields first second bid low line_is is own next =
     let parts = two_parts first (decimal bid.start) second (decimal bid.amount) own (number_own bid.start (omega (arith, within, low))) (sym is ∙ behind) in
     (parts.0, parts.1)
 
+-- a line without two fields behind the word states no bid
 pub no_fields : (slots : SlotList) (line fields : List ℕ) (bid : SlotBid) → slots.band ≤ 40 → line ≡ codes "place " ++ fields → ((first second : List ℕ) → NoSpace first → fields ≡ first ++ 32 ∷ second → ⊥) → IsNextPlace slots line bid → ⊥
 no_fields slots line fields bid low line_is none next =
     let within = next.valid.within in
@@ -88,10 +95,12 @@ adds_next old line bid some next = record { bid = bid; some = some; next = next;
 
 -- a line that begins so is a bidder's, and each other is a bid's
 
+-- a line that begins with the word of a bidder adds a bidder
 pub adds_named : (old new : SlotList) (line fields : List ℕ) → line ≡ codes "bidder " ++ fields → Adds old new line → AddsBidder old new (codes "bidder " ++ fields)
 adds_named old new line fields is (inl adds) = subst (AddsBidder old new) is adds
 adds_named old new line fields is (inr adds) = absurd (bidder_no_place line fields (decimal adds.bid.start ++ 32 ∷ decimal adds.bid.amount) is adds.next.spelled)
 
+-- a line that doesn't begin so adds a bid
 pub adds_unnamed : (old new : SlotList) (line : List ℕ) → ((fields : List ℕ) → line ≢ codes "bidder " ++ fields) → Adds old new line → AddsPlace old new line
 adds_unnamed old new line other (inl adds) = absurd (other adds.fields adds.line_is)
 adds_unnamed old new line other (inr adds) = adds

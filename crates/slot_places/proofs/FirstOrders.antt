@@ -16,12 +16,14 @@ use Rattle.slot_places.proofs.SetBits.{holds-joined, holds-nobody}
 abbrev pub Passes : Board → List ℕ → (ℕ → Bool) → List ℕ → Type 0
 Passes b c s order = IsTrue (are_new b.bidders s order) × IsTrue (gives b c s order)
 
+-- in an order that passes, the first bidder can follow and the others pass behind it
 pub passes-says : (b : Board) (c : List ℕ) (s : ℕ → Bool) (j : ℕ) (order : List ℕ) → Passes b c s (j ∷ order) → CanFollow b c s j × Passes b c (joined j s) order
 passes-says b c s j order p =
     let n = new-parts b.bidders s j order p.0 in
     let g = and_parts (b.may s j (number_of c j)) (gives b c (joined j s) order) p.1 in
     (record { some = n.0; low = n.1; new = n.2; may = g.0 }, (n.3, g.1))
 
+-- a bidder that can follow, before an order that passes behind it, makes an order that passes
 pub passes-from : (b : Board) (c : List ℕ) (s : ℕ → Bool) (j : ℕ) (order : List ℕ) → CanFollow b c s j → Passes b c (joined j s) order → Passes b c s (j ∷ order)
 passes-from b c s j order f p = (new-from b.bidders s j order f.some f.low f.new p.0, and_from (b.may s j (number_of c j)) (gives b c (joined j s) order) f.may p.1)
 
@@ -43,22 +45,27 @@ module _ (slots : SlotList) (c : List ℕ) where
   asks : AsksBidders board
   asks = slots-ask slots 0
 
+  -- what passes behind the set of no bits passes behind nobody
   pub passes-start : (order : List ℕ) → Passes board c (holds 0) order → Passes board c nobody order
   passes-start order = passes-same board asks c (holds 0) nobody order (λ i some. holds-nobody i)
 
+  -- what passes behind nobody passes behind the set of no bits
   pub passes-begins : (order : List ℕ) → Passes board c nobody order → Passes board c (holds 0) order
   passes-begins order = passes-same board asks c nobody (holds 0) order (λ i some. sym (holds-nobody i))
 
+  -- what stands behind the first bidder passes behind the set of bits with that bidder
   pub passes-on : (n j : ℕ) (order : List ℕ) → Passes board c (holds n) (j ∷ order) → Passes board c (holds (n + 2 ^ (j - 1))) order
   passes-on n j order p =
       let q = passes-says board c (holds n) j order p in
       passes-same board asks c (joined j (holds n)) (holds (n + 2 ^ (j - 1))) order (λ i some. holds-joined n j i q.0.some q.0.new some) q.1
 
+  -- and the other way, with a bidder that can follow before it
   pub passes-back : (n j : ℕ) (order : List ℕ) → CanFollow board c (holds n) j → Passes board c (holds (n + 2 ^ (j - 1))) order → Passes board c (holds n) (j ∷ order)
   passes-back n j order f p =
       passes-from board c (holds n) j order f
       (passes-same board asks c (holds (n + 2 ^ (j - 1))) (joined j (holds n)) order (λ i some. sym (holds-joined n j i f.some f.new some)) p)
 
+  -- an order of all bidders that passes behind nobody allows the known choice
   pub allowed-by : (order : List ℕ) → length order ≡ length slots.bidders → IsTrue (is_known board c) → Passes board c nobody order → allows slots order c ≡ true
   allowed-by order count known p =
       and_from (is_order (length slots.bidders) order) (is_known board c && gives board c nobody order)
@@ -71,6 +78,7 @@ module _ (slots : SlotList) (c : List ℕ) where
     pub known : IsTrue (is_known board c)
     pub passes : Passes board c nobody order
 
+  -- an order that allows the choice lists all bidders and passes, and the choice is known
   pub allowed-says : (order : List ℕ) → IsTrue (allows slots order c) → Allowed order
   allowed-says order t =
       let p = and_parts (is_order (length slots.bidders) order) (is_known board c && gives board c nobody order) t in
@@ -78,6 +86,7 @@ module _ (slots : SlotList) (c : List ℕ) where
       let r = and_parts (is_known board c) (gives board c nobody order) p.1 in
       record { count = eqb-true (length order) (length slots.bidders) q.0; known = r.0; passes = (q.1, r.1) }
 
+  -- an order for which this is not so doesn't allow the choice
   pub refused-by : (order : List ℕ) → (Allowed order → ⊥) → false ≡ allows slots order c
   refused-by order none =
       elim (cases_Bool (allows slots order c)) [
@@ -90,6 +99,7 @@ pub record FirstOrder (b : Board) (c : List ℕ) (left : ℕ) (s : ℕ → Bool)
   pub is : Order b c left s order
   pub first : (other : List ℕ) → Order b c left s other → IsTrue (is_order_before other order) → ⊥
 
+-- of no bidders the empty order is the first
 pub first-empty : (b : Board) (c : List ℕ) (s : ℕ → Bool) → FirstOrder b c 0 s []
 first-empty b c s = record { is = record { count = refl; new = refl; gives = refl }; first = none }
   where

@@ -13,10 +13,12 @@ listed slots = head_lines slots ++ bidder_lines 0 slots.bidders
 
 -- one more at the end
 
+-- the lines of the bids with one more are those before and its line
 pub place_lines-push : (bs : List SlotBid) (b : SlotBid) → place_lines (bs ++ b ∷ []) ≡ place_lines bs ++ place_line b ∷ []
 place_lines-push [] b = refl
 place_lines-push (c ∷ bs) b = ap (λ (l : List Line). place_line c ∷ l) (place_lines-push bs b)
 
+-- the lines of the bidders with one more are those before and its lines
 pub bidder_lines-push : (before : ℕ) (bs : List SlotBidder) (b : SlotBidder)
     → bidder_lines before (bs ++ b ∷ []) ≡ bidder_lines before bs ++ (bidder_line (before + length bs) b.name b.width ∷ place_lines b.bids)
 bidder_lines-push before [] b = append-nil (bidder_line before b.name b.width ∷ place_lines b.bids) ∙ ap (λ (k : ℕ). bidder_line k b.name b.width ∷ place_lines b.bids) (omega arith)
@@ -25,23 +27,28 @@ bidder_lines-push before (c ∷ bs) b =
     ap (λ (l : List Line). own ++ l) (bidder_lines-push (before + 1) bs b ∙ ap (λ (k : ℕ). bidder_lines (before + 1) bs ++ (bidder_line k b.name b.width ∷ place_lines b.bids)) (omega arith))
     ∙ sym (append_assoc own (bidder_lines (before + 1) bs) (bidder_line (before + suc (length bs)) b.name b.width ∷ place_lines b.bids))
 
+-- with a bidder more, what the last line exceeds is told by that bidder
 pub last_excess-push : (band before : ℕ) (bs : List SlotBidder) (b : SlotBidder) → last_excess band before (bs ++ b ∷ []) ≡ bids_excess (before + length bs + 1) b.bids
 last_excess-push band before [] b = ap (λ (k : ℕ). bids_excess k b.bids) (omega arith)
 last_excess-push band before (c ∷ []) b = ap (λ (k : ℕ). bids_excess k b.bids) (omega arith)
 last_excess-push band before (c ∷ d ∷ bs) b = last_excess-push band (before + 1) (d ∷ bs) b ∙ ap (λ (k : ℕ). bids_excess k b.bids) (omega arith)
 
+-- behind a bid nothing is exceeded
 pub bids_excess-push : (bidders : ℕ) (bs : List SlotBid) (b : SlotBid) → bids_excess bidders (bs ++ b ∷ []) ≡ None
 bids_excess-push bidders [] b = refl
 bids_excess-push bidders (c ∷ bs) b = refl
 
+-- with a bid more, the last start is that of the bid
 pub last_start-push : (before : ℕ) (bs : List SlotBid) (b : SlotBid) → last_start before (bs ++ b ∷ []) ≡ b.start
 last_start-push before [] b = refl
 last_start-push before (c ∷ bs) b = last_start-push c.start bs b
 
+-- valid bids with one more that may follow them are valid
 pub bids_push : (band width before : ℕ) (bs : List SlotBid) (b : SlotBid) → AreSlotBids band width before bs → IsSlotBid band width (last_start before bs) b → AreSlotBids band width before (bs ++ b ∷ [])
 bids_push band width before [] b all is = (is, tt)
 bids_push band width before (c ∷ bs) b all is = (all.0, bids_push band width c.start bs b all.1 is)
 
+-- valid bidders with one more that may follow them are valid
 pub bidders_push : (band : ℕ) (earlier bs : List SlotBidder) (b : SlotBidder) → AreSlotBidders band earlier bs → IsSlotBidder band (earlier ++ bs) b → AreSlotBidders band earlier (bs ++ b ∷ [])
 bidders_push band earlier [] b all is = (subst (λ (e : List SlotBidder). IsSlotBidder band e b) (append-nil earlier) is, tt)
 bidders_push band earlier (c ∷ bs) b all is =
@@ -56,6 +63,7 @@ bidders_last band earlier (c ∷ bs) b all =
 
 -- what a line adds
 
+-- slots with a bidder more have a text, and their lines are those before and the line that adds it
 pub adds_bidder : (old new : SlotList) (line : List ℕ) → IsSlotText old → AddsBidder old new line
     → IsSlotText new × (listed new ≡ listed old ++ (line, excess_of new) ∷ [])
 adds_bidder old new line valid adds =
@@ -85,6 +93,7 @@ bid_added old front bidder bid last valid is =
           (record { name = own.name; unused = own.unused; width = own.width; room = own.room; bids = bids_push old.band bidder.width 0 bidder.bids bid own.bids is });
     }
 
+-- the lines with a bid more of the last bidder are those before and the line of the bid
 pub bid_behind : (band : ℕ) (head : List Line) (front : List SlotBidder) (bidder : SlotBidder) (bid : SlotBid)
     → head ++ bidder_lines 0 (front ++ bidder_with bidder.name bidder.width (bidder.bids ++ bid ∷ []) ∷ [])
     ≡ (head ++ bidder_lines 0 (front ++ bidder ∷ [])) ++ ((place_line bid).0, last_excess band 0 (front ++ bidder_with bidder.name bidder.width (bidder.bids ++ bid ∷ []) ∷ [])) ∷ []
@@ -106,6 +115,7 @@ pub record Parts (bidders : List SlotBidder) : Type 0 where
   pub bidder : SlotBidder
   pub whole : bidders ≡ front ++ bidder ∷ []
 
+-- where there are bidders, there is a last one
 pub parts_of : (bidders : List SlotBidder) → 0 < length bidders → Parts bidders
 parts_of bidders some =
     let all : take (length bidders - 1 + 1) bidders ≡ bidders = take_all (length bidders - 1 + 1) bidders (omega arith) in
@@ -114,10 +124,12 @@ parts_of bidders some =
 last_place : (front : List SlotBidder) (bidder : SlotBidder) → length front ≡ length (front ++ bidder ∷ []) - 1
 last_place front bidder = omega (arith, length-append front (bidder ∷ []))
 
+-- the bidder behind all others is the last by its number
 pub last_of : (slots : SlotList) (front : List SlotBidder) (bidder : SlotBidder) → slots.bidders ≡ front ++ bidder ∷ [] → bidder_of slots (length slots.bidders) ≡ bidder
 last_of slots front bidder whole =
     ap (λ (bs : List SlotBidder). get_or bs (length bs - 1) no_bidder) whole ∙ get_or_at front bidder [] no_bidder (length (front ++ bidder ∷ []) - 1) (last_place front bidder)
 
+-- slots with a bid more are those with a longer list of bids of the last bidder
 pub with_last : (slots : SlotList) (front : List SlotBidder) (bidder : SlotBidder) (bid : SlotBid) → slots.bidders ≡ front ++ bidder ∷ []
     → with_bid slots bid ≡ with_bidders slots (front ++ bidder_with bidder.name bidder.width (bidder.bids ++ bid ∷ []) ∷ [])
 with_last slots front bidder bid whole =
@@ -126,6 +138,7 @@ with_last slots front bidder bid whole =
     ∙ ap (λ (bs : List SlotBidder). with_bidders slots (set bs (length bs - 1) (bidder_with bidder.name bidder.width (bidder.bids ++ bid ∷ [])))) whole
     ∙ ap (with_bidders slots) (set_at front bidder [] (bidder_with bidder.name bidder.width (bidder.bids ++ bid ∷ [])) (length (front ++ bidder ∷ []) - 1) (last_place front bidder))
 
+-- slots with a bid more have a text, and their lines are those before and the line that adds it
 pub adds_place : (old new : SlotList) (line : List ℕ) → IsSlotText old → AddsPlace old new line
     → IsSlotText new × (listed new ≡ listed old ++ (line, excess_of new) ∷ [])
 adds_place old new line valid adds =
@@ -141,6 +154,7 @@ adds_place old new line valid adds =
     subst (λ (s : SlotList). IsSlotText s × (listed s ≡ listed old ++ (line, excess_of s) ∷ [])) (sym (adds.new_is ∙ with_last old parts.front parts.bidder adds.bid parts.whole))
     (subst (λ (l : List ℕ). IsSlotText slots × (listed slots ≡ listed old ++ (l, excess_of slots) ∷ [])) (sym adds.next.spelled) here)
 
+-- slots with an entry more have a text, and their lines are those before and the line that adds it
 pub adds_one : (old new : SlotList) (line : List ℕ) → IsSlotText old → Adds old new line
     → IsSlotText new × (listed new ≡ listed old ++ (line, excess_of new) ∷ [])
 adds_one old new line valid adds = ⊎_elim (adds_bidder old new line valid) (adds_place old new line valid) adds
@@ -153,5 +167,6 @@ place_marks old bid some =
     ∙ last_excess-push old.band 0 parts.front (bidder_with parts.bidder.name parts.bidder.width (parts.bidder.bids ++ bid ∷ []))
     ∙ bids_excess-push (0 + length parts.front + 1) parts.bidder.bids bid
 
+-- a bidder more exceeds what so many bidders exceed
 pub bidder_marks : (old : SlotList) (name : List ℕ) (width : ℕ) → excess_of (with_bidders old (old.bidders ++ bidder_with name width [] ∷ [])) ≡ bidder_excess (length old.bidders + 1)
 bidder_marks old name width = last_excess-push old.band 0 old.bidders (bidder_with name width []) ∙ ap bidder_excess (omega arith)

@@ -16,6 +16,7 @@ use Rattle.slot_places.specs.Slots.{SlotBid, SlotList}
 use Rattle.slot_places.specs.SlotForm.{band_line, bidder_line, place_line}
 use Rattle.slot_places.specs.Stages.{with_bid, bidder_with, with_bidders, IsEntrant, AddsBidder, AddsPlace, Adds}
 
+-- the first line has no line feed
 pub slots_word : IsLine (codes "slots 1")
 slots_word = ((λ is. absurd (omega arith)), ((λ is. absurd (omega arith)), ((λ is. absurd (omega arith)), ((λ is. absurd (omega arith)), ((λ is. absurd (omega arith)), ((λ is. absurd (omega arith)), ((λ is. absurd (omega arith)), tt)))))))
 
@@ -28,19 +29,23 @@ bidder_word = ((λ is. absurd (omega arith)), ((λ is. absurd (omega arith)), ((
 place_word : IsLine (codes "place ")
 place_word = ((λ is. absurd (omega arith)), ((λ is. absurd (omega arith)), ((λ is. absurd (omega arith)), ((λ is. absurd (omega arith)), ((λ is. absurd (omega arith)), ((λ is. absurd (omega arith)), tt))))))
 
+-- the last line has no line feed
 pub end_word : IsLine (codes "end")
 end_word = ((λ is. absurd (omega arith)), ((λ is. absurd (omega arith)), ((λ is. absurd (omega arith)), tt)))
 
 behind_space : (n : ℕ) → n < 2 ^ 120 → IsLine (32 ∷ decimal n)
 behind_space n small = ((λ is. absurd (omega arith)), number_line n small)
 
+-- the line of a band has no line feed
 pub band_feeds : (n : ℕ) → n ≤ 999 → IsLine (band_line n).0
 band_feeds n low = line_append (codes "band ") (decimal n) band_word (number_line n (omega (arith, low)))
 
+-- the line of a bidder has no line feed
 pub bidder_feeds : (before : ℕ) (name : List ℕ) (width : ℕ) → IsName name → width ≤ 999 → IsLine (bidder_line before name width).0
 bidder_feeds before name width is low =
     line_append (codes "bidder ") (name ++ 32 ∷ decimal width) bidder_word (line_append name (32 ∷ decimal width) (name_line name is) (behind_space width (omega (arith, low))))
 
+-- the line of a bid has no line feed
 pub place_feeds : (b : SlotBid) → b.start ≤ 1000 → b.amount ≤ 2 ^ 42 → IsLine (place_line b).0
 place_feeds b low top =
     line_append (codes "place ") (decimal b.start ++ 32 ∷ decimal b.amount) place_word
@@ -53,6 +58,7 @@ two_parts a b x y na nb is =
     let rest : 32 ∷ x ≡ 32 ∷ y = parts.1 in
     (parts.0, cc rest)
 
+-- the line of a band states one band
 pub band_one : (m n : ℕ) → m ≤ 999 → n ≤ 999 → (band_line m).0 ≡ (band_line n).0 → m ≡ n
 band_one m n a b is = decimal_one m n (omega (arith, a)) (omega (arith, b)) (append_cancel_left (codes "band ") (decimal m) (decimal n) is)
 
@@ -75,9 +81,11 @@ place_one band a b low sa sb ta tb is =
 pub end_no_place : (l fields : List ℕ) → l ≡ codes "end" → l ≡ codes "place " ++ fields → ⊥
 end_no_place l fields a b = omega (arith, ap (λ (x : List ℕ). get_or x 0 0) (sym a ∙ b))
 
+-- no line is both a bidder's and a bid's
 pub bidder_no_place : (l fields other : List ℕ) → l ≡ codes "bidder " ++ fields → l ≡ codes "place " ++ other → ⊥
 bidder_no_place l fields other a b = omega (arith, ap (λ (x : List ℕ). get_or x 0 0) (sym a ∙ b))
 
+-- the last line adds no entry
 pub end_adds_none : (old new : SlotList) (l : List ℕ) → l ≡ codes "end" → Adds old new l → ⊥
 end_adds_none old new l last (inl adds) = end_no_bidder l adds.fields last adds.line_is
 end_adds_none old new l last (inr adds) = end_no_place l (decimal adds.bid.start ++ 32 ∷ decimal adds.bid.amount) last adds.next.spelled
@@ -97,6 +105,7 @@ two_places old a b l low x y =
     let same = place_one old.band x.bid y.bid low (omega (arith, sv)) (omega (arith, sw)) v.top w.top (sym x.next.spelled ∙ y.next.spelled) in
     x.new_is ∙ ap (with_bid old) same ∙ sym y.new_is
 
+-- a line adds only one entry to slots
 pub new_one : (old a b : SlotList) (l : List ℕ) → old.band ≤ 999 → Adds old a l → Adds old b l → a ≡ b
 new_one old a b l low (inl x) (inl y) = two_bidders old a b l low x y
 new_one old a b l low (inl x) (inr y) = absurd (bidder_no_place l x.fields (decimal y.bid.start ++ 32 ∷ decimal y.bid.amount) x.line_is y.next.spelled)

@@ -48,6 +48,7 @@ known-set m k (x ∷ c) (suc i) n low t =
 
 -- a board on which a bidder can always be given 0
 module _ (b : Board) (idle : (s : ℕ → Bool) (j : ℕ) → IsTrue (b.may s j 0)) where
+  -- a known choice has for each bidder 0 or the number of one of its bids
   pub placed-number : (c : List ℕ) (j : ℕ) → IsTrue (is_known b c) → 0 < j → j ≤ b.bidders → number_of c j ≤ b.bids j
   placed-number c j known some inside =
       let all = known-length (menu_of b) 0 c known in
@@ -55,12 +56,14 @@ module _ (b : Board) (idle : (s : ℕ → Bool) (j : ℕ) → IsTrue (b.may s j 
       let same : suc 0 + (j - 1) ≡ j = omega (arith, some) in
       rw same at at
 
+  -- the choice in which nobody wins is placed
   pub placed-none : IsTrue (is_placed b (replicate b.bidders 0))
   placed-none =
       let c = replicate b.bidders 0 in
       and_from (is_known b c) (can_place b c b.bidders nobody) (none-known (menu_of b) 0 b.bidders (omega arith))
       (place-idle b c b.bidders nobody (let all = outside-nobody b.bidders in omega (arith, all)) (λ j t some new. rw (none-number b.bidders j) (idle t j)))
 
+  -- a placed choice stays placed with one number set to 0
   pub placed-fewer : (c : List ℕ) (k : ℕ) → IsTrue (is_placed b c) → IsTrue (is_placed b (set c k 0))
   placed-fewer c k t =
       let p = and_parts (is_known b c) (can_place b c b.bidders nobody) t in
@@ -70,9 +73,11 @@ module _ (b : Board) (idle : (s : ℕ → Bool) (j : ℕ) → IsTrue (b.may s j 
       more : (j : ℕ) (s : ℕ → Bool) → 0 < j → nobody j ≡ false → IsTrue (b.may s j (number_of c j)) → IsTrue (b.may s j (number_of (set c k 0) j))
       more j s some new may = elim (set-none c k j) [ inl same ↦ rw same may | inr none ↦ rw none (idle s j) ]
 
+-- in slots each bidder can be given 0 behind any set
 pub slots-idle : (slots : SlotList) (s : ℕ → Bool) (j : ℕ) → IsTrue ((board_of slots).may s j 0)
 slots-idle slots s j = refl
 
+-- slots are a lawful market where there are fewer than 2^16 bidders
 pub market-of_slots : (slots : SlotList) → length slots.bidders < 2 ^ 16 → IsMarket (market_of slots)
 market-of_slots slots few =
     let b = board_of slots in

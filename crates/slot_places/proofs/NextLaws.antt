@@ -38,6 +38,7 @@ module _ (b : Board) (asks : AsksBidders b) (c : List ℕ) (left n j : ℕ) wher
   joined-is : 0 < j → holds n j ≡ false → IsSame (joined j (holds n)) (holds (n + 2 ^ (j - 1)))
   joined-is some new i positive = holds-joined n j i some new positive
 
+  -- a bidder that can follow, behind which the others can be placed, can be next
   pub next-is : CanFollow b c (holds n) j → IsTrue (can_place b c left (holds (n + 2 ^ (j - 1)))) → Next b c left (holds n) j
   next-is f rest = record {
     some = f.some;
@@ -47,22 +48,28 @@ module _ (b : Board) (asks : AsksBidders b) (c : List ℕ) (left n j : ℕ) wher
     rest = place-same b asks c left (joined j (holds n)) (holds (n + 2 ^ (j - 1))) (joined-is f.some f.new) ∙ rest;
   }
 
+  -- a bidder that can be next can follow
   pub next-follows : Next b c left (holds n) j → CanFollow b c (holds n) j
   next-follows next = record { some = next.some; low = next.low; new = next.new; may = next.may }
 
+  -- behind a bidder that can be next the others can be placed
   pub next-places : Next b c left (holds n) j → IsTrue (can_place b c left (holds (n + 2 ^ (j - 1))))
   next-places next = sym (place-same b asks c left (joined j (holds n)) (holds (n + 2 ^ (j - 1))) (joined-is next.some next.new)) ∙ next.rest
 
+  -- where a bidder can be next, so many and one more can be placed
   pub placed-by : Next b c left (holds n) j → IsTrue (can_place b c (suc left) (holds n))
   placed-by next = next-from b c left (holds n) j next
 
   -- the same with the weight of the bidder
   module _ (w : ℕ) (is : w ≡ 2 ^ (j - 1)) where
+    -- a bidder that can follow can be next, where the others can be placed behind the set with its weight
     pub next-by : CanFollow b c (holds n) j → IsTrue (can_place b c left (holds (n + w))) → Next b c left (holds n) j
     next-by f rest = next-is f (subst (λ m. IsTrue (can_place b c left (holds (n + m)))) is rest)
 
+    -- where a bidder can be next, the others can be placed behind the set with its weight
     pub places-by : Next b c left (holds n) j → IsTrue (can_place b c left (holds (n + w)))
     places-by next = subst (λ m. IsTrue (can_place b c left (holds (n + m)))) (sym is) (next-places next)
 
+    -- the set with the weight of a bidder that can follow is one of the sets
     pub small-by : CanFollow b c (holds n) j → n < 2 ^ b.bidders → n + w < 2 ^ b.bidders
     small-by f low = let small = joined-small b.bidders n j low f.some f.low f.new in omega (arith, small, is)

@@ -14,6 +14,7 @@ pub record Order (b : Board) (c : List ℕ) (left : ℕ) (s : ℕ → Bool) (ord
   pub new : IsTrue (are_new b.bidders s order)
   pub gives : IsTrue (gives b c s order)
 
+-- the first of new entries is a bidder outside the set, and the others are new behind it
 pub new-parts : (n : ℕ) (s : ℕ → Bool) (j : ℕ) (order : List ℕ) → IsTrue (are_new n s (j ∷ order)) → (0 < j) × (j ≤ n) × (s j ≡ false) × IsTrue (are_new n (joined j s) order)
 new-parts n s j order t =
     let p = and_parts (nat_lt 0 j && nat_le j n) (not (s j) && are_new n (joined j s) order) t in
@@ -21,12 +22,14 @@ new-parts n s j order t =
     let r = and_parts (not (s j)) (are_new n (joined j s) order) p.1 in
     (ltb-true 0 j q.0, leb-true j n q.1, not-true (s j) r.0, r.1)
 
+-- a bidder outside the set, before entries that are new behind it, makes new entries
 pub new-from : (n : ℕ) (s : ℕ → Bool) (j : ℕ) (order : List ℕ) → 0 < j → j ≤ n → s j ≡ false → IsTrue (are_new n (joined j s) order) → IsTrue (are_new n s (j ∷ order))
 new-from n s j order some low new rest =
     and_from (nat_lt 0 j && nat_le j n) (not (s j) && are_new n (joined j s) order)
     (and_from (nat_lt 0 j) (nat_le j n) (lt-ltb 0 j some) (le-leb j n low))
     (and_from (not (s j)) (are_new n (joined j s) order) (not_from_false (s j) new) rest)
 
+-- where so many bidders can be placed, an order gives each its number
 pub order-exists : (b : Board) (c : List ℕ) (left : ℕ) (s : ℕ → Bool) → IsTrue (can_place b c left s) → (order : List ℕ) × Order b c left s order
 order-exists b c zero s t = ([], record { count = refl; new = refl; gives = refl })
 order-exists b c (suc left) s t =
@@ -41,6 +44,7 @@ order-exists b c (suc left) s t =
       },
     )
 
+-- where an order of so many bidders gives each its number, they can be placed
 pub order-places : (b : Board) (c : List ℕ) (left : ℕ) (s : ℕ → Bool) (order : List ℕ) → Order b c left s order → IsTrue (can_place b c left s)
 order-places b c zero s order o = refl
 order-places b c (suc left) s [] o = absurd (omega (arith, o.count))
@@ -68,6 +72,7 @@ order-of_allowed slots c t =
           (and_from (is_known b c) (gives b c nobody o.0) p.0 o.1.gives),
     )
 
+-- a choice that an order allows is placed
 pub allowed-by_order : (slots : SlotList) (c order : List ℕ) → IsTrue (allows slots order c) → IsTrue (is_placed (board_of slots) c)
 allowed-by_order slots c order t =
     let b = board_of slots in

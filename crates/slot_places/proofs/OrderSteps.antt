@@ -57,6 +57,7 @@ so-ends slots c order n known so =
 pub so-fails : (slots : SlotList) (c order : List ℕ) (left n : ℕ) → SoPlaced slots c order left n → can_place (board_of slots) c left (holds n) ≡ false → is_placed (board_of slots) c ≡ false
 so-fails slots c order left n so none = and_right (is_known (board_of slots) c) (can_place (board_of slots) c (length slots.bidders) nobody) (sym so.same ∙ none)
 
+-- a choice that isn't known isn't placed
 pub unknown-fails : (slots : SlotList) (c : List ℕ) → is_known (board_of slots) c ≡ false → is_placed (board_of slots) c ≡ false
 unknown-fails slots c none = and_left (is_known (board_of slots) c) (can_place (board_of slots) c (length slots.bidders) nobody) none
 
@@ -66,6 +67,7 @@ pub record SoTested (slots : SlotList) (c order : List ℕ) (i n : ℕ) : Type 0
   pub part : Passes (board_of slots) c nobody order → Passes (board_of slots) c (holds n) (drop i order)
   pub small : n < 2 ^ length slots.bidders
 
+-- no entry of the order is tested yet
 pub tests-begin : (slots : SlotList) (c order : List ℕ) → SoTested slots c order 0 0
 tests-begin slots c order = record { whole = passes-start slots c order; part = passes-begins slots c order; small = power-positive (length slots.bidders) }
 

@@ -30,6 +30,7 @@ amount-small slots kept j (suc i) some low known = (kept.bidders j some low).amo
 bids-fewer : (slots : SlotList) (skip j : ℕ) → (board_without slots skip).bids j ≤ length (bids_of slots j)
 bids-fewer slots skip j = cond_both (j == skip) 0 (length (bids_of slots j)) (λ n. n ≤ length (bids_of slots j)) (λ _. omega arith) (λ _. omega arith)
 
+-- a sum of n numbers of at most so much each is at most n times that
 pub sum-most : (f : ℕ → ℕ) (most n : ℕ) → ((j : ℕ) → 0 < j → j ≤ n → f j ≤ most) → sum_to f n ≤ n * most
 sum-most f most zero h = omega arith
 sum-most f most (suc n) h =
@@ -37,6 +38,7 @@ sum-most f most (suc n) h =
     let own = h (suc n) (omega arith) (omega arith) in
     omega (arith, rest, own)
 
+-- with a denominator of 1 and no surpluses, no sum of a placed choice leaves the range
 pub range-plain : (slots : SlotList) (skip : ℕ) (surplus : List ℤ) → AreSlots slots → ((k : ℕ) → get_or surplus k (pos 0) ≡ pos 0) → StaysInRange (board_without slots skip) (amount_of slots) (pos 1) surplus
 range-plain slots skip surplus kept zeros c t =
     let n = length slots.bidders in
@@ -76,9 +78,11 @@ amount-plain slots surplus j zero none = rw none refl
 amount-plain slots surplus j (suc i) none = rw none omega (arith, ints)
 
 module _ (slots : SlotList) (skip : ℕ) (surplus : List ℤ) (zeros : (k : ℕ) → get_or surplus k (pos 0) ≡ pos 0) where
+  -- with a denominator of 1 and no surpluses, the sum of a choice is its value
   pub value-plain : (c : List ℕ) → sum_after (lowered (pos 1) (amount_of slots) surplus) 0 c ≡ value_of (market_of slots) c
   value-plain c = sum-plain (amount_of slots) surplus 0 c (λ j. refl) (λ j. zeros (j - 1))
 
+  -- the first of the greatest by the sums is the first of the greatest by the values
   pub first-plain : (c : List ℕ) → IsFirstGreatest (is_placed (board_without slots skip)) (sum_after (lowered (pos 1) (amount_of slots) surplus) 0) c → IsFirstGreatest (is_placed (board_without slots skip)) (value_of (market_of slots)) c
   first-plain c g = IsFirstGreatest-same (is_placed (board_without slots skip)) (is_placed (board_without slots skip)) (sum_after (lowered (pos 1) (amount_of slots) surplus) 0) (value_of (market_of slots)) c (λ d. refl) value-plain g
 
@@ -87,6 +91,7 @@ module _ (slots : SlotList) (skip : ℕ) (surplus : List ℤ) (zeros : (k : ℕ)
       sum-same (counts_outside s (lowered (pos 1) (amount_of slots) surplus)) (counts_outside s (amount_of slots)) 0 c
       (λ j i some. ap (λ z. cond (s j) (pos 0) z) (amount-plain slots surplus j i (zeros (j - 1))))
 
+  -- the exact table of the lowered amounts is that of the amounts
   pub table-plain : (table : List (List ℤ)) → IsSetTable (board_without slots skip) (lowered (pos 1) (amount_of slots) surplus) table → IsSetTable (board_without slots skip) (amount_of slots) table
   table-plain table is = record {
     lines = is.lines;
@@ -118,6 +123,7 @@ known-without : (slots : SlotList) (skip : ℕ) (c : List ℕ) → 0 < skip → 
 known-without slots skip c some =
     sym (fits-known (board_without slots skip) c) ∙ (fits-skip (menu_of (board_of slots)) skip [] c some ∙ ap (λ x. x && not (uses c skip)) (fits-known (board_of slots) c))
 
+-- a choice is placed without a bidder's bids just where it is allowed and doesn't use the bidder
 pub placed-without : (slots : SlotList) (skip : ℕ) (c : List ℕ) → 0 < skip → is_placed (board_without slots skip) c ≡ allowed_without (market_of slots) skip c
 placed-without slots skip c some =
     let n = length slots.bidders in
@@ -125,6 +131,7 @@ placed-without slots skip c some =
     ∙ (ap (λ x. (is_known (board_of slots) c && not (uses c skip)) && x) (place-without slots skip c n nobody)
     ∙ move-last (is_known (board_of slots) c) (can_place (board_of slots) c n nobody) (not (uses c skip)))
 
+-- the first of the greatest without a bidder's bids is the first of the greatest that don't use the bidder
 pub first-without : (slots : SlotList) (skip : ℕ) (c : List ℕ) → 0 < skip → IsFirstGreatest (is_placed (board_without slots skip)) (value_of (market_of slots)) c → IsFirstGreatest (allowed_without (market_of slots) skip) (value_of (market_of slots)) c
 first-without slots skip c some g =
     IsFirstGreatest-same (is_placed (board_without slots skip)) (allowed_without (market_of slots) skip) (value_of (market_of slots)) (value_of (market_of slots)) c (λ d. placed-without slots skip d some) (λ d. refl) g

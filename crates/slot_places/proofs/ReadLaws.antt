@@ -12,28 +12,34 @@ use Rattle.slot_places.specs.declared.slots.Slots.TheInside.{Inside}
 use Rattle.slot_places.proofs.SizeLaws.{sum_to-term}
 use Rattle.slot_places.specs.Fields.{bid_value, bidder_value, slots_value}
 
+-- there are as many bidders in the slots as in the fields
 pub bidders-read : (s : Inside) (slots : SlotList) → slots_value s ≡ slots → length s.bidders.items ≡ length slots.bidders
 bidders-read s slots is = sym (length-map s.bidders.items bidder_value) ∙ ap (λ (x : SlotList). length x.bidders) is
 
 module _ (s : Inside) (slots : SlotList) (is : slots_value s ≡ slots) (j : ℕ) (known : j ≤ length s.bidders.items) (some : zero < j) (bidder : BandBidder) (read : bidder ≡ get_or s.bidders.items (j - 1) bidder) where
+  -- a bidder that is read from the fields is the bidder of the slots
   pub bidder-read : bidder_of slots j ≡ bidder_value bidder
   bidder-read =
       let inside : j - 1 < length s.bidders.items = omega (arith, known, some) in
       let one : bidder_of (slots_value s) j ≡ bidder_value (get_or s.bidders.items (j - 1) bidder) = get_or-map bidder_value s.bidders.items (j - 1) bidder no_bidder inside in
       ap (λ x. bidder_of x j) (sym is) ∙ one ∙ ap bidder_value (sym read)
 
+  -- its bids are those of the slots
   pub bids-read : bids_of slots j ≡ map bid_value bidder.places.items
   bids-read = ap (λ (x : SlotBidder). x.bids) bidder-read
 
+  -- it has as many bids as in the slots
   pub count-read : length (bids_of slots j) ≡ length bidder.places.items
   count-read = ap length bids-read ∙ length-map _ _
 
+  -- it has at most 40 bids
   pub count-most : AreSlots (slots_value s) → length bidder.places.items ≤ 40
   count-most kept =
       let all : AreSlots slots = subst AreSlots is kept in
       let few = (all.bidders j some (let e = bidders-read s slots is in omega (arith, known, e))).few in
       omega (arith, few, count-read)
 
+  -- a bid that is read from its fields is the bid of the slots
   pub bid-at : (i : ℕ) (p : Place) → zero < i → i ≤ length bidder.places.items → p ≡ get_or bidder.places.items (i - 1) p → bid_of slots j i ≡ bid_value p
   bid-at zero p low high r = absurd (omega (arith, low))
   bid-at (suc i) p low high r =
@@ -53,6 +59,7 @@ cond-most : (x : Bool) (w : ℕ) → cond x w 0 ≤ w
 cond-most true w = omega arith
 cond-most false w = omega arith
 
+-- the bidders of a set up to one are at most 40 slots wide together
 pub widths-to : (slots : SlotList) → AreSlots slots → (s : ℕ → Bool) (k : ℕ) → k ≤ length slots.bidders → sum_to (λ j. cond (s j) (width_of slots j) 0) k ≤ 40
 widths-to slots kept s k low =
     let a = part-most (λ j. cond (s j) (width_of slots j) 0) (width_of slots) k (λ j. cond-most (s j) (width_of slots j)) in
@@ -60,5 +67,6 @@ widths-to slots kept s k low =
     let b : sum_to (width_of slots) k ≤ sum_to (width_of slots) (length slots.bidders) = subst (λ n. sum_to (width_of slots) k ≤ sum_to (width_of slots) n) e (first-most (width_of slots) k (length slots.bidders - k)) in
     omega (arith, a, b, kept.widths, kept.band.1)
 
+-- no bidder is wider than 40 slots
 pub width-one : (slots : SlotList) → AreSlots slots → (j : ℕ) → 0 < j → j ≤ length slots.bidders → width_of slots j ≤ 40
 width-one slots kept j some low = let a = sum_to-term (width_of slots) (length slots.bidders) j some low in omega (arith, a, kept.widths, kept.band.1)

@@ -164,6 +164,7 @@ one_step s t u l = by_stage s
 one_value : (v w : SlotList) → finish v ≡ finish w → v ≡ w
 one_value v w is = cc
 
+-- the stages read just the slots that have a text, line by line
 pub reads : Reads IsSound Step excess begin finish IsSlotText slot_lines
 reads = record {
   complete = complete;

@@ -24,6 +24,7 @@ even-one n e = omega (arith, e)
 odd-one : (n : ℕ) → n % 2 ≡ 0 → (n + 1) % 2 ≡ 1
 odd-one n e = omega (arith, e)
 
+-- a bit that was 0 is added, and the other bits stay
 pub bit-other : (k n i : ℕ) → bit_at n k ≡ 0 → (i ≡ k → ⊥) → bit_at (n + 2 ^ k) i ≡ bit_at n i
 bit-other zero n zero out other = absurd (other refl)
 bit-other zero n (suc i) out other = bit_at-suc (n + 1) i ∙ (ap (λ m. bit_at m i) (even-one n (sym (bit_at_lowest n) ∙ out)) ∙ sym (bit_at-suc n i))
@@ -34,6 +35,7 @@ bit-other (suc k) n (suc i) out other =
     ∙ (ap (λ m. bit_at m i) (ap (λ p. (n + p) / 2) (twice k) ∙ half-more n (2 ^ k))
     ∙ (bit-other k (n / 2) i (sym (bit_at-suc n k) ∙ out) (λ e. other (ap suc e)) ∙ sym (bit_at-suc n i)))
 
+-- the bit that is added is 1
 pub bit-self : (k n : ℕ) → bit_at n k ≡ 0 → bit_at (n + 2 ^ k) k ≡ 1
 bit-self zero n out = bit_at_lowest (n + 1) ∙ odd-one n (sym (bit_at_lowest n) ∙ out)
 bit-self (suc k) n out =
@@ -59,6 +61,7 @@ holds-joined n j i some new positive =
           ∙ ap (λ x. x == 1) (sym (bit-other (j - 1) n (i - 1) (holds-out n j new) (λ e. other (omega (arith, e, some, positive)))))
     ]
 
+-- the set of no bits holds nobody
 pub holds-nobody : (i : ℕ) → holds 0 i ≡ false
 holds-nobody i = ap (λ x. x == 1) (bit_at-zero (i - 1))
 
@@ -105,6 +108,7 @@ some-out k n small =
     let e : suc q.0 - 1 ≡ q.0 = omega arith in
     (suc q.0, omega arith, omega (arith, q.1), ne_eqb (bit_at n (suc q.0 - 1)) 1 (λ t. let z : bit_at n (suc q.0 - 1) ≡ 0 = subst (λ h. bit_at n h ≡ 0) (sym e) q.2 in omega (arith, t, z)))
 
+-- a set that isn't that of all has bidders outside
 pub outside-positive : (k n : ℕ) → n + 1 < 2 ^ k → 0 < outside (holds n) k
 outside-positive k n small =
     let q = some-out k n small in
@@ -119,9 +123,11 @@ all-to n k all own h some low =
       | inr other ↦ all h some (omega (arith, low, other))
     ]
 
+-- a set that isn't that of all doesn't hold everyone
 pub none-out : (k n : ℕ) → n + 1 < 2 ^ k → ((h : ℕ) → 0 < h → h ≤ k → holds n h ≡ true) → ⊥
 none-out k n small all = let q = some-out k n small in false≢true (sym q.3 ∙ all q.0 q.1 q.2)
 
+-- there is at least one set, however few the bidders
 pub power-positive : (k : ℕ) → 0 < 2 ^ k
 power-positive zero = omega arith
 power-positive (suc k) = let t = twice k in let p = power-positive k in omega (arith, t, p)

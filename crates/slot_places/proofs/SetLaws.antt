@@ -4,9 +4,11 @@ use Rattle.std.proofs.Common.{inl, inr, sym, ◌∙◌, ap, arith, subst}
 use Rattle.std.proofs.lemmas.Bool.{false≢true, or_cases, or_left, or_right, eq-eqb, ne_eqb, cases_Bool, cases_eq}
 use Rattle.slot_places.specs.Board.{nobody, joined, some_of, outside}
 
+-- the set with a bidder holds it
 pub joined-self : (j : ℕ) (s : ℕ → Bool) → joined j s j ≡ true
 joined-self j s = or_left (j == j) (s j) (eq-eqb j j refl)
 
+-- the set with a bidder says of all others what the set says
 pub joined-other : (j : ℕ) (s : ℕ → Bool) (i : ℕ) → (i ≡ j → ⊥) → joined j s i ≡ s i
 joined-other j s i other = ap (λ b. b || s i) (ne_eqb i j other)
 
@@ -18,9 +20,11 @@ joined-new j s i f =
       | inr out ↦ out
     ]
 
+-- who is outside the set with a bidder isn't that bidder
 pub joined-differs : (j : ℕ) (s : ℕ → Bool) (i : ℕ) → joined j s i ≡ false → i ≡ j → ⊥
 joined-differs j s i f same = false≢true (sym f ∙ or_left (i == j) (s i) (eq-eqb i j same))
 
+-- where a bidder passes, some bidder passes
 pub some-at : (p : ℕ → Bool) (n j : ℕ) → 0 < j → j ≤ n → IsTrue (p j) → IsTrue (some_of p n)
 some-at p zero j some low t = absurd (omega (arith, some, low))
 some-at p (suc n) j some low t =
@@ -29,6 +33,7 @@ some-at p (suc n) j some low t =
       | inr other ↦ or_left (some_of p n) (p (suc n)) (some-at p n j some (omega (arith, low, other)) t)
     ]
 
+-- where some bidder passes, there is one that does
 pub some-which : (p : ℕ → Bool) (n : ℕ) → IsTrue (some_of p n) → (j : ℕ) × (0 < j) × (j ≤ n) × IsTrue (p j)
 some-which p zero t = absurd (false≢true t)
 some-which p (suc n) t =
@@ -41,6 +46,7 @@ some-which p (suc n) t =
 abbrev count_one : Bool → ℕ
 count_one b = cond b 0 1
 
+-- all bidders are outside the set of nobody
 pub outside-nobody : (n : ℕ) → outside nobody n ≡ n
 outside-nobody zero = refl
 outside-nobody (suc n) = omega (arith, outside-nobody n)

@@ -86,12 +86,14 @@ module _ (b : Board) (asks : AsksBidders b) (idle : (s : ℕ → Bool) (j : ℕ)
           let same = up_to-out k out in
           ap (λ x. can_place b c x (up_to s k)) (sym (outside-same (up_to s (suc k)) (up_to s k) b.bidders same)) ∙ (sym (place-same b asks c (outside (up_to s (suc k)) b.bidders) (up_to s (suc k)) (up_to s k) same) ∙ rest)
 
+  -- where those outside the set can be placed behind it, all bidders can be placed behind nobody
   pub place-whole : IsTrue (can_place b c (outside s b.bidders) s) → IsTrue (can_place b c b.bidders nobody)
   place-whole t =
       let same : IsSame (up_to s 0) nobody = λ i some. up_to-past s 0 i some in
       let all : outside (up_to s 0) b.bidders ≡ b.bidders = outside-same (up_to s 0) nobody b.bidders same ∙ outside-nobody b.bidders in
       sym (place-same b asks c b.bidders (up_to s 0) nobody same) ∙ subst (λ m. IsTrue (can_place b c m (up_to s 0))) all (reach b.bidders 0 (omega arith) t)
 
+-- a choice that fits behind a set is placed
 pub fits-placed : (b : Board) → AsksBidders b → ((s : ℕ → Bool) (j : ℕ) → IsTrue (b.may s j 0)) → (s : ℕ → Bool) (c : List ℕ) → ((i : ℕ) → b.bidders < i → s i ≡ false) → IsTrue (fits_behind b s c) → IsTrue (is_placed b c)
 fits-placed b asks idle s c within t =
     let f = fits-says b s c t in
@@ -112,6 +114,7 @@ sum_to-term f (suc n) j some low =
       | inr other ↦ let rest = sum_to-term f n j some (omega (arith, low, other)) in omega (arith, rest)
     ]
 
+-- a sum is no greater in size than the bounds of its terms together
 pub sum-size : (f : ℕ → ℕ → ℤ) (caps : ℕ → ℕ) (k : ℕ) (c : List ℕ) → ((i : ℕ) → i < length c → unsigned_abs (f (suc (k + i)) (get_or c i 0)) ≤ caps (suc (k + i))) → sum_to caps k + unsigned_abs (sum_after f k c) ≤ sum_to caps (k + length c)
 sum-size f caps k [] all = let e : k + 0 ≡ k = omega arith in rw e (omega arith)
 sum-size f caps k (x ∷ c) all =
@@ -141,9 +144,11 @@ module _ (b : Board) (asks : AsksBidders b) (idle : (s : ℕ → Bool) (j : ℕ)
   all-size : sum_to caps b.bidders ≤ 2 ^ 120
   all-size = range c (fits-placed b asks idle s c within fits)
 
+  -- a bid of a choice that fits behind a set stays in the range, with the denominator and the surplus
   pub own-size : (j : ℕ) → 0 < j → j ≤ b.bidders → unsigned_abs den * unsigned_abs (worth j (number_of c j)) + unsigned_abs (of_bidder surplus j) ≤ 2 ^ 120
   own-size j some low = let a = sum_to-term caps b.bidders j some low in let m = all-size in omega (arith, a, m)
 
+  -- what a choice that fits behind a set counts outside it stays in the range
   pub whole-size : unsigned_abs (sum_outside s (lowered den worth surplus) c) ≤ 2 ^ 120
   whole-size =
       let counts = lowered den worth surplus in

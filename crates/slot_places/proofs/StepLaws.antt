@@ -20,15 +20,18 @@ pub record Fits (b : Board) (s : ℕ → Bool) (c : List ℕ) : Type 0 where
   pub idle : IsTrue (is_idle_in s 0 c)
   pub place : IsTrue (can_place b c (outside s b.bidders) s)
 
+-- a choice that fits behind a set is known, idle in the set, and its others can be placed behind it
 pub fits-says : (b : Board) (s : ℕ → Bool) (c : List ℕ) → IsTrue (fits_behind b s c) → Fits b s c
 fits-says b s c t =
     let p = and_parts (is_known b c && is_idle_in s 0 c) (can_place b c (outside s b.bidders) s) t in
     let q = and_parts (is_known b c) (is_idle_in s 0 c) p.0 in
     record { known = q.0; idle = q.1; place = p.1 }
 
+-- a known choice that is idle in a set, and whose others can be placed behind it, fits behind the set
 pub fits-from : (b : Board) (s : ℕ → Bool) (c : List ℕ) → Fits b s c → IsTrue (fits_behind b s c)
 fits-from b s c f = and_from (is_known b c && is_idle_in s 0 c) (can_place b c (outside s b.bidders) s) (and_from (is_known b c) (is_idle_in s 0 c) f.known f.idle) f.place
 
+-- a choice that fits behind a set has a number for each bidder
 pub fits-length : (b : Board) (s : ℕ → Bool) (c : List ℕ) → IsTrue (fits_behind b s c) → length c ≡ b.bidders
 fits-length b s c t = let e = known-length (menu_of b) 0 c (fits-says b s c t).known in omega (arith, e)
 
@@ -59,7 +62,7 @@ idle-from s k (x ∷ c) all =
     ])
     (idle-from s (suc k) c (λ i inside in_set. all (suc i) (omega (arith, inside)) (let e : suc (k + suc i) ≡ suc (suc k + i) = omega arith in rw e in_set)))
 
--- the sum with another number of one bidder outside
+-- what counts alike for all bidders behind a place has the same sum
 pub sum-same : (f g : ℕ → ℕ → ℤ) (k : ℕ) (c : List ℕ) → ((j i : ℕ) → k < j → f j i ≡ g j i) → sum_after f k c ≡ sum_after g k c
 sum-same f g k [] same = refl
 sum-same f g k (i ∷ c) same = rw (same (suc k) i (omega arith), sum-same f g (suc k) c (λ j h low. same j h (omega (arith, low)))) refl
@@ -70,6 +73,7 @@ move-own a b z r t own none rest = omega (arith, ints)
 move-rest : (a z b r t : ℤ) → z ≡ a → r ≡ b +ℤ t → a +ℤ r ≡ b +ℤ (z +ℤ t)
 move-rest a z b r t own rest = omega (arith, ints)
 
+-- with a number of a bidder outside, a choice counts that bid and what it counts outside the set with the bidder
 pub sum-set : (s : ℕ → Bool) (counts : ℕ → ℕ → ℤ) (k : ℕ) (c : List ℕ) (i n j : ℕ) → j ≡ suc (k + i) → i < length c → s j ≡ false → sum_after (counts_outside s counts) k (set c i n) ≡ counts j n +ℤ sum_after (counts_outside (joined j s) counts) k c
 sum-set s counts k [] i n j e inside new = absurd (omega (arith, inside))
 sum-set s counts k (x ∷ c) zero n j e inside new =

@@ -16,6 +16,7 @@ use Rattle.slot_places.proofs.StepLaws.{sum-same}
 use Rattle.slot_places.proofs.WholeLaws.{best-whole}
 use Rattle.slot_places.proofs.NumberLaws.{idle-always}
 
+-- the best of one set more, before those of the sets behind it
 pub bests-front : (l : Search) (n : ℕ) (bests : List Best) (best : Best) → 0 < n → AreBests l n bests → IsBestOf l (n - 1) best → AreBests l (n - 1) (best ∷ bests)
 bests-front l n bests best some all own = record { count = omega (arith, some, all.count); each = each }
   where
@@ -37,6 +38,7 @@ some-best : (bests : List Best) → 0 < length bests → Best
 some-best [] some = absurd (omega (arith, some))
 some-best (best ∷ bests) some = best
 
+-- the sums of the bests of all sets are the exact table
 pub table-of : (l : Search) (bests : List Best) → AreBests l 0 bests → IsSetTable (searched l) (counted l) (map sum_of bests ∷ [])
 table-of l bests all =
     let count = all.count in
@@ -59,12 +61,15 @@ first-placed l best is =
     best-whole (searched l) (idle-always l.slots.now l.skip) (counted l) best.numbers.items
     (best-same (searched l) (slots-ask l.slots.now l.skip) (counted l) (holds 0) nobody (λ i some. holds-nobody i) best.numbers.items is.first)
 
+-- the sum of the best behind nobody is what its whole choice counts
 pub first-sum : (l : Search) (best : Best) → IsBestOf l 0 best → best.sum ≡ sum_after (counted l) 0 best.numbers.items
 first-sum l best is =
     is.sum ∙ (sum-outside-same (counted l) (holds 0) nobody (λ i some. holds-nobody i) best.numbers.items ∙ sum-same (λ j i. counted l j i) (counted l) 0 best.numbers.items (λ j i some. refl))
 
+-- there is a best, that of nobody
 pub bests-some : (l : Search) (bests : List Best) → AreBests l 0 bests → 0 < length bests
 bests-some l bests all = let count = all.count in let p = power-positive (searched l).bidders in omega (arith, count, p)
 
+-- the first of the bests of all sets is the best behind nobody
 pub bests-first : (l : Search) (bests : List Best) (best : Best) → AreBests l 0 bests → best ≡ get_or bests 0 best → IsBestOf l 0 best
 bests-first l bests best all is = subst (λ (b : Best). IsBestOf l 0 b) (sym is) (all.each 0 best (bests-some l bests all))

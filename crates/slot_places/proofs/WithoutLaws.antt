@@ -23,12 +23,14 @@ known-none slots k (i ∷ c) =
     let bids : (board_without slots 0).bids (suc k) ≡ length (bids_of slots (suc k)) = cond-false (eqb (suc k) 0) 0 (length (bids_of slots (suc k))) (ne_eqb (suc k) 0 (omega arith)) in
     rw (bids, known-none slots (suc k) c) refl
 
+-- the same bidders can be placed whether one bidder's bids are left out or not
 pub place-without : (slots : SlotList) (skip : ℕ) (c : List ℕ) (left : ℕ) (s : ℕ → Bool) → can_place (board_without slots skip) c left s ≡ can_place (board_of slots) c left s
 place-without slots skip c zero s = refl
 place-without slots skip c (suc left) s =
     some-same (λ j. not (s j) && ((board_without slots skip).may s j (number_of c j) && can_place (board_without slots skip) c left (joined j s))) (λ j. not (s j) && ((board_of slots).may s j (number_of c j) && can_place (board_of slots) c left (joined j s))) (length slots.bidders)
     (λ j some. ap (λ x. not (s j) && ((board_of slots).may s j (number_of c j) && x)) (place-without slots skip c left (joined j s)))
 
+-- where nobody is left out, the placed choices are those of the slots
 pub placed-none : (slots : SlotList) (c : List ℕ) → is_placed (board_without slots 0) c ≡ is_placed (board_of slots) c
 placed-none slots c =
     ap (λ x. x && can_place (board_without slots 0) c (length slots.bidders) nobody) (known-none slots 0 c)
@@ -39,6 +41,7 @@ sum-nonnegative : (slots : SlotList) (k : ℕ) (c : List ℕ) → pos 0 ≤ℤ s
 sum-nonnegative slots k [] = omega (arith, ints)
 sum-nonnegative slots k (i ∷ c) = let rest = sum-nonnegative slots (suc k) c in omega (arith, ints, rest)
 
+-- the bid at a place of a choice is worth no more than the choice
 pub one-bid : (slots : SlotList) (k : ℕ) (c : List ℕ) (p j : ℕ) → j ≡ suc (k + p) → p < length c → amount_of slots j (get_or c p 0) ≤ℤ sum_after (amount_of slots) k c
 one-bid slots k [] p j e inside = absurd (omega (arith, inside))
 one-bid slots k (i ∷ c) zero j e inside =
@@ -63,6 +66,7 @@ sum-at_most f g m (suc n) h =
 mul-assoc : (a b c : ℕ) → a * (b * c) ≡ a * b * c
 mul-assoc a b c = sym (mul_assoc a b c)
 
+-- where the amounts can be lowered, no sum of a placed choice leaves the range
 pub range-of : (slots : SlotList) (z : List ℕ) (den : ℤ) (surplus : List ℤ) → IsWinning (market_of slots) z → CanLower (market_of slots) z den surplus → StaysInRange (board_without slots 0) (amount_of slots) den surplus
 range-of slots z den surplus winning can c t =
     let allowed : IsTrue (is_placed (board_of slots) c) = sym (placed-none slots c) ∙ t in
@@ -87,6 +91,7 @@ fits-none slots s c =
     ap (λ x. (x && is_idle_in s 0 c) && can_place (board_without slots 0) c (outside s (length slots.bidders)) s) (known-none slots 0 c)
     ∙ ap (λ x. (is_known (board_of slots) c && is_idle_in s 0 c) && x) (place-without slots 0 c (outside s (length slots.bidders)) s)
 
+-- the exact table where nobody is left out is that of the slots
 pub table-none : (slots : SlotList) (counts : ℕ → ℕ → ℤ) (table : List (List ℤ)) → IsSetTable (board_without slots 0) counts table → IsSetTable (board_of slots) counts table
 table-none slots counts table is = record {
   lines = is.lines;
@@ -94,5 +99,6 @@ table-none slots counts table is = record {
   exact = λ bits low. IsGreatestValue-same (fits_behind (board_without slots 0) (holds bits)) (fits_behind (board_of slots) (holds bits)) (sum_outside (holds bits) counts) (get_or (get_or table 0 []) bits (pos 0)) (fits-none slots (holds bits)) (is.exact bits low);
 }
 
+-- the first of the greatest where nobody is left out is that of the slots
 pub first-none : (slots : SlotList) (value : List ℕ → ℤ) (c : List ℕ) → IsFirstGreatest (is_placed (board_without slots 0)) value c → IsFirstGreatest (is_placed (board_of slots)) value c
 first-none slots value c g = IsFirstGreatest-same (is_placed (board_without slots 0)) (is_placed (board_of slots)) value value c (placed-none slots) (λ d. refl) g

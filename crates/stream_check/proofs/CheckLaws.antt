@@ -45,6 +45,7 @@ module _ (k : StreamCheck) (set : IsSetUp k) where
   pub says-stop : (text : List ℕ) (stop : TextStop) → SaysStop k.reader.shape.bidders k.reader.shape.states text stop → SaysStop (bidders_of k.book.now) (states k.book.now) text stop
   says-stop text stop is = subst (λ (n : ℕ). SaysStop n (states k.book.now) text stop) set.bidders (subst (λ (n : ℕ). SaysStop k.reader.shape.bidders n text stop) set.states_are is)
 
+  -- what the reader has read it has read for the book's numbers of bidders and states
   pub reads-book : (room : List ℤ) (text : List ℕ) (items : List Line) → IsReading k.reader.shape.bidders k.reader.shape.states k.reader.due k.reader.part k.reader.place k.reader.read room text items
       → IsReading (bidders_of k.book.now) (states k.book.now) k.reader.due k.reader.part k.reader.place k.reader.read room text items
   reads-book room text items is =
@@ -112,6 +113,7 @@ module _ (k : StreamCheck) (set : IsSetUp k) (r : Reader) (room : List ℤ) (tex
       subst (λ (x : Shape). IsReading x.bidders x.states r.due r.part r.place r.read room (text ++ 10 ∷ []) (items ++ line_with k.reader.due ends.whole.numbers ∷ [])) same
       (still_reading r.shape.bidders r.shape.states r.due r.part r.place r.read room (text ++ 10 ∷ []) (items ++ line_with k.reader.due ends.whole.numbers ∷ []) r.stop on stands)
 
+  -- some certificate has the line there, and what the tests show of each that has is known behind it
   pub the-step : IsStep k.book.now (weight_of k.weights.now) k.reader.due r.due count k.late k.members k.totals room (items ++ line_with k.reader.due ends.whole.numbers ∷ [])
   the-step =
       subst (λ (n : ℕ). IsStep k.book.now (weight_of k.weights.now) k.reader.due r.due n k.late k.members k.totals room (items ++ line_with k.reader.due ends.whole.numbers ∷ [])) (sym count_is)

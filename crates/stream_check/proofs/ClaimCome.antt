@@ -93,19 +93,24 @@ ends-behind b End is = absurd is
 ends-behind b Nothing is = absurd is
 
 module _ (at : Moment) (c : CertValue) (is : IsAt at c) (line : IsRowsEnd at.due) where
+  -- the room has the payments
   pub pay-known : segment (bidders_of at.book.now) (states at.book.now) Payments at.room.now ≡ c.pay
   pay-known = is.known.in_room.pay (ends-behind (bidders_of at.book.now) at.due line).paid
 
+  -- the room has the choice without each winner
   pub part-known : (j : ℕ) → 0 < j → j ≤ bidders_of at.book.now → IsTrue (uses c.choice j) → segment (bidders_of at.book.now) (states at.book.now) (PartChoice j) at.room.now ≡ as_numbers (part_of c.withouts j).choice
   part-known j some inside wins = is.known.in_room.parts j some inside (omega (arith, inside, (ends-behind (bidders_of at.book.now) at.due line).come)) wins
 
 module _ (at : Moment) (c : CertValue) (is : IsAt at c) (due : IsClaimed at.due) where
+  -- the room has the denominator
   pub den-there : segment (bidders_of at.book.now) (states at.book.now) Den at.room.now ≡ c.den ∷ []
   den-there = is.known.in_room.den (omega (arith, (later at.due due).fields))
 
+  -- the room has the value
   pub value-there : segment (bidders_of at.book.now) (states at.book.now) Value at.room.now ≡ c.value ∷ []
   value-there = is.known.in_room.value (omega (arith, (later at.due due).fields))
 
+  -- the room has the head's choice
   pub choice-there : segment (bidders_of at.book.now) (states at.book.now) Choice at.room.now ≡ as_numbers c.choice
   choice-there = is.known.in_room.choice (omega (arith, (later at.due due).fields))
 
@@ -138,12 +143,15 @@ parts-of-claim at c is due a claim =
     (λ j some inside wins. (parts-hold at c is due j).part some inside (subst (λ (l : List ℕ). IsTrue (uses l j)) (sym (claim.each c is).choice_is) wins))
 
 module _ (at : Moment) (c : CertValue) (is : IsAt at c) (due : at.due ≡ Payments) where
+  -- the room has the payments, whose line has come
   pub pay-own : segment (bidders_of at.book.now) (states at.book.now) Payments at.room.now ≡ c.pay
   pay-own = (at-due at c Payments due is).own.whole tt
 
+  -- the first four tests hold
   pub pay-holds : HoldsTo at.book.now (weight_of at.weights.now) c 5 0
   pay-holds = (at-due at c Payments due is).known.tested.holds
 
+  -- what fails first of the first five tests is what is found when the next line is due
   pub pay-shows : (next : Due) (failed : Option Failure) → IsNext at.book.now c at.due next → IsJudged at.book.now (weight_of at.weights.now) c 6 0 failed → IsFound at.book.now (weight_of at.weights.now) c next failed None
   pay-shows next failed follows judged =
       found-next at.book.now (weight_of at.weights.now) c Rows next failed None (next-due at c Payments next due follows)

@@ -36,6 +36,7 @@ module _ (book : Book) (c : CertValue) where
           ap (λ (p : WithoutValue). record { winner = j; price = vickrey_of book c j; choice = p.choice }) part
           ∙ ap (λ (i : ℕ). record { winner = i; price = vickrey_of book c i; choice = w.choice }) (sym own)
 
+  -- the winners of the head's choice are those of the parts
   pub all-singles : (b s : ℕ) → IsCertificate b s c → singles_behind 0 c.choice ≡ map (single_of book c) c.withouts
   all-singles b s kept = singles-are b s 0 c.choice c.withouts kept.withouts (λ j lt. refl)
 

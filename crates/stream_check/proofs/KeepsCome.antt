@@ -39,20 +39,26 @@ module _ (at : Moment) (c : CertValue) (is : IsAt at c) (k : ℕ) (due : at.due 
   here : IsAtLine at.book.now (weight_of at.weights.now) c (Entries Head k) at.count at.late at.members at.totals.now at.room.now
   here = at-due at c (Entries Head k) due is
 
+  -- the room has the value
   pub value-there : segment (bidders_of at.book.now) (states at.book.now) Value at.room.now ≡ c.value ∷ []
   value-there = here.known.in_room.value (omega arith)
 
+  -- the room has the head's choice
   pub choice-there : segment (bidders_of at.book.now) (states at.book.now) Choice at.room.now ≡ as_numbers c.choice
   choice-there = here.known.in_room.choice (omega arith)
 
+  -- the room has line k of the head's table
   pub line-there : segment (bidders_of at.book.now) (states at.book.now) (Entries Head k) at.room.now ≡ slice_index_or c.table k []
   line-there = here.own.whole tt
 
+  -- the line has an entry for each state
   pub line-long : length (slice_index_or c.table k []) ≡ states at.book.now
   line-long = table-width (bidders_of at.book.now) (states at.book.now) c.table is.kept.table k here.known.named.1
 
+  -- each entry of the line is in the range
   pub line-small : (s : ℕ) → unsigned_abs (entry_at c.table k s) < 2 ^ 120
   line-small s = table-small (bidders_of at.book.now) (states at.book.now) c.table is.kept.table k s
 
+  -- the head's choice is allowed
   pub choice-allowed : IsTrue ((market_of at.book.now).allowed c.choice)
   choice-allowed = allowed-by at.book.now c is.kept.choice.0 (λ place. (here.known.tested.holds 2 place (inl (omega arith))).1 refl)

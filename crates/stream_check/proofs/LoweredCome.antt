@@ -22,9 +22,11 @@ use Rattle.stream_check.proofs.NextLaws.{at-due}
 use Rattle.stream_check.proofs.TableCome.{lowered-late}
 
 module _ (at : Moment) (c : CertValue) (is : IsAt at c) (k : ℕ) (due : at.due ≡ Entries Lowered k) where
+  -- the room has the payments
   pub pay-there : segment (bidders_of at.book.now) (states at.book.now) Payments at.room.now ≡ c.pay
   pay-there = (at-due at c (Entries Lowered k) due is).known.in_room.pay (omega arith)
 
+  -- the room has line k of the lowered table
   pub line-there : segment (bidders_of at.book.now) (states at.book.now) (Entries Lowered k) at.room.now ≡ slice_index_or c.lowered k []
   line-there = (at-due at c (Entries Lowered k) due is).own.whole tt
 

@@ -32,20 +32,25 @@ module _ (at : Moment) (c : CertValue) (is : IsAt at c) (r : ℕ) where
   row-due (inl due) = (let here = at-due at c (Multipliers r) due is in (here.known.named.0, here.known.has, here.known.in_room.members_are))
   row-due (inr due) = (let here = at-due at c (RowChoice r) due is in (here.known.named.0, here.known.has, here.known.in_room.members_are))
 
+  -- the room has the members of the row
   pub members-there : (at.due ≡ Multipliers r) ⊎ (at.due ≡ RowChoice r) → take at.members (segment (bidders_of at.book.now) (states at.book.now) (Members r) at.room.now) ≡ as_numbers (row_at c r).members
   members-there due = (row-due due).2
 
+  -- the row is one for the book's bidders
   pub row-whole : (at.due ≡ Multipliers r) ⊎ (at.due ≡ RowChoice r) → IsRow (bidders_of at.book.now) (row_at c r)
   row-whole due = (let here = row-due due in row-at-kept (bidders_of at.book.now) c r is.kept.rows here.0 here.1)
 
 -- the multipliers of the row that is read
 module _ (at : Moment) (c : CertValue) (is : IsAt at c) (r : ℕ) (due : at.due ≡ Multipliers r) where
+  -- the room has the two multipliers of the row
   pub pair-there : segment (bidders_of at.book.now) (states at.book.now) (Multipliers r) at.room.now ≡ (row_at c r).first ∷ (row_at c r).second ∷ []
   pair-there = (at-due at c (Multipliers r) due is).own.whole tt
 
+  -- the totals are those of the rows before it
   pub pair-totals : AreTotals c (length c.rows - r) at.totals.now
   pair-totals = (at-due at c (Multipliers r) due is).known.in_totals
 
+  -- the row is one of the certificate's
   pub pair-inside : length c.rows - r < length c.rows
   pair-inside = (let here = at-due at c (Multipliers r) due is in omega (arith, here.known.named.0, here.known.has))
 

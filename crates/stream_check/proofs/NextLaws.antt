@@ -28,6 +28,7 @@ use Rattle.stream_check.specs.Tests.{IsFound, IsTestedTo, IsPlain}
 pub at-due : (at : Moment) (c : CertValue) (due : Due) → at.due ≡ due → IsAt at c → IsAtLine at.book.now (weight_of at.weights.now) c due at.count at.late at.members at.totals.now at.room.now
 at-due at c due is a = subst (λ (d : Due). IsAtLine at.book.now (weight_of at.weights.now) c d at.count at.late at.members at.totals.now at.room.now) is a
 
+-- what comes next comes next behind that line
 pub next-due : (at : Moment) (c : CertValue) (due next : Due) → at.due ≡ due → IsNext at.book.now c at.due next → IsNext at.book.now c due next
 next-due at c due next is n = subst (λ (d : Due). IsNext at.book.now c d next) is n
 
@@ -58,6 +59,7 @@ part-choice b s c kept j some inside wins =
     subst (λ (n : ℕ). IsChoice b (part_of c.withouts n).choice) {x = j - 1 + 1} {y = j} (omega (arith, some)) found.1.choice
 
 module _ (book : Book) (w : ℕ → ℕ) (c : CertValue) where
+  -- where C4 holds at a place, what test 4 asks there holds
   pub asks-C4 : (place : ℕ) → C4 book c place → Asks book w c 4 place
   asks-C4 place own = (
     λ e. absurd (omega (arith, e)),

@@ -43,12 +43,15 @@ module _ (at : Moment) (c : CertValue) (is : IsAt at c) (j : ℕ) (due : at.due 
   own : IsAtLine at.book.now (weight_of at.weights.now) c (PartChoice j) at.count at.late at.members at.totals.now at.room.now
   own = at-due at c (PartChoice j) due is
 
+  -- the room has the choice without the winner
   pub part-there : segment (bidders_of at.book.now) (states at.book.now) (PartChoice j) at.room.now ≡ as_numbers (part_of c.withouts j).choice
   part-there = own.own.whole tt
 
+  -- that choice has a number for each bidder
   pub part-kept : IsChoice (bidders_of at.book.now) (part_of c.withouts j).choice
   part-kept = own.known.has.choice
 
+  -- the winner is one of the bidders
   pub part-named : (0 < j) × (j ≤ bidders_of at.book.now)
   part-named = own.known.named
 
@@ -82,18 +85,23 @@ module _ (at : Moment) (c : CertValue) (is : IsAt at c) (j k : ℕ) (due : at.du
   line : IsAtLine at.book.now (weight_of at.weights.now) c (Entries (Part j) k) at.count at.late at.members at.totals.now at.room.now
   line = at-due at c (Entries (Part j) k) due is
 
+  -- the room has line k of the part's table, and the one before it
   pub lines-two : HasTwoLines at.book.now (Part j) k at.room.now (part_of c.withouts j).table
   lines-two = two-lines at c is (Part j) k due line.known.has.table
 
+  -- the room has line k of the part's table
   pub lines-there : segment (bidders_of at.book.now) (states at.book.now) (Entries (Part j) k) at.room.now ≡ slice_index_or (part_of c.withouts j).table k []
   lines-there = line.own.whole tt
 
+  -- the winner is one of the bidders
   pub lines-named : (0 < j) × (j ≤ bidders_of at.book.now)
   lines-named = line.known.named.0
 
+  -- the line's number is one of the table
   pub lines-inside : k ≤ bidders_of at.book.now
   lines-inside = line.known.named.1
 
+  -- nothing in the lines before it speaks against the part
   pub lines-part : IsPartTo at.book.now j (part_of c.withouts j) k
   lines-part = line.known.tested.part.1
 
@@ -101,6 +109,7 @@ module _ (at : Moment) (c : CertValue) (is : IsAt at c) (j k : ℕ) (due : at.du
   pub lines-choice : segment (bidders_of at.book.now) (states at.book.now) (PartChoice j) at.room.now ≡ as_numbers (part_of c.withouts j).choice
   lines-choice = line.known.in_room.parts j lines-named.0 lines-named.1 (omega arith) line.known.tested.part.0
 
+  -- that choice has a number for each bidder
   pub lines-kept : IsChoice (bidders_of at.book.now) (part_of c.withouts j).choice
   lines-kept = line.known.has.choice
 
@@ -193,6 +202,7 @@ pub some-fault : (r : Option ℕ) → is_some r ≡ true → (p : ℕ) × (r ≡
 some-fault None e = absurd (false≢true e)
 some-fault (Some p) e = (p, refl)
 
+-- a fault that isn't some is none
 pub none-fault : (r : Option ℕ) → is_some r ≡ false → r ≡ None
 none-fault None e = refl
 none-fault (Some p) e = absurd (false≢true (sym e))

@@ -29,6 +29,7 @@ row-kept b [] k d are lt = absurd (omega (arith, lt))
 row-kept b (r ∷ rows) zero d are lt = are.0
 row-kept b (r ∷ rows) (suc k) d are lt = row-kept b rows k d are.1 (omega (arith, lt))
 
+-- the row of which r are to come with it is one for these bidders
 pub row-at-kept : (b : ℕ) (c : CertValue) (r : ℕ) → AreRows b c.rows → 0 < r → r ≤ length c.rows → IsRow b (row_at c r)
 row-at-kept b c r are some le = row-kept b c.rows (length c.rows - r) (record { members = []; first = pos 0; second = pos 0; choice = [] }) are (omega (arith, some, le))
 

@@ -79,15 +79,19 @@ module _ (at : Moment) (c : CertValue) (is : IsAt at c) (due : at.due ≡ Rows) 
   own : IsAtLine at.book.now (weight_of at.weights.now) c Rows at.count at.late at.members at.totals.now at.room.now
   own = at-due at c Rows due is
 
+  -- the room has the count of rows
   pub count-there : segment (bidders_of at.book.now) (states at.book.now) Rows at.room.now ≡ pos (length c.rows) ∷ []
   count-there = own.own.whole tt
 
+  -- where there are no rows, the totals are those of all
   pub no-totals : length c.rows ≡ 0 → AreTotals c (length c.rows) at.totals.now
   no-totals none = subst (λ (n : ℕ). AreTotals c n at.totals.now) (sym none) own.known.in_totals
 
+  -- behind the count comes the first row, or what stands behind the rows where there are none
   pub count-next : (next : Due) → IsNext at.book.now c at.due next → IsRowNext (length c.rows) next
   count-next next follows = next-due at c Rows next due follows (length c.rows) refl is.kept.few
 
+  -- where there are rows, nothing more fails when their count has come
   pub some-shows : (next : Due) → IsNext at.book.now c at.due next → (length c.rows ≡ 0 → ⊥) → IsFound at.book.now (weight_of at.weights.now) c next None None
   some-shows next follows some =
       rows-next at.book.now (weight_of at.weights.now) c (length c.rows) next (count-next next follows) (positive (length c.rows) some)
@@ -97,6 +101,7 @@ module _ (at : Moment) (c : CertValue) (is : IsAt at c) (due : at.due ≡ Rows) 
       positive zero some = absurd (some refl)
       positive (suc n) some = omega arith
 
+  -- where there are no rows, the first six tests hold
   pub none-holds : length c.rows ≡ 0 → HoldsTo at.book.now (weight_of at.weights.now) c 7 0
   none-holds none = all-rows at.book.now (weight_of at.weights.now) c 1 (omega (arith, none)) (no-row at.book.now (weight_of at.weights.now) c own.known.tested.holds)
 
@@ -104,27 +109,35 @@ module _ (at : Moment) (c : CertValue) (is : IsAt at c) (r : ℕ) (due : at.due 
   row-line : IsAtLine at.book.now (weight_of at.weights.now) c (RowChoice r) at.count at.late at.members at.totals.now at.room.now
   row-line = at-due at c (RowChoice r) due is
 
+  -- the row is to come
   pub row-some : 0 < r
   row-some = row-line.known.named.0
 
+  -- no more rows are to come than there are
   pub row-inside : r ≤ length c.rows
   row-inside = row-line.known.has
 
+  -- the room has the payments
   pub row-pay : segment (bidders_of at.book.now) (states at.book.now) Payments at.room.now ≡ c.pay
   row-pay = row-line.known.in_room.pay (omega arith)
 
+  -- the room has the row's choice
   pub row-choice : segment (bidders_of at.book.now) (states at.book.now) (RowChoice r) at.room.now ≡ as_numbers (row_at c r).choice
   row-choice = row-line.own.whole tt
 
+  -- the totals are those of the rows up to this one
   pub row-totals : AreTotals c (suc (length c.rows - r)) at.totals.now
   row-totals = row-line.known.in_totals
 
+  -- all that is asked before this row holds
   pub row-before : HoldsTo at.book.now (weight_of at.weights.now) c 6 (suc (length c.rows - r))
   row-before = row-line.known.tested.holds
 
+  -- behind it comes the next row, or what stands behind the rows
   pub row-order : (next : Due) → IsNext at.book.now c at.due next → IsRowNext (r - 1) next
   row-order next follows = next-due at c (RowChoice r) next due follows
 
+  -- where a row that isn't the last is tight, nothing fails up to the next one
   pub more-shows : (next : Due) → IsNext at.book.now c at.due next → (r ≡ 1 → ⊥) → IsTightRow at.book.now c (row_at c r) → IsFound at.book.now (weight_of at.weights.now) c next None None
   more-shows next follows other tight =
       rows-next at.book.now (weight_of at.weights.now) c (r - 1) next (row-order next follows) (above r row-some other)
@@ -135,8 +148,10 @@ module _ (at : Moment) (c : CertValue) (is : IsAt at c) (r : ℕ) (due : at.due 
       above (suc zero) some other = absurd (other refl)
       above (suc (suc r)) some other = omega arith
 
+  -- where the last row is tight, the first six tests hold
   pub last-holds : r ≡ 1 → IsTightRow at.book.now c (row_at c r) → HoldsTo at.book.now (weight_of at.weights.now) c 7 0
   last-holds one tight = all-rows at.book.now (weight_of at.weights.now) c (suc (length c.rows - r) + 1) (omega (arith, one, row-inside)) (row-more at.book.now (weight_of at.weights.now) c r row-before tight)
 
+  -- at the last row the totals are those of all rows
   pub last-totals : r ≡ 1 → AreTotals c (length c.rows) at.totals.now
   last-totals one = subst (λ (n : ℕ). AreTotals c n at.totals.now) (omega (arith, one, row-some, row-inside)) row-totals

@@ -86,6 +86,7 @@ tested-inside b k lt = ap (λ (x : Bool). if x then k else suc b) (below lt)
     below : k < b → nat_lt k b ≡ true
     below lt = grind (arith, nat_tests, lt)
 
+-- when the last line has come, all lines are tested
 pub tested-all : (b k : ℕ) → b ≤ k → lines_tested b k ≡ suc b
 tested-all b k le = ap (λ (x : Bool). if x then k else suc b) (past le)
   where

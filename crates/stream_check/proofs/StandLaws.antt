@@ -87,12 +87,18 @@ module _ (book : Book) (w : ℕ → ℕ) where
 
   -- a certificate whose text it is, with all that is known of it
   pub record IsDone (text : List ℕ) (failed : Option Failure) (late : Option ℕ) (members : ℕ) (totals : RowTotals) (room : List ℤ) : Type 0 where
+    -- a certificate of the book
     pub cert : CertValue
+    -- it has the shape that a certificate keeps
     pub kept : IsCertificate (bidders_of book) (states book) cert
+    -- the text states it
     pub says : CertSays (bidders_of book) (states book) text (stated cert)
+    -- no line of it is to come, and this is known of it
     pub come : HasCome book w cert [] Nothing failed late members totals room
+    -- either all nine tests hold, or what fails first is known
     pub judged : IsJudged book w cert 10 0 failed
 
+  -- where no line is due, the text states such a certificate
   pub at-end : (due : Due) (part : LinePart) (place read : ℕ) (room : List ℤ) (text : List ℕ) (items : List Line) (failed : Option Failure) (late : Option ℕ) (members : ℕ) (totals : RowTotals) → due ≡ Nothing
       → IsReading (bidders_of book) (states book) due part place read room text items → IsKnown book w due failed late members totals room items → IsDone text failed late members totals room
   at-end due part place read room text items failed late members totals done reading known =
@@ -186,6 +192,7 @@ module _ (book : Book) (w : ℕ → ℕ) (c : CertValue) (kept : IsCertificate (
   comes : ComesNext (bidders_of book) (states book) c due next
   comes = leads c kept tells has.known.has
 
+  -- the line that is due next is the next one of the certificate
   pub is-next : IsNext book c due next
   is-next = order (bidders_of book) c (take (bidders_of book) room) (get_or room (start_due (bidders_of book) (states book) due) (pos 0)) due next tells behind
 
@@ -195,6 +202,7 @@ module _ (book : Book) (w : ℕ → ℕ) (c : CertValue) (kept : IsCertificate (
   numbers-are : ends.whole.numbers ≡ (line_due (bidders_of book) (states book) c due).numbers
   numbers-are = ap (λ (l : Line). l.numbers) (first-is (line_with due ends.whole.numbers) (line_due (bidders_of book) (states book) c due) rest (lines_left (bidders_of book) (states book) c next) both)
 
+  -- the line that was due is that of the certificate
   pub at-line : IsAtLine book w c due part.count late members totals room
   at-line = record {
     kept = kept;
@@ -222,7 +230,9 @@ module _ (book : Book) (w : ℕ → ℕ) (c : CertValue) (kept : IsCertificate (
 
 -- The same for the numbers of bidders and states that the reader has, which are those of the book.
 pub record IsStep (book : Book) (w : ℕ → ℕ) (due next : Due) (count : ℕ) (late : Option ℕ) (members : ℕ) (totals : RowTotals) (room : List ℤ) (more : List Line) : Type 0 where
+  -- some certificate has the line there
   pub possible : (c : CertValue) × IsAtLine book w c due count late members totals room
+  -- what the tests show of each certificate that has it there is known behind it
   pub known : (failed2 : Option Failure) (late2 : Option ℕ) (members2 : ℕ) (totals2 : RowTotals)
       → ((c : CertValue) → IsAtLine book w c due count late members totals room → IsNext book c due next → IsFound book w c next failed2 late2 × HasMembers (bidders_of book) (states book) c next members2 room × HasTotals c next totals2)
       → IsKnown book w next failed2 late2 members2 totals2 room more
@@ -249,5 +259,6 @@ module _ (book : Book) (w : ℕ → ℕ) (due next : Due) (part part2 : LinePart
             come-next book w c kept due next part place read room text items rest late members totals ends within has leads behind failed2 late2 members2 totals2 reading.named all.0 all.1 all.2;
       }
 
+  -- so the line makes a step, by the numbers of the reader
   pub step : (b s : ℕ) → bidders_of book ≡ b → states book ≡ s → Says b s
   step b s many same = subst (λ (n : ℕ). Says n s) many (subst (λ (n : ℕ). Says (bidders_of book) n) same step-own)

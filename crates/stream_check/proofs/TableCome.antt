@@ -61,12 +61,15 @@ module _ (at : Moment) (c : CertValue) (is : IsAt at c) (table : Table) (k : ℕ
           subst (λ (n : ℕ). segment (bidders_of at.book.now) (states at.book.now) (Entries table n) at.room.now ≡ slice_index_or (table_in c table) n []) back has
 
 module _ (at : Moment) (c : CertValue) (is : IsAt at c) (k : ℕ) (due : at.due ≡ Entries Head k) where
+  -- the room has line k of the head's table, and the one before it
   pub head-two : HasTwoLines at.book.now Head k at.room.now c.table
   head-two = two-lines at c is Head k due is.kept.table
 
+  -- all that is asked before the rules of the line before it holds
   pub head-holds : HoldsTo at.book.now (weight_of at.weights.now) c 3 ((k - 1) * states at.book.now)
   head-holds = (here at c is Head k due).known.tested.holds
 
+  -- of the first k places behind the rules it is known which fails first
   pub head-late : IsLate at.book.now (weight_of at.weights.now) c 3 ((bidders_of at.book.now + 1) * states at.book.now) k at.late
   head-late = (here at c is Head k due).known.tested.early
 
@@ -116,12 +119,15 @@ module _ (at : Moment) (c : CertValue) (is : IsAt at c) (k : ℕ) (due : at.due 
       ]
 
 module _ (at : Moment) (c : CertValue) (is : IsAt at c) (k : ℕ) (due : at.due ≡ Entries Lowered k) where
+  -- the room has line k of the lowered table, and the one before it
   pub lowered-two : HasTwoLines at.book.now Lowered k at.room.now c.lowered
   lowered-two = two-lines at c is Lowered k due is.kept.lowered
 
+  -- all that is asked before the rules of the line before it holds
   pub lowered-holds : HoldsTo at.book.now (weight_of at.weights.now) c 9 ((k - 1) * states at.book.now)
   lowered-holds = (here at c is Lowered k due).known.tested.holds
 
+  -- of the place behind the rules it is known whether it fails, once line 0 has come
   pub lowered-late : IsLate at.book.now (weight_of at.weights.now) c 9 ((bidders_of at.book.now + 1) * states at.book.now) (one_of k) at.late
   lowered-late = (here at c is Lowered k due).known.tested.early
 

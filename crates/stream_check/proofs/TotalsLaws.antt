@@ -55,11 +55,13 @@ all-small sums f n long few are small k =
     none x is = omega (arith, ints, is)
 
 module _ (c : CertValue) (n b : ℕ) (t : RowTotals) (are : AreTotals c n t) (rows : AreRows b c.rows) (inside : n < length c.rows) (few : length c.rows ≤ 10) where
+  -- the sums of first multipliers are so small that one more fits
   pub first_sums-small : length t.first_sums ≡ 16 → (k : ℕ) → unsigned_abs (nth t.first_sums k) ≤ 15 * 2 ^ 120
   first_sums-small long =
       all-small t.first_sums (λ j. sum_holding c.rows j (λ row. row.first) n) n long (omega (arith, inside, few)) are.first_sums
       (λ j. sum-small c.rows j (λ row. row.first) n (λ r some le. (rows-small b c.rows rows r some (omega (arith, le, inside))).0))
 
+  -- the sums of second multipliers are so small that one more fits
   pub second_sums-small : length t.second_sums ≡ 16 → (k : ℕ) → unsigned_abs (nth t.second_sums k) ≤ 15 * 2 ^ 120
   second_sums-small long =
       all-small t.second_sums (λ j. sum_holding c.rows j (λ row. row.second) n) n long (omega (arith, inside, few)) are.second_sums

@@ -28,8 +28,11 @@ use Rattle.stream_check.proofs.StandLaws.{IsDone, at-end}
 
 -- it reads on, no line is to come, and no test fails
 pub record HasEnded (k : StreamCheck) : Type 0 where
+  -- the reader has not stopped
   pub on : k.reader.stop ≡ None
+  -- no line is to come
   pub done : k.reader.due ≡ Nothing
+  -- no test fails
   pub none : k.failed ≡ None
 
 -- no line is to come where none can be
@@ -68,8 +71,11 @@ has-all book w c failed late members totals room none kept come =
 
 -- the certificate whose text it is, and what the room has of it
 pub record IsRead (k : StreamCheck) (room : List ℤ) (text : List ℕ) : Type 0 where
+  -- the certificate that was read
   pub cert : CertValue
+  -- the text states it
   pub says_it : CertSays (bidders_of k.book.now) (states k.book.now) text (stated cert)
+  -- the room has what its facts are told from
   pub all : HasAll k.book.now cert room
 
 module _ (k : StreamCheck) (room : List ℤ) (text : List ℕ) where
@@ -79,6 +85,7 @@ module _ (k : StreamCheck) (room : List ℤ) (text : List ℕ) where
       let now = subst (StandsWith k room text items) on is in
       at-end k.book.now (weight_of k.weights.now) k.reader.due k.reader.part k.reader.place k.reader.read room text items k.failed k.late k.members k.totals done (reads-book k set room text items now.0) now.1
 
+  -- a checker that has ended has read a certificate, of which the room has what the facts are told from
   pub read-whole : HasEnded k → StandsFor k room text → IsRead k room text
   read-whole has (set, (items, is)) =
       let d = ended has.on has.done set items is in
@@ -106,6 +113,7 @@ module _ (k : StreamCheck) (room : List ℤ) (text : List ℕ) where
         let same : c ≡ d = cc in
         absurd (not_both k.book.now (weight_of k.weights.now) d f.test f.place (subst (Holds k.book.now (weight_of k.weights.now)) same holds) judged)
 
+    -- a checker that stands for such a text has ended
     pub has-ended : StandsFor k room text → HasEnded k
     has-ended (set, (items, is)) =
         let on = reads set items k.reader.stop is in

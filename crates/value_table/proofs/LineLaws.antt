@@ -27,6 +27,7 @@ zeros-front [] (suc n) k all = refl
 zeros-front (x ∷ xs) (suc n) zero all = all 0
 zeros-front (x ∷ xs) (suc n) (suc k) all = zeros-front xs n k (λ i. all (suc i))
 
+-- the first numbers of a list of zeros are 0
 pub zeros-part : (m n k : ℕ) → get_or (take n (replicate m (pos 0))) k (pos 0) ≡ pos 0
 zeros-part m n k = zeros-front (replicate m (pos 0)) n k (zeros-at m)
 

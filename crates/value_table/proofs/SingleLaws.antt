@@ -43,6 +43,7 @@ single-taken m k (suc n) (suc p) i none h =
     let same : suc (suc k) + p ≡ suc k + suc p = omega arith in
     ap (λ q. together q (packages_after m (suc k) (single n p i))) (none (suc k)) ∙ single-taken m (suc k) n p i none (omega arith) ∙ ap (λ j. m.lots j i) same
 
+-- a choice in which nobody has a bid is worth 0
 pub none-sum : (worth : ℕ → ℕ → ℤ) (k n : ℕ) → ((j : ℕ) → worth j 0 ≡ pos 0) → sum_after worth k (replicate n 0) ≡ pos 0
 none-sum worth k zero none = refl
 none-sum worth k (suc n) none = omega (arith, ints, none (suc k), none-sum worth (suc k) n none)
@@ -64,6 +65,7 @@ lots-within : (book : Book) → IsBidBook book → (j i : ℕ) → i ≤ length 
 lots-within book kept j zero h = refl
 lots-within book kept j (suc i) h = kept.within j i h
 
+-- no bid is worth more than the winning choice
 pub net-at_most : (book : Book) (z : List ℕ) → IsBidBook book → IsWinning (market_of book) z → (j i : ℕ) → 0 < j → j ≤ length book.bidders → i ≤ length (bids_of book j) → net_of book j i ≤ℤ value_of (market_of book) z
 net-at_most book z kept first j i some inside known =
     let m = menu_of book in
@@ -87,6 +89,7 @@ sum_to-below : (f s : ℕ → ℕ) (n most : ℕ) → ((j : ℕ) → 0 < j → j
 sum_to-below f s zero most h = omega arith
 sum_to-below f s (suc n) most h = omega (arith, sum_to-below f s n most (λ j p q. h j p (omega arith)), h (suc n) (omega arith) (omega arith))
 
+-- under the condition of a search with lowered worths, no lowered sum of the book leaves the range
 pub range-of : (book : Book) (z : List ℕ) (den : ℤ) (surplus : List ℤ) → IsBidBook book → IsWinning (market_of book) z → CanLower (market_of book) z den surplus → IsInRange book 0 den surplus
 range-of book z den surplus kept first can =
     let V = unsigned_abs (value_of (market_of book) z) in

@@ -7,26 +7,32 @@ use Rattle.value_table.specs.declared.lowering.Lowering.{Lowering}
 use Rattle.value_table.specs.Counted.{net_at, counted_bids, counted, IsCountedLine}
 
 module _ (l : Lowering) where
+  -- no number of a line is above 2^120 in size
   pub line-small : (k : ℕ) (line : List ℤ) → IsCountedLine l k line → (s : ℕ) → unsigned_abs (get_or line s (pos 0)) ≤ 2 ^ 120
   line-small k line e s =
       let caps = caps_of (counted_bids l).bids (net_at l) l.den l.surplus.now in
       let capped : AreCapped (counted_bids l) (counted l) caps = lowered-capped (counted_bids l).bids (net_at l) l.den l.surplus.now in
       omega (arith, l.range, line-sizes (counted_bids l) (counted l) l.book.now.supply k line caps capped e s)
 
+  -- the most that a bidder can count, by size, is below 2^120
   pub caps-small : (j : ℕ) → zero < j → j ≤ length l.book.now.bidders → caps_of (counted_bids l).bids (net_at l) l.den l.surplus.now j < 2 ^ 120
   caps-small zero p q = absurd (omega arith)
   caps-small (suc k) p q = omega (arith, l.range, cap-in_sum (caps_of (counted_bids l).bids (net_at l) l.den l.surplus.now) k (length l.book.now.bidders) (omega arith))
 
+  -- no bid counts more than 2^120 in size
   pub worth-small : (j i : ℕ) → zero < j → j ≤ length l.book.now.bidders → i ≤ (counted_bids l).bids j → unsigned_abs (counted l j i) ≤ 2 ^ 120
   worth-small j i p q known = omega (arith, caps-small j p q, lowered-capped (counted_bids l).bids (net_at l) l.den l.surplus.now j i known)
 
+  -- den times a net amount and the surplus of its bidder, both by size, add up to at most 2^120
   pub parts-small : (j i : ℕ) → zero < j → j ≤ length l.book.now.bidders → zero < i → i ≤ (counted_bids l).bids j → unsigned_abs l.den * unsigned_abs (net_at l j i) + unsigned_abs (of_bidder l.surplus.now j) ≤ 2 ^ 120
   parts-small j zero p q r known = absurd (omega arith)
   parts-small j (suc i) p q r known = omega (arith, caps-small j p q, parts-capped (counted_bids l).bids (net_at l) l.den l.surplus.now j i known)
 
+  -- no surplus is above 2^120 in size
   pub surplus-small : (j : ℕ) → zero < j → j ≤ length l.book.now.bidders → unsigned_abs (of_bidder l.surplus.now j) ≤ 2 ^ 120
   surplus-small j p q = omega (arith, caps-small j p q)
 
+-- a bid counts den times its worth, less the surplus of its bidder
 pub lowered-at : (den : ℤ) (worth : ℕ → ℕ → ℤ) (surplus : List ℤ) (j i : ℕ) → zero < i → lowered den worth surplus j i ≡ (den *ℤ worth j i) -ℤ of_bidder surplus j
 lowered-at den worth surplus j zero h = absurd (omega arith)
 lowered-at den worth surplus j (suc i) h = refl

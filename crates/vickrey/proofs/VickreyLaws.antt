@@ -35,21 +35,25 @@ module _ (book : Book) (surplus : List ℤ) (zeros : (k : ℕ) → get_or surplu
   sum-same : (c : List ℕ) → sum_after (lowered (pos 1) (net_of book) surplus) 0 c ≡ value_of (market_of book) c
   sum-same c = sum-plain (net_of book) surplus 0 c (λ j. refl) (λ j. zeros (j - 1))
 
+  -- the first entry of the table without bidder j is the greatest value of a choice without it
   pub greatest-without : (j : ℕ) (most : ℤ) → zero < j → IsEntry (menu_without book j) (lowered (pos 1) (net_of book) surplus) 0 book.supply most → IsGreatestValue (allowed_without (market_of book) j) (value_of (market_of book)) most
   greatest-without j most some e =
       IsGreatestValue-value (allowed_without (market_of book) j) (sum_after (lowered (pos 1) (net_of book) surplus) 0) (value_of (market_of book)) most sum-same
       (entry-skip (menu_of book) (lowered (pos 1) (net_of book) surplus) book.supply j most some e)
 
+  -- the first entry of the table of all bids is the greatest value of a choice
   pub greatest-all : (most : ℤ) → IsEntry (menu_without book 0) (lowered (pos 1) (net_of book) surplus) 0 book.supply most → IsGreatestValue (market_of book).allowed (value_of (market_of book)) most
   greatest-all most e =
       IsGreatestValue-value (market_of book).allowed (sum_after (lowered (pos 1) (net_of book) surplus) 0) (value_of (market_of book)) most sum-same
       (IsGreatestValue-same (fits_after (menu_without book 0) 0 book.supply) (market_of book).allowed (sum_after (lowered (pos 1) (net_of book) surplus) 0) most (λ c. fits-without_none (menu_of book) 0 book.supply c) e)
 
+  -- the first of the greatest choices of the bids without those of bidder j is that of the choices without it
   pub first-without : (j : ℕ) (c : List ℕ) → zero < j → IsFirstGreatest (fits_after (menu_without book j) 0 book.supply) (sum_after (lowered (pos 1) (net_of book) surplus) 0) c → IsFirstGreatest (allowed_without (market_of book) j) (value_of (market_of book)) c
   first-without j c some g =
       IsFirstGreatest-same (allowed_without (market_of book) j) (allowed_without (market_of book) j) (sum_after (lowered (pos 1) (net_of book) surplus) 0) (value_of (market_of book)) c (λ d. refl) sum-same
       (first-skip (menu_of book) (lowered (pos 1) (net_of book) surplus) book.supply j c some g)
 
+-- a bidder that the choice uses has a number above 0
 pub some-used : (z : List ℕ) (j : ℕ) → IsTrue (uses z j) → 0 < number_of z j
 some-used z j used = by (cases_eq (number_of z j) 0)
   where
@@ -60,6 +64,7 @@ some-used z j used = by (cases_eq (number_of z j) 0)
     by (inl none) = absurd (unused (number_of z j) none used)
     by (inr some) = omega (arith, some)
 
+-- the greatest value without a winner, less what the others have in the winning choice, is its Vickrey price
 pub price-is : (book : Book) (z : List ℕ) (j : ℕ) (others all own : ℤ) → IsWinning (market_of book) z → IsTrue (uses z j) → own ≡ worth_in (market_of book) z j
     → IsGreatestValue (market_of book).allowed (value_of (market_of book)) all → IsGreatestValue (allowed_without (market_of book) j) (value_of (market_of book)) others
     → IsVickreyPrice (market_of book) z j (others -ℤ (all -ℤ own))
@@ -78,6 +83,7 @@ winner-known book z j won some inside =
     let same : j - 1 + 1 ≡ j = omega arith in
     rw same at (known-of (menu_of book) z (j - 1) (fits-known (menu_of book) book.supply z won.passed) (omega (arith, winning-count book z won)))
 
+-- what a bidder wins is worth at most 2^42 in size
 pub own-small : (book : Book) (z : List ℕ) (j : ℕ) (own : ℤ) → IsBidBook book → IsWinning (market_of book) z → zero < j → j ≤ length book.bidders → own ≡ worth_in (market_of book) z j → unsigned_abs own ≤ 2 ^ 42
 own-small book z j own kept won some inside is = rw is (net-small book j (number_of z j) kept (winner-known book z j won some inside))
 
@@ -86,6 +92,7 @@ zeros-are : (surplus : List ℤ) → ((k : ℕ) → get_or surplus k (pos 0) ≡
 zeros-are [] zeros = refl
 zeros-are (x ∷ surplus) zeros = let first : x ≡ pos 0 = zeros 0 in let rest = zeros-are surplus (λ k. zeros (suc k)) in cc
 
+-- the lines of a plain table without a bidder are the exact table of all bidders but that one
 pub table-without : (book : Book) (j : ℕ) (table : TableValue) → IsTableOf book table → IsPlainWithout j table → IsTableWithout book j table.lines
 table-without book j table of plain =
     let exact : IsBookTable book j (pos 1) table.surplus table.lines = rw (plain.skip, plain.den) at of.exact in
@@ -120,9 +127,11 @@ unfolding newcomer
 newcomer-one j zero some = absurd (some refl)
 newcomer-one j (suc n) some = refl
 
+-- a bidder with no bid in the choice adds no winner
 pub winners-skip : (c : List ℕ) (k : ℕ) → k < length c → get_or c k 0 ≡ 0 → winners_after 0 (take (k + 1) c) ≡ winners_after 0 (take k c)
 winners-skip c k inside none = winners-step c k 0 inside ∙ ap (λ l. winners_after 0 (take k c) ++ l) (newcomer-none (suc (0 + k)) (get_or c k 0) none) ∙ append-nil (winners_after 0 (take k c))
 
+-- a bidder with a bid in the choice is one winner more
 pub winners-take : (c : List ℕ) (k : ℕ) → k < length c → get_or c k 0 ≢ 0 → winners_after 0 (take (k + 1) c) ≡ winners_after 0 (take k c) ++ (k + 1) ∷ []
 winners-take c k inside some =
     let next : suc (0 + k) ≡ k + 1 = omega arith in
@@ -145,8 +154,10 @@ tables-more book bidders tables j table all one = record {
   ];
 }
 
+-- what the others have is below 2^127 in size
 pub left-size : (all own : ℤ) → unsigned_abs all ≤ 2 ^ 120 → unsigned_abs own ≤ 2 ^ 42 → unsigned_abs (all -ℤ own) < 2 ^ 127
 left-size all own p q = omega (arith, ints)
 
+-- a price is below 2^127 in size
 pub price-size : (others all own : ℤ) → unsigned_abs others ≤ 2 ^ 121 → unsigned_abs all ≤ 2 ^ 120 → unsigned_abs own ≤ 2 ^ 42 → unsigned_abs (others -ℤ (all -ℤ own)) < 2 ^ 127
 price-size others all own p q r = omega (arith, ints)

@@ -186,6 +186,7 @@ module _ (book : Book) (rules : IsBook book) where
   one_value : (v w : List ℕ) → finish v ≡ finish w → v ≡ w
   one_value v w is = cc
 
+  -- the stages read the form of a file of weights
   pub reads : Reads IsSound (Step book) excess begin finish (AreWeights (length book.bidders)) (lines book)
   reads = record {
     complete = complete;

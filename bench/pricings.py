@@ -1,0 +1,42 @@
+"""What `cca price --rounds` prints, read again: for the plain program and for general solvers."""
+from fractions import Fraction
+from limit_books import RESERVE, SUPPLY
+
+
+def given_of(printed, cert):
+    """The denominator, the points of the turns, and the certificate's lines of the payments and the rows."""
+    rounds = [line for line in printed.splitlines() if line.startswith("round ")]
+    den = next(line for line in cert.splitlines() if line.startswith("den "))
+    return "\n".join([den, *rounds, cert[cert.index("\npay ") + 1:cert.index("\nlowered\n")]]) + "\n"
+
+
+def fraction(word):
+    whole, _, rest = word.partition("+")
+    return int(whole) + (Fraction(rest) if rest else 0)
+
+
+def prices_of(printed):
+    """The winners with their net amounts and Vickrey prices, the net value, and of each turn the point with the greatest lowered sum."""
+    winners, turns, net = [], [], None
+    for line in printed.splitlines():
+        words = line.split()
+        if words[0] == "round":
+            end = words.index("row") if "row" in words else words.index("end")
+            point = [fraction(w) for w in words[3:end]]
+            turns.append((point, sum(point) + (fraction(words[-1]) if "row" in words else 0)))
+        elif words[0] == "winner":
+            lots = tuple(map(int, words[2:2 + len(SUPPLY)]))
+            cost = sum(n * r for n, r in zip(lots, RESERVE))
+            at = words.index("bid")
+            winners.append((int(words[1][1:]) - 1, int(words[at + 1]) - cost, int(words[at + 3]) - cost))
+        elif words[0] == "net":
+            net = int(words[1])
+    return winners, net, turns
+
+
+def wanted_of(printed):
+    """The winner determinations of a pricing: the surpluses, the bidder that is left out, and the greatest sum."""
+    winners, net, turns = prices_of(printed)
+    wanted = [({}, None, net)]
+    wanted += [({}, j, vickrey + net - own) for j, own, vickrey in winners]
+    return wanted + [({j: own - n for (j, own, _), n in zip(winners, point)}, None, most) for point, most in turns]
