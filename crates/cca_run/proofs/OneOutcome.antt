@@ -37,7 +37,8 @@ use Rattle.review.specs.declared.edit.Edit.{Edit}
 use Rattle.review_text.specs.ReviewText.{IsReviewText}
 use Rattle.cca_run.proofs.Same.{Same, both, equal, one-answer, one-input, printed-same}
 use Rattle.cca_run.proofs.OneLog.{one-award-answer}
-use Rattle.cca_run.proofs.Ones.{not_few_and_many, ones-weigh}
+use Rattle.book_price.proofs.Ones.{ones-weigh}
+use Rattle.cca_run.proofs.Ones.{not_few_and_many}
 use Rattle.cca_inputs.specs.Answers.{AwardAnswers, BookAnswers, CertAnswers, EditsAnswers, LogAnswers, WeightsAnswers, book_answer, cert_answer, edits_answer, weights_answer}
 use Rattle.cca_inputs.specs.Command.{CommandValue, win, price, check, weigh, weigh_check, auction, award, audit, make, place, place_check, review, command_of, contents_of}
 use Rattle.cca_inputs.specs.Outcome.{Answer, AnswerGives, FileAnswers, InputGives, Outcome, done, stopped, stops, value}
@@ -229,7 +230,7 @@ module _ (one_book : (bytes : List ℕ) (x y : Said Book Excess) → Says IsBook
       let same = one_winning (market_of book) x.0 y.0 m x.1 y.1 in
       both o p (done (win_text book x.0) []) (done (win_text book y.0) []) x.2 y.2 (printed-same (win_text book x.0) (win_text book y.0) [] [] (ap (win_text book) same))) x y
   one-of (price name cert form) contents o p x y = one-input BookFile BOOK_BYTES BookAnswers (λ book. PriceGives book (ones book) form) one-book-answer (contents BookFile) o p
-      (λ book bytes says x y. one-priced book (ones book) (ones-weigh book) form o p (lawful bytes book says) x y) x y
+      (λ book bytes says x y. one-priced book (ones book) (ones-weigh (bidders_of book)) form o p (lawful bytes book says) x y) x y
   one-of (check name cert) contents o p x y = one-input BookFile BOOK_BYTES BookAnswers (λ book. CertGives book (contents Cert) (VerdictGives book (ones book))) one-book-answer (contents BookFile) o p
       (λ book bytes says x y. one-input Cert CERT_BYTES (CertAnswers book) (VerdictGives book (ones book)) (one-cert-answer book) (contents Cert) o p
       (λ c of says_it a b. one-judged book (ones book) c o p (lawful bytes book says) a b) x y) x y
@@ -249,7 +250,7 @@ module _ (one_book : (bytes : List ℕ) (x y : Said Book Excess) → Says IsBook
       one-input Award AWARD_BYTES AwardAnswers (λ t. LogGives t (contents Log) (λ events. BookOfLogGives t events (λ b. PriceGives b (ones b) form))) one-award-answer (contents Award) o p
       (λ t bytes says x y. one-input Log LOG_BYTES (LogAnswers t) (λ events. BookOfLogGives t events (λ b. PriceGives b (ones b) form)) (one_log_answer t) (contents Log) o p
       (λ events of says_it a b. one-ended (length events) (end_of t (reverse events)) (λ b. PriceGives b (ones b) form) o p
-      (λ book is. one-priced book (ones book) (ones-weigh book) form o p (lawful_log t (log_records of) events book says.1 says_it is)) a b) x y) x y
+      (λ book is. one-priced book (ones book) (ones-weigh (bidders_of book)) form o p (lawful_log t (log_records of) events book says.1 says_it is)) a b) x y) x y
   one-of (audit terms log cert) contents o p x y =
       one-input Award AWARD_BYTES AwardAnswers (λ t. LogGives t (contents Log) (λ events. BookOfLogGives t events (λ b. CertGives b (contents Cert) (VerdictGives b (ones b))))) one-award-answer (contents Award) o p
       (λ t bytes says x y. one-input Log LOG_BYTES (LogAnswers t) (λ events. BookOfLogGives t events (λ b. CertGives b (contents Cert) (VerdictGives b (ones b)))) (one_log_answer t) (contents Log) o p

@@ -23,5 +23,4 @@ pub mod TableLaws
 pub mod EarlierLaws
 pub mod ValueLaws
 pub mod LoweredLaws
-pub mod Trims
-mod TimesLaws
+pub mod TimesLaws

@@ -1,11 +1,12 @@
 -- Bids at their net amounts and at lowered ones, by what their bidders gain.
-use Rattle.std.specs.Prelude.{◌≡◌, ℕ, zero, suc, ◌-◌, ◌^◌, ◌<◌, ◌≤◌, List, get_or, length, replicate, ℤ, pos, ◌-ℤ◌, ◌*ℤ◌, ◌≤ℤ◌, unsigned_abs, Option, refl}
+use Rattle.std.specs.Prelude.{◌≡◌, ℕ, suc, ◌-◌, ◌^◌, ◌<◌, ◌≤◌, List, length, replicate, ℤ, pos, ◌-ℤ◌, ◌*ℤ◌, ◌≤ℤ◌, unsigned_abs, Option}
 use Rattle.std.proofs.Common.{sym, ap, subst, arith}
 use Rattle.std.proofs.lemmas.Int.{ints}
 use Rattle.std.proofs.lemmas.List.{length-replicate}
 use Rattle.auction_model.specs.Book.{Book, net_of}
 use Rattle.auction_model.specs.Lowered.{of_bidder}
 use Rattle.auction_model.specs.Menu.{Menu}
+use Rattle.auction_model.proofs.ListLaws.{zeros-at}
 use Rattle.bid_book.specs.Kept.{IsBidBook}
 use Rattle.cert_form.specs.Certificate.{CertValue}
 use Rattle.cert_laws.specs.Tests.{ObeysAt, Obeys, bidders_of, lowered_net}
@@ -15,15 +16,11 @@ use Rattle.cert_check.specs.Worths.{worth_with, HasSmallWorths, CanLower, gain_o
 use Rattle.cert_check.proofs.Gains.{gain-small}
 use Rattle.cert_check.proofs.PlaceTests.{failing-same}
 
-zeros-at : (n k : ℕ) → get_or (replicate n (pos 0)) k (pos 0) ≡ pos 0
-zeros-at zero k = refl
-zeros-at (suc n) zero = refl
-zeros-at (suc n) (suc k) = zeros-at n k
-
 no-gain : (gains : List ℤ) (n j : ℕ) → gains ≡ replicate n (pos 0) → of_bidder gains j ≡ pos 0
 no-gain gains n j is = rw is (zeros-at n (j - 1))
 
-once : (net gain : ℤ) → gain ≡ pos 0 → (pos 1 *ℤ net) -ℤ gain ≡ net
+-- a bid of a bidder that gains nothing is worth its net amount
+pub once : (net gain : ℤ) → gain ≡ pos 0 → (pos 1 *ℤ net) -ℤ gain ≡ net
 once net gain none = omega (arith, ints, none)
 
 once-small : (net : ℤ) → pos 0 ≤ℤ net → net ≤ℤ pos (2 ^ 42) → unsigned_abs (pos 1 *ℤ net) < 2 ^ 120

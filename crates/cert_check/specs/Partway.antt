@@ -14,6 +14,11 @@ abbrev pub IsJudged : Book → (ℕ → ℕ) → CertValue → ℕ → ℕ → O
 IsJudged book w c test place None = HoldsTo book w c test place
 IsJudged book w c test place (Some f) = FailsFirst book w c f.test f.place
 
+-- the failure of a test at a place, where there is one
+abbrev pub failure_at : ℕ → Option ℕ → Option Failure
+failure_at test None = None
+failure_at test (Some place) = Some (record { test = test; place = place })
+
 -- of the first n places behind a base, this is the first at which the test fails, or none does
 abbrev pub IsLate : Book → (ℕ → ℕ) → CertValue → ℕ → ℕ → ℕ → Option ℕ → Type 0
 IsLate book w c test base n None = (i : ℕ) → i < n → Asks book w c test (base + i)

@@ -68,7 +68,7 @@ fn claim_failing(book: &BidBook, cert: &Certificate, weights: &[u32], test: u8) 
     requires before { HoldsUpTo book.now (weight_of weights.now) (cert_value cert.now) test }
     ensures { IsFirstFailing (Asks book.now (weight_of weights.now) (cert_value cert.now) test) result }
 {
-    let _bidders = book.bidders();
+    book.kept();
     let claim = Claim {
         book,
         den: cert.den,

@@ -4,7 +4,7 @@ ghost use Rattle.auction_model.specs.Book.{Book};
 ghost use Rattle.cert_form.specs.Certificate.{CertValue};
 ghost use Rattle.cert_check.specs.Places.{IsFirstFailing};
 ghost use Rattle.cert_laws.specs.Tests.{Asks};
-ghost use Rattle.cert_check.specs.Partway.{HoldsTo, IsJudged, IsLate, IsSmallPlace};
+ghost use Rattle.cert_check.specs.Partway.{failure_at, HoldsTo, IsJudged, IsLate, IsSmallPlace};
 ghost use Rattle.cert_check.specs.Verdicts.{IsVerdict};
 
 use crate::Verdict;
@@ -18,10 +18,12 @@ pub struct Failure {
     pub place: u64,
 }
 
-/// What fails first behind a test, of which this is the first place at which it fails.
+/// What fails first behind a test, of which this is the first place at which it fails: the test at this place, and nothing where there
+/// is none.
 pub fn of_test(test: u8, found: Option<u64>) -> Option<Failure>
     requires test { test < 10 }
-    ensures { (book : Book) (w : ℕ → ℕ) (c : CertValue) → HoldsTo book w c test 0 → IsFirstFailing (Asks book w c test) found → IsJudged book w c (test + 1) 0 result }
+    ensures judged { (book : Book) (w : ℕ → ℕ) (c : CertValue) → HoldsTo book w c test 0 → IsFirstFailing (Asks book w c test) found → IsJudged book w c (test + 1) 0 result }
+    ensures failure { result ≡ failure_at test found }
 {
     match found {
         Some(place) => Some(Failure { test, place }),

@@ -49,7 +49,7 @@ fn first_holds(claim: &Claim, first: &Column, place: u16) -> bool
 }
 
 /// Whether the first multiplier of a row isn't below 0.
-pub(crate) fn is_first(first: i128) -> bool
+pub fn is_first(first: i128) -> bool
     ensures { IsTrue result ↔ (pos 0 ≤ℤ first) }
 {
     first >= 0
@@ -128,7 +128,7 @@ fn second_holds(
 }
 
 /// Whether the second multiplier of a row isn't below 0, or its first is above 0.
-pub(crate) fn is_signed(first: i128, second: i128) -> bool
+pub fn is_signed(first: i128, second: i128) -> bool
     ensures { IsTrue result ↔ ((pos 0 <ℤ first) ⊎ (pos 0 ≤ℤ second)) }
 {
     first > 0 || second >= 0

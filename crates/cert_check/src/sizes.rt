@@ -29,7 +29,7 @@ fn size_fault(den: i128, value: i128) -> Option<u64>
 }
 
 /// Whether `den * (value + 1)` is below 2^120. The quotient keeps all numbers within 128 bits.
-fn is_small(den: i128, value: i128) -> bool
+pub fn is_small(den: i128, value: i128) -> bool
     requires den { pos 1 ≤ℤ den }
     requires value { pos 0 ≤ℤ value }
     ensures { IsTrue result ↔ ((den *ℤ (value +ℤ pos 1)) <ℤ pos (2 ^ 120)) }

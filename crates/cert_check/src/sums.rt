@@ -1,4 +1,4 @@
-// Sums over bidders and over rows.
+//! Sums over bidders and over rows.
 ghost use Rattle.std.specs.Prelude.{IsTrue, length, map, not, pos, unsigned_abs, ℕ, ◌*◌, ◌<◌, ◌^◌, ◌≡◌, ◌≤ℤ◌, ◌≤◌};
 ghost use Rattle.auction_model.specs.Book.{market_of, menu_of};
 ghost use Rattle.auction_model.specs.Lowered.{of_bidder};
@@ -13,8 +13,8 @@ ghost use Rattle.cert_laws.specs.Tests.{bidders_of, sum_holding};
 ghost use Rattle.cert_text.specs.Parts.{row_value};
 ghost use Rattle.limits.specs.declared.TheConstants.{MOST_BIDDERS};
 
-pub(crate) mod amounts;
-pub(crate) mod members;
+pub mod amounts;
+pub mod members;
 
 use crate::sums::amounts::{counted, won};
 use crate::sums::members::is_among;
@@ -23,13 +23,15 @@ use cert_text::CertRow;
 
 /// One of the two multipliers of a row.
 #[derive(Clone, Copy)]
-pub(crate) enum Multiplier {
+pub enum Multiplier {
+    /// The one that shows the least sum of the payments.
     First,
+    /// The one that shows the nearest point.
     Second,
 }
 
-/// What the members pay.
-pub(crate) fn paid_by(payments: &[i128], members: &[u16]) -> i128
+/// What the members pay together, in the unit of the payments.
+pub fn paid_by(payments: &[i128], members: &[u16]) -> i128
     requires count { length payments.now ≤ MOST_BIDDERS }
     requires range { AllInRange payments.now }
     ensures { result ≡ sum_over (is_member members.now) (of_bidder payments.now) (length payments.now) }

@@ -1,6 +1,6 @@
 mod Lowest
 mod Totals
-mod LineLaws
+pub mod LineLaws
 mod WinnerLaws
 mod PriceLists
 mod Printable

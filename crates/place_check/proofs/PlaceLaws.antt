@@ -1,6 +1,6 @@
 -- What the tests ask at each place, and that they ask nothing elsewhere.
 use Rattle.std.specs.Prelude.{◌≡◌, ℕ, ◌+◌, ◌≤◌, ◌<◌, ◌↔◌, ◌⊎◌, Bool, not, IsTrue, IsFalse, List, length, ℤ, pos, ◌-ℤ◌, ◌*ℤ◌, ◌≤ℤ◌, ◌<ℤ◌}
-use Rattle.std.proofs.Common.{sym, ◌∙◌, ap, subst, arith}
+use Rattle.std.proofs.Common.{sym, ◌∙◌, subst, arith}
 use Rattle.std.proofs.lemmas.Bool.{both_ways}
 use Rattle.std.proofs.lemmas.Int.{ints}
 use Rattle.auction_model.specs.Lowered.{of_bidder}
@@ -168,13 +168,6 @@ pub above-price : (b : Bool) (paid sum product : ℤ) → (IsTrue b ↔ (paid -�
 above-price b paid sum product test = (
   λ t. let e = test.0 t in omega (arith, ints, e),
   λ h. test.1 (omega (arith, ints, h)),
-)
-
--- equal numbers serve as well
-pub times-same : (b : Bool) (k x y a d : ℤ) → x ≡ a → y ≡ d → IsTrue b ↔ (x ≡ k *ℤ y) → IsTrue b ↔ (a ≡ k *ℤ d)
-times-same b k x y a d e f h = (
-  λ t. sym e ∙ h.0 t ∙ ap (λ (z : ℤ). k *ℤ z) f,
-  λ g. h.1 (e ∙ g ∙ ap (λ (z : ℤ). k *ℤ z) (sym f)),
 )
 
 -- a row whose members, order and sum are tested

@@ -8,9 +8,9 @@ use Rattle.place_cert.specs.Parts.{row_value, row_order, AreRows}
 use Rattle.place_cert.specs.declared.certificate.PlaceRow.{PlaceRow}
 use Rattle.cert_form.specs.PlaceCert.{order_in_row}
 use Rattle.cert_laws.specs.MarketTests.{sum_holding}
-use Rattle.place_check.specs.declared.sums.Multiplier.{Multiplier}
-use Rattle.place_check.specs.declared.sums.Multiplier.TheVariants.{First, Second}
-use Rattle.place_check.specs.Multipliers.{multiplier_of}
+use Rattle.cert_check.specs.declared.sums.Multiplier.{Multiplier}
+use Rattle.cert_check.specs.declared.sums.Multiplier.TheVariants.{First, Second}
+use Rattle.cert_check.specs.Multipliers.{multiplier_of}
 
 rows-at : (bidders : ℕ) (rows : List PlaceRow) (k : ℕ) (d : PlaceRow) → AreRows bidders rows → k < length rows → IsRow bidders (row_value (get_or rows k d))
 rows-at bidders [] k d h lt = absurd (omega arith)

@@ -1,5 +1,5 @@
 -- No number leaves the range: products with the denominator, and the worths that a table is tested for.
-use Rattle.std.specs.Prelude.{◌≡◌, ℕ, zero, suc, ◌+◌, ◌-◌, ◌*◌, ◌^◌, ◌≤◌, ◌<◌, List, length, replicate, get_or, ℤ, pos, negsuc, ◌-ℤ◌, ◌*ℤ◌, ◌≤ℤ◌, unsigned_abs, refl}
+use Rattle.std.specs.Prelude.{◌≡◌, ℕ, ◌+◌, ◌-◌, ◌*◌, ◌^◌, ◌≤◌, ◌<◌, List, length, replicate, ℤ, pos, negsuc, ◌-ℤ◌, ◌*ℤ◌, ◌≤ℤ◌, unsigned_abs, refl}
 use Rattle.std.proofs.Common.{FitsSigned, to_z, of_z, inl, inr, sym, ◌∙◌, ap, subst, arith}
 use Rattle.std.proofs.lemmas.Bool.{cases_Bool, cond-true, cond-false}
 use Rattle.std.proofs.lemmas.Int.{ints, to_z-of_z}
@@ -7,6 +7,7 @@ use Rattle.std.specs.Int.{w128}
 use Rattle.std.proofs.lemmas.List.{length-replicate}
 use Rattle.auction_model.specs.Lowered.{of_bidder}
 use Rattle.auction_model.specs.Market.{uses, worth_in}
+use Rattle.auction_model.proofs.ListLaws.{zeros-at}
 use Rattle.slot_places.specs.Board.{board_of, market_of}
 use Rattle.slot_places.specs.Kept.{AreSlots}
 use Rattle.slot_places.specs.Slots.{SlotList, bid_of, amount_of}
@@ -15,18 +16,11 @@ use Rattle.cert_form.specs.PlaceCert.{PlaceCertValue}
 use Rattle.place_laws.specs.PlaceTests.{lowered_in, P1, P2, P3, P5}
 use Rattle.place_laws.proofs.SetSizes.{worth-most}
 use Rattle.cert_check.proofs.LoweredLaws.{scaled-small}
+use Rattle.cert_check.proofs.Worths.{once}
 use Rattle.place_check.specs.OfferRules.{worth_with, HasSmallWorths}
 use Rattle.place_check.specs.Shown.{CanLower, HasSmallProducts, gain_in}
 use Rattle.place_check.proofs.AmountLaws.{amount-most}
 use Rattle.place_check.proofs.SetTests.{bids-same}
-
-zeros-at : (n k : ℕ) → get_or (replicate n (pos 0)) k (pos 0) ≡ pos 0
-zeros-at zero k = refl
-zeros-at (suc n) zero = refl
-zeros-at (suc n) (suc k) = zeros-at n k
-
-once : (amount gain : ℤ) → gain ≡ pos 0 → (pos 1 *ℤ amount) -ℤ gain ≡ amount
-once amount gain none = omega (arith, ints, none)
 
 once-small : (a : ℕ) → a ≤ 2 ^ 42 → unsigned_abs (pos 1 *ℤ pos a) < 2 ^ 120
 once-small a most = omega (arith, ints, most)

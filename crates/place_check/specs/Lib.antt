@@ -1,4 +1,3 @@
 pub mod Verdicts
 pub mod OfferRules
-pub mod Multipliers
 pub mod Shown

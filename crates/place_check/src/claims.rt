@@ -13,8 +13,12 @@ ghost use Rattle.slot_places.specs.Orders.{allows};
 ghost use Rattle.place_check.specs.Shown.{HasSmallProducts, IsTightPlaced, IsFor, IsRowFor};
 
 use crate::amounts::worth;
-use crate::figures::{is_between, is_equal, is_first, is_one_of, is_product, is_signed};
-use crate::sums::{Multiplier, paid_by, sum_of, uses_all, uses_none, won, won_beside};
+use crate::figures::{is_one_of, is_product};
+use crate::sums::{sum_of, won, won_beside};
+use cert_check::sums::amounts::{is_between, is_equal};
+use cert_check::sums::members::{uses_all, uses_none};
+use cert_check::sums::{Multiplier, paid_by};
+use cert_check::{is_first, is_signed};
 use place_cert::{PlaceCertificate, PlaceRow};
 use slot_places::Slots;
 
@@ -56,10 +60,12 @@ fn is_tight_row(slots: &Slots, cert: &PlaceCertificate, row: &PlaceRow) -> bool
     ensures { IsTrue result ↔ IsTightPlaced slots.now (place_cert_value cert.now).cert (row_value row.now) (row_order row.now) }
 {
     let members = row.members.items();
-    if !uses_all(&cert.choice, members) {
+    let winning = cert.choice.numbers();
+    if !uses_all(winning, members) {
         return false;
     }
-    if !uses_none(&row.choice, members) {
+    let choice = row.choice.numbers();
+    if !uses_none(choice, members) {
         return false;
     }
     if !slots.allows(row.order.items(), &row.choice) {

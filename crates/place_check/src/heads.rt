@@ -9,10 +9,12 @@ ghost use Rattle.slot_places.specs.Board.{market_of};
 ghost use Rattle.place_check.specs.Shown.{gain_in, CanLower, HasSmallProducts, IsFor};
 
 use crate::amounts::worth;
-use crate::figures::{is_equal, is_one_of, is_small};
+use crate::figures::is_one_of;
 use crate::offers::Offers;
 use crate::sums::{total_of, won};
 use crate::tables::table_holds;
+use cert_check::is_small;
+use cert_check::sums::amounts::is_equal;
 use place_cert::PlaceCertificate;
 use slot_places::{MOST_PLACED, Slots};
 

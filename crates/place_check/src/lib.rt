@@ -8,7 +8,6 @@ mod figures;
 mod heads;
 mod offers;
 mod parts;
-mod sets;
 mod sums;
 mod tables;
 #[cfg(test)]

@@ -1,72 +1,24 @@
 // Sums over bidders and over rows.
-ghost use Rattle.std.specs.Prelude.{IsTrue, length, map, not, pos, unsigned_abs, if◌then◌else◌, ℕ, ◌*◌, ◌<◌, ◌^◌, ◌≡◌, ◌≤ℤ◌, ◌≤◌, ◌↔◌};
+ghost use Rattle.std.specs.Prelude.{length, map, not, pos, unsigned_abs, ℕ, ◌*◌, ◌<◌, ◌^◌, ◌≡◌, ◌≤ℤ◌, ◌≤◌};
 ghost use Rattle.auction_model.specs.Lowered.{of_bidder};
-ghost use Rattle.auction_model.specs.Market.{number_of, uses, worth_in};
+ghost use Rattle.auction_model.specs.Market.{worth_in};
 ghost use Rattle.auction_model.specs.Prices.{sum_over, everyone};
-ghost use Rattle.cert_form.specs.CertText.{AllInRange, AreMembers};
+ghost use Rattle.cert_check.specs.Multipliers.{multiplier_of};
+ghost use Rattle.cert_form.specs.CertText.{AllInRange};
 ghost use Rattle.cert_form.specs.Certificate.{is_member};
 ghost use Rattle.cert_laws.specs.MarketTests.{sum_holding};
 ghost use Rattle.limits.specs.declared.TheConstants.{MOST_AMOUNT, MOST_PLACED};
 ghost use Rattle.place_cert.specs.Parts.{row_value, AreRows};
 ghost use Rattle.slot_places.specs.Board.{market_of};
-ghost use Rattle.place_check.specs.Multipliers.{multiplier_of};
 
 use crate::amounts::amount;
+use cert_check::sum_paid;
+use cert_check::sums::Multiplier;
+use cert_check::sums::amounts::counted;
+use cert_check::sums::members::is_among;
 use choices::Choice;
 use place_cert::PlaceRow;
 use slot_places::Slots;
-
-/// One of the two multipliers of a row.
-#[derive(Clone, Copy)]
-pub(crate) enum Multiplier {
-    First,
-    Second,
-}
-
-/// Whether a bidder is among the members of a row.
-pub(crate) fn is_among(members: &[u16], j: u16) -> bool
-    ensures { result ≡ is_member members.now j }
-{
-    for member in members {
-        if *member == j {
-            return true;
-        }
-    }
-    false
-}
-
-/// Whether the choice uses all members.
-pub(crate) fn uses_all(choice: &Choice, members: &[u16]) -> bool
-    requires { AreMembers (length choice.now) 0 members.now }
-    ensures { IsTrue result ↔ ((j : ℕ) → IsTrue (is_member members.now j) → IsTrue (uses choice.now j)) }
-{
-    for member in members {
-        if choice.number(*member) == 0 {
-            return false;
-        }
-    }
-    true
-}
-
-/// Whether the choice uses no member.
-pub(crate) fn uses_none(choice: &Choice, members: &[u16]) -> bool
-    requires { AreMembers (length choice.now) 0 members.now }
-    ensures { IsTrue result ↔ ((j : ℕ) → IsTrue (is_member members.now j) → number_of choice.now j ≡ 0) }
-{
-    for member in members {
-        if choice.number(*member) != 0 {
-            return false;
-        }
-    }
-    true
-}
-
-/// The amount where the test passes, else 0.
-fn counted(passes: bool, amount: i128) -> i128
-    ensures { result ≡ (if passes then amount else pos 0) }
-{
-    if passes { amount } else { 0 }
-}
 
 /// What all pay together, times the denominator.
 pub fn total_of(payments: &[i128]) -> i128
@@ -74,24 +26,7 @@ pub fn total_of(payments: &[i128]) -> i128
     requires range { AllInRange payments.now }
     ensures { result ≡ sum_over everyone (of_bidder payments.now) (length payments.now) }
 {
-    let mut sum = 0i128;
-    for k in 0..payments.len() {
-        sum += payments[k];
-    }
-    sum
-}
-
-/// What the members pay.
-pub(crate) fn paid_by(payments: &[i128], members: &[u16]) -> i128
-    requires count { length payments.now ≤ MOST_PLACED }
-    requires range { AllInRange payments.now }
-    ensures { result ≡ sum_over (is_member members.now) (of_bidder payments.now) (length payments.now) }
-{
-    let mut sum = 0i128;
-    for k in 0..payments.len() {
-        sum += counted(is_among(members, k as u16 + 1), payments[k]);
-    }
-    sum
+    sum_paid(payments)
 }
 
 /// What the bid that the choice gives to bidder `j` is worth, and 0 for a loser.

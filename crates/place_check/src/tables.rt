@@ -3,13 +3,13 @@ ghost use Rattle.std.specs.Prelude.{IsTrue, IsFalse, length, ◌≡◌, ◌+◌,
 ghost use Rattle.auction_model.specs.Table.{entry_at};
 ghost use Rattle.place_cert.specs.PlaceText.{HasSets};
 ghost use Rattle.place_laws.specs.PlaceTests.{ObeysSet, ObeysSets};
-ghost use Rattle.slot_places.specs.Board.{board_without, start_behind};
+ghost use Rattle.slot_places.specs.Board.{board_without};
 ghost use Rattle.slot_places.specs.SetTable.{holds};
 ghost use Rattle.place_check.specs.OfferRules.{worth_with, KeepsBid, KeepsBidder, SetTableAt};
 
 use crate::offers::Offers;
-use crate::sets::{is_in, start_behind, weight};
 use choices::Grid;
+use slot_places::sets::{is_in, weight};
 
 /// Whether the rules hold at a place of a table, which is a set, or behind all sets the most that the entry of nobody may be.
 pub(crate) fn table_holds(offers: &Offers, table: &Grid, most: i128, place: usize) -> bool
@@ -123,7 +123,7 @@ fn starts_behind(offers: &Offers, set: usize, j: u16, i: u16) -> bool
     ensures { result ≡ (board_without offers.now.slots.now offers.now.skip).may (holds set) j i }
 {
     let place = offers.slots.place(j, i);
-    place.start == start_behind(offers.slots, set)
+    place.start == offers.slots.start_behind(set)
 }
 
 /// Whether a bid and an entry come to no more than another entry.

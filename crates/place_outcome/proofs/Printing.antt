@@ -76,10 +76,6 @@ rest-on c before n rest is =
     let place : (before + 1) - 1 ≡ before = omega arith in
     (ap (λ (k : ℕ). slice_index c k) place ∙ sym first, record { numbers_are = cc; count = (let e = is.count in omega (arith, e)) })
 
--- the pieces of a winner's line behind a text
-pub regroup : (t w n s b a k v p f e : List ℕ) → (((((((((t ++ w) ++ n) ++ s) ++ b) ++ a) ++ k) ++ v) ++ p) ++ f) ++ e ≡ t ++ (((((((((w ++ n) ++ s) ++ b) ++ a) ++ k) ++ v) ++ p) ++ f) ++ e)
-regroup t w n s b a k v p f e = simp append_assoc
-
 -- the line of a winner is that of its number
 pub winner-line : (slots : SlotList) (v : ℕ → ℤ) (p : Point) (j n : ℕ) (pays text new : List ℕ) → 0 < n → IsFractionText (of_bidder p.at j) p.den pays
     → new ≡ text ++ priced_line (bidder_of slots j).name (bid_of slots j n) (v j) pays → (line : List ℕ) × IsLineOf slots v p j n line × (new ≡ text ++ line)

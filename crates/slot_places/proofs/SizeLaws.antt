@@ -5,7 +5,7 @@ use Rattle.std.proofs.lemmas.Bool.{and_from, and_right, le-leb, lt-leb, cases_Bo
 use Rattle.std.proofs.lemmas.Int.{ints, unsigned_abs-mul}
 use Rattle.auction_model.specs.Lowered.{lowered, of_bidder, sum_to}
 use Rattle.auction_model.specs.Market.{number_of, sum_after}
-use Rattle.auction_model.proofs.BoundLaws.{abs-from, abs-idle, abs-self}
+use Rattle.auction_model.proofs.BoundLaws.{abs-idle}
 use Rattle.slot_places.specs.Board.{Board, nobody, joined, outside, is_known, can_place, is_placed}
 use Rattle.slot_places.specs.SetTable.{fits_behind, counts_outside, sum_outside, StaysInRange}
 use Rattle.slot_places.proofs.SetLaws.{joined-self, joined-other, outside-joined, outside-nobody}
@@ -114,12 +114,6 @@ sum_to-term f (suc n) j some low =
       | inr other ↦ let rest = sum_to-term f n j some (omega (arith, low, other)) in omega (arith, rest)
     ]
 
-abs-less : (a b : ℤ) → unsigned_abs (a -ℤ b) ≤ unsigned_abs a + unsigned_abs b
-abs-less a b = let h = abs-self a in let i = abs-self b in abs-from (a -ℤ b) (unsigned_abs a + unsigned_abs b) (omega (arith, ints, h.0, h.1, i.0, i.1)) (omega (arith, ints, h.0, h.1, i.0, i.1))
-
-abs-add : (a b : ℤ) → unsigned_abs (a +ℤ b) ≤ unsigned_abs a + unsigned_abs b
-abs-add a b = let h = abs-self a in let i = abs-self b in abs-from (a +ℤ b) (unsigned_abs a + unsigned_abs b) (omega (arith, ints, h.0, h.1, i.0, i.1)) (omega (arith, ints, h.0, h.1, i.0, i.1))
-
 -- a sum is no greater in size than the bounds of its terms together
 pub sum-size : (f : ℕ → ℕ → ℤ) (caps : ℕ → ℕ) (k : ℕ) (c : List ℕ) → ((i : ℕ) → i < length c → unsigned_abs (f (suc (k + i)) (get_or c i 0)) ≤ caps (suc (k + i))) → sum_to caps k + unsigned_abs (sum_after f k c) ≤ sum_to caps (k + length c)
 sum-size f caps k [] all = let e : k + 0 ≡ k = omega arith in rw e (omega arith)
@@ -127,16 +121,14 @@ sum-size f caps k (x ∷ c) all =
     let zero_at : suc (k + 0) ≡ suc k = omega arith in
     let own : unsigned_abs (f (suc k) x) ≤ caps (suc k) = rw zero_at at (all 0 (omega arith)) in
     let rest = sum-size f caps (suc k) c (λ i inside. let e : suc (k + suc i) ≡ suc (suc k + i) = omega arith in rw e at (all (suc i) (omega (arith, inside)))) in
-    let both = abs-add (f (suc k) x) (sum_after f (suc k) c) in
     let e : k + suc (length c) ≡ suc k + length c = omega arith in
-    rw e (omega (arith, own, rest, both))
+    rw e (omega (arith, ints, own, rest))
 
 lowered-size : (den : ℤ) (worth : ℕ → ℕ → ℤ) (surplus : List ℤ) (j i : ℕ) → unsigned_abs (lowered den worth surplus j i) ≤ unsigned_abs den * unsigned_abs (worth j i) + unsigned_abs (of_bidder surplus j)
 lowered-size den worth surplus j zero = let a = abs-idle (of_bidder surplus j) in omega (arith, a)
 lowered-size den worth surplus j (suc i) =
-    let a = abs-less (den *ℤ worth j (suc i)) (of_bidder surplus j) in
     let m = unsigned_abs-mul den (worth j (suc i)) in
-    omega (arith, a, m)
+    omega (arith, ints, m)
 
 outside-size : (s : ℕ → Bool) (counts : ℕ → ℕ → ℤ) (j i n : ℕ) → unsigned_abs (counts j i) ≤ n → unsigned_abs (counts_outside s counts j i) ≤ n
 outside-size s counts j i n low = by (s j)

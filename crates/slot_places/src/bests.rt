@@ -5,7 +5,8 @@ ghost use Rattle.auction_model.specs.Market.{is_number_before, is_earlier, numbe
 ghost use Rattle.slot_places.specs.SetTable.{holds, sum_outside, fits_behind};
 ghost use Rattle.slot_places.specs.Steps.{searched, counted, IsBefore, IsHeld, IsBestOf, IsBestNext, IsBestTo, AreBests};
 
-use crate::search::{Search, is_in, weight};
+use crate::search::Search;
+use crate::sets::{is_in, weight};
 use std::alloc::{AllocError, Global};
 
 /// A choice that gives 0 to the bidders of a set, and what those outside the set count.

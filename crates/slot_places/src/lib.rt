@@ -8,6 +8,7 @@ mod placing;
 mod read;
 mod search;
 mod searching;
+pub mod sets;
 mod slot_chooser;
 mod slots;
 mod stop;

@@ -8,7 +8,7 @@ ghost use Rattle.slot_places.specs.Steps.{CanFollow, IsFirstNext};
 ghost use Rattle.limits.specs.declared.TheConstants.{MOST_PLACED};
 
 use crate::Slots;
-use crate::search::{is_in, weight};
+use crate::sets::{is_in, weight};
 use choices::{Choice, Numbers};
 use std::alloc::{AllocError, Global};
 
@@ -150,7 +150,7 @@ impl Slots {
     }
 
     /// The first slot behind the bidders of a set.
-    pub(crate) fn start_behind(&self, set: usize) -> u16
+    pub fn start_behind(&self, set: usize) -> u16
         ensures { result ≡ start_behind self.now (holds set) }
     {
         let mut start: u16 = 1;

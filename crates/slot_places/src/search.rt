@@ -1,8 +1,8 @@
 // What bids count in a search.
-ghost use Rattle.std.specs.Prelude.{◌≡◌, ◌+◌, ◌*◌, ◌^◌, ◌≤◌, ◌<◌, length, pos, unsigned_abs, ℤ, neg_ℤ, ◌-ℤ◌, ◌-◌, ◌*ℤ◌};
+ghost use Rattle.std.specs.Prelude.{◌≡◌, ◌+◌, ◌*◌, ◌^◌, ◌≤◌, ◌<◌, length, pos, unsigned_abs, ℤ, neg_ℤ, ◌-ℤ◌, ◌*ℤ◌};
 ghost use Rattle.std.specs.Int.{int_max};
 ghost use Rattle.auction_model.specs.Lowered.{of_bidder};
-ghost use Rattle.limits.specs.declared.TheConstants.{MOST_LOTS, MOST_PLACED};
+ghost use Rattle.limits.specs.declared.TheConstants.{MOST_LOTS};
 ghost use Rattle.slot_places.specs.Slots.{amount_of};
 ghost use Rattle.slot_places.specs.Board.{board_without, start_behind};
 ghost use Rattle.slot_places.specs.SetTable.{holds, StaysInRange};
@@ -58,29 +58,6 @@ impl<'a> Search<'a> {
         ensures { result ≡ start_behind self.now.slots.now (holds set) }
     {
         self.slots.start_behind(set)
-    }
-}
-
-/// Whether a set holds bidder `j`.
-pub fn is_in(set: usize, j: u16) -> bool
-    requires { (0 < j) × (j ≤ MOST_PLACED) }
-    ensures { result ≡ holds set j }
-{
-    (set >> (j - 1)) & 1 == 1
-}
-
-/// What bidder `j` counts in the bits of a set.
-pub fn weight(j: u16) -> usize
-    requires { (0 < j) × (j ≤ MOST_PLACED) }
-    ensures { result ≡ 2 ^ (j - 1) }
-{
-    match j {
-        1 => 1,
-        2 => 2,
-        3 => 4,
-        4 => 8,
-        5 => 16,
-        _ => 32,
     }
 }
 

@@ -8,11 +8,11 @@ use Rattle.auction_model.specs.Book.{Book}
 use Rattle.cert_form.specs.Certificate.{CertValue}
 use Rattle.cert_laws.specs.Tests.{Asks, FailsFirst}
 use Rattle.cert_check.specs.Faults.{FirstFault}
-use Rattle.cert_check.specs.Partway.{HoldsTo}
+use Rattle.cert_check.specs.Partway.{failure_at, HoldsTo, IsJudged}
 use Rattle.stream_check.specs.Rules.{IsFirstBetween, lines_tested}
 
 -- all places hold up to the end of those that were tested
-pub between-holds : (book : Book) (w : ℕ → ℕ) (c : CertValue) (test from to : ℕ) → from ≤ to → HoldsTo book w c test from → IsFirstBetween (Asks book w c test) from to None → HoldsTo book w c test to
+between-holds : (book : Book) (w : ℕ → ℕ) (c : CertValue) (test from to : ℕ) → from ≤ to → HoldsTo book w c test from → IsFirstBetween (Asks book w c test) from to None → HoldsTo book w c test to
 between-holds book w c test from to le before more u q (inl less) = before u q (inl less)
 between-holds book w c test from to le before more u q (inr (same, low)) =
     elim (cases_lt q from) [
@@ -21,11 +21,16 @@ between-holds book w c test from to le before more u q (inr (same, low)) =
     ]
 
 -- the first one that doesn't is what fails first
-pub between-fails : (book : Book) (w : ℕ → ℕ) (c : CertValue) (test from to p : ℕ) → HoldsTo book w c test from → IsFirstBetween (Asks book w c test) from to (Some p) → FailsFirst book w c test p
+between-fails : (book : Book) (w : ℕ → ℕ) (c : CertValue) (test from to p : ℕ) → HoldsTo book w c test from → IsFirstBetween (Asks book w c test) from to (Some p) → FailsFirst book w c test p
 between-fails book w c test from to p before f = record {
   fails = f.2;
   before = between-holds book w c test from p f.0 before f.3;
 }
+
+-- what fails first behind rules that a test asks at the same numbers
+pub between-judged : (book : Book) (w : ℕ → ℕ) (c : CertValue) (test from to : ℕ) (found : Option ℕ) → from ≤ to → HoldsTo book w c test from → IsFirstBetween (Asks book w c test) from to found → IsJudged book w c test to (failure_at test found)
+between-judged book w c test from to None le before f = between-holds book w c test from to le before f
+between-judged book w c test from to (Some place) le before f = between-fails book w c test from to place before f
 
 -- tests that ask the same between these numbers have the same first fault
 pub between-same : (P Q : ℕ → Type 0) (from to : ℕ) (r : Option ℕ) → ((q : ℕ) → q < to → P q → Q q) → ((q : ℕ) → Q q → P q) → IsFirstBetween P from to r → IsFirstBetween Q from to r

@@ -12,7 +12,7 @@ use crate::finding::Finding;
 use crate::moment::Moment;
 use crate::room::{number_in, numbers_in, put_choice};
 use crate::rows::{row_line, rows_line};
-use crate::rules::{of_rules, rules_fault};
+use crate::rules::rules_fault;
 use crate::tables::{behind_entries, is_at_most};
 use cert_check::{
     BIDDER_ROOM, Claim, Failure, Offers, of_test, payments_test, put_gains, sum_paid, with_late,
@@ -102,7 +102,7 @@ fn lowered_failure(at: &Moment, offers: &Offers, k: u16) -> Option<Failure>
     requires offers { AreLowered at.now offers.now }
     ensures { (c : CertValue) → IsAt at.now c → IsJudged at.now.book.now (weight_of at.now.weights.now) c 9 (lines_tested (bidders_of at.now.book.now) k * states at.now.book.now) result }
 {
-    of_rules(9, rules_fault(offers, Table::Lowered, k, at.room))
+    of_test(9, rules_fault(offers, Table::Lowered, k, at.room))
 }
 
 /// What is found early behind line `k` of the lowered table: line 0 has no more for the whole supply than the payments come to.

@@ -93,7 +93,7 @@ fn last_tests(at: &Moment, claim: &Claim) -> Option<Failure>
     requires rows { HasAllRows at.now }
     ensures { (c : CertValue) → IsAt at.now c → HoldsTo at.now.book.now (weight_of at.now.weights.now) c 7 0 → IsJudged at.now.book.now (weight_of at.now.weights.now) c 9 0 result }
 {
-    let _bidders = at.book.bidders();
+    at.book.kept();
     let first = Column {
         numbers: &at.totals.firsts[..at.totals.count],
         sums: &at.totals.first_sums,
@@ -111,7 +111,7 @@ fn nearest(at: &Moment, claim: &Claim) -> Option<u64>
     requires rows { HasAllRows at.now }
     ensures { (c : CertValue) → IsAt at.now c → IsFirstFailing (Asks at.now.book.now (weight_of at.now.weights.now) c 8) result }
 {
-    let _bidders = at.book.bidders();
+    at.book.kept();
     let mut values = [0i128; BIDDER_ROOM];
     put_part_values(at, claim, &mut values);
     let pay = numbers_in(at.book, Due::Payments, at.room);

@@ -1,17 +1,14 @@
 // The rules of a table, two lines at a time.
 ghost use Rattle.std.specs.Prelude.{◌≡◌, ◌≤◌, ◌<◌, ◌+◌, ◌-◌, ◌*◌, ◌^◌, ℕ, suc, Some, None, List, [], length, slice_index_or, ℤ};
-ghost use Rattle.auction_model.specs.Book.{Book};
-ghost use Rattle.cert_form.specs.Certificate.{CertValue};
 ghost use Rattle.cert_form.specs.CertText.{IsTable};
-ghost use Rattle.cert_laws.specs.Tests.{Asks, bidders_of, states};
+ghost use Rattle.cert_laws.specs.Tests.{bidders_of, states};
 ghost use Rattle.cert_check.specs.LineTests.{RulesAt};
-ghost use Rattle.cert_check.specs.Partway.{HoldsTo, IsJudged};
 ghost use Rattle.cert_pieces.specs.Dues.{IsTableOf};
 ghost use Rattle.cert_pieces.specs.Rooms.{room_size, segment};
 ghost use Rattle.stream_check.specs.Rules.{IsFirstBetween, HasTwoLines, lines_tested};
 
 use crate::room::numbers_in;
-use cert_check::{Failure, Offers, last_line_fault, two_lines_fault};
+use cert_check::{Offers, last_line_fault, two_lines_fault};
 use cert_pieces::{Due, Table};
 
 /// The first number of a line and a place in it at which a rule is broken, of those that line `k` makes known: the line before it is
@@ -75,15 +72,5 @@ fn place_of(k: u16, fault: usize, states: usize) -> Option<u64>
         Some((k as usize * states + fault) as u64)
     } else {
         None
-    }
-}
-
-/// What fails first behind such rules, which a test asks at the same numbers.
-pub(crate) fn of_rules(test: u8, fault: Option<u64>) -> Option<Failure>
-    ensures { (book : Book) (w : ℕ → ℕ) (c : CertValue) (from to : ℕ) → from ≤ to → HoldsTo book w c test from → IsFirstBetween (Asks book w c test) from to fault → IsJudged book w c test to result }
-{
-    match fault {
-        Some(place) => Some(Failure { test, place }),
-        None => None,
     }
 }

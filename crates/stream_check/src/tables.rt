@@ -10,9 +10,9 @@ ghost use Rattle.stream_check.specs.Rules.{lines_tested};
 use crate::finding::Finding;
 use crate::moment::Moment;
 use crate::room::{number_in, numbers_in, put_choice};
-use crate::rules::{of_rules, rules_fault};
+use crate::rules::rules_fault;
 use bid_book::BidBook;
-use cert_check::{BIDDER_ROOM, Failure, Offers, behind_table, none_earlier, with_late};
+use cert_check::{BIDDER_ROOM, Failure, Offers, behind_table, none_earlier, of_test, with_late};
 use cert_pieces::{Due, Table};
 
 /// What line `k` of the head's table shows: the third test, as far as it is known then.
@@ -41,7 +41,7 @@ fn head_failure(at: &Moment, offers: &Offers, k: u16) -> Option<Failure>
     requires offers { ArePlain at.now offers.now 0 }
     ensures { (c : CertValue) → IsAt at.now c → IsJudged at.now.book.now (weight_of at.now.weights.now) c 3 (lines_tested (bidders_of at.now.book.now) k * states at.now.book.now) result }
 {
-    of_rules(3, rules_fault(offers, Table::Head, k, at.room))
+    of_test(3, rules_fault(offers, Table::Head, k, at.room))
 }
 
 /// Whether a line of the head's table keeps what is asked behind the rules: line 0 that it has no more than the value for the whole

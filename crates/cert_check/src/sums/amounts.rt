@@ -1,4 +1,4 @@
-// Amounts that the tests compare.
+//! Amounts that the tests compare.
 ghost use Rattle.std.specs.Prelude.{IsTrue, if◌then◌else◌, pos, unsigned_abs, ◌*ℤ◌, ◌<◌, ◌^◌, ◌≡◌, ◌≤ℤ◌, ◌≤◌, ◌↔◌};
 ghost use Rattle.auction_model.specs.Book.{market_of, menu_of};
 ghost use Rattle.auction_model.specs.Market.{worth_in};
@@ -19,11 +19,12 @@ pub(crate) fn won(book: &BidBook, choice: &[u16], j: u16) -> i128
     ensures most { result ≤ℤ pos MOST_AMOUNT }
     ensures kept { IsBidBook book.now }
 {
-    let _bidders = book.bidders();
+    book.kept();
     worth(book, j, choice[j as usize - 1])
 }
 
-pub(crate) fn is_equal(amount: i128, other: i128) -> bool
+/// Whether two amounts are equal.
+pub fn is_equal(amount: i128, other: i128) -> bool
     ensures { IsTrue result ↔ (amount ≡ other) }
 {
     amount == other
@@ -37,14 +38,15 @@ pub(crate) fn times(den: i128, amount: i128) -> i128
     den * amount
 }
 
-pub(crate) fn is_between(low: i128, amount: i128, high: i128) -> bool
+/// Whether an amount is no less than the first and no more than the last.
+pub fn is_between(low: i128, amount: i128, high: i128) -> bool
     ensures { IsTrue result ↔ ((low ≤ℤ amount) × (amount ≤ℤ high)) }
 {
     low <= amount && amount <= high
 }
 
 /// The amount where the test passes, else 0.
-pub(crate) fn counted(passes: bool, amount: i128) -> i128
+pub fn counted(passes: bool, amount: i128) -> i128
     ensures { result ≡ (if passes then amount else pos 0) }
 {
     if passes { amount } else { 0 }

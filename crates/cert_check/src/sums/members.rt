@@ -1,4 +1,4 @@
-// The members of a row.
+//! The members of a row.
 ghost use Rattle.std.specs.Prelude.{IsTrue, length, ℕ, ◌≡◌, ◌↔◌};
 ghost use Rattle.auction_model.specs.Market.{number_of, uses};
 ghost use Rattle.cert_form.specs.CertText.{AreMembers};
@@ -6,7 +6,8 @@ ghost use Rattle.cert_form.specs.Certificate.{is_member};
 
 use crate::judging::number;
 
-pub(crate) fn is_among(members: &[u16], j: u16) -> bool
+/// Whether a bidder is among the members of a row.
+pub fn is_among(members: &[u16], j: u16) -> bool
     ensures { result ≡ is_member members.now j }
 {
     for member in members {
@@ -18,7 +19,7 @@ pub(crate) fn is_among(members: &[u16], j: u16) -> bool
 }
 
 /// Whether the choice uses all members.
-pub(crate) fn uses_all(choice: &[u16], members: &[u16]) -> bool
+pub fn uses_all(choice: &[u16], members: &[u16]) -> bool
     requires { AreMembers (length choice.now) 0 members.now }
     ensures { IsTrue result ↔ ((j : ℕ) → IsTrue (is_member members.now j) → IsTrue (uses choice.now j)) }
 {
@@ -31,7 +32,7 @@ pub(crate) fn uses_all(choice: &[u16], members: &[u16]) -> bool
 }
 
 /// Whether the choice uses no member.
-pub(crate) fn uses_none(choice: &[u16], members: &[u16]) -> bool
+pub fn uses_none(choice: &[u16], members: &[u16]) -> bool
     requires { AreMembers (length choice.now) 0 members.now }
     ensures { IsTrue result ↔ ((j : ℕ) → IsTrue (is_member members.now j) → number_of choice.now j ≡ 0) }
 {

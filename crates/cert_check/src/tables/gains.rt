@@ -32,7 +32,7 @@ pub fn put_gains(claim: &Claim, pay: &[i128], gains: &mut [i128])
     ensures gains { (j : ℕ) → 0 < j → j ≤ bidders_of claim.now.book.now → of_bidder gains.new j ≡ gain_of claim.now.book.now claim.now.den claim.now.choice.now pay.now j }
     ensures small { HasSmallWorths claim.now.book.now claim.now.den gains.new }
 {
-    let _bidders = claim.book.bidders();
+    claim.book.kept();
     put_each(claim.book, claim.den, claim.choice, pay, gains);
 }
 

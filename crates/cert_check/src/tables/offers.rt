@@ -48,7 +48,7 @@ impl<'a> Offers<'a> {
         requires bid { (0 < i) × (i ≤ length (bids_of self.now.book.now j)) }
         ensures { IsTrue result → IsNeedless self.now j i }
     {
-        let _bidders = self.book.bidders();
+        self.book.kept();
         if self.den >= 0 && self.book.better(j, i) != 0 {
             return true;
         }

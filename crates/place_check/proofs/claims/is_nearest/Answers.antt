@@ -6,8 +6,9 @@ use Rattle.cert_form.specs.Certificate.{RowValue}
 use Rattle.cert_form.specs.CertText.{AllInRange}
 use Rattle.cert_check.proofs.PartLaws.{wins-some}
 use Rattle.cert_check.proofs.SumLaws.{in-range}
+use Rattle.cert_check.proofs.TimesLaws.{times-same}
 use Rattle.place_check.proofs.PartLaws.{cert-kept}
-use Rattle.place_check.proofs.PlaceLaws.{above-price, times-same}
+use Rattle.place_check.proofs.PlaceLaws.{above-price}
 use Rattle.place_check.proofs.RowLaws.{holding-same}
 use Rattle.place_check.proofs.Small.{less-same, less-fits}
 use Rattle.place_check.proofs.claims.is_nearest.Goals as goal

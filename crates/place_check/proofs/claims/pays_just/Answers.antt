@@ -6,9 +6,9 @@ use Rattle.auction_model.specs.Lowered.{of_bidder}
 use Rattle.auction_model.specs.Market.{value_of, worth_in}
 use Rattle.auction_model.specs.Prices.{sum_over}
 use Rattle.cert_form.specs.Certificate.{is_member}
+use Rattle.cert_check.proofs.TimesLaws.{times-same}
 use Rattle.slot_places.specs.Board.{market_of}
 use Rattle.place_check.proofs.PartLaws.{cert-kept}
-use Rattle.place_check.proofs.PlaceLaws.{times-same}
 use Rattle.place_check.proofs.Small.{less-same}
 use Rattle.place_check.proofs.claims.pays_just.Goals as goal
 

@@ -4,7 +4,7 @@ use mir.Val.{SFits}
 use mir.Syntax.{w128}
 use Rattle.cert_form.specs.Certificate.{RowValue, is_member, row_of}
 use Rattle.place_cert.specs.Parts.{row_value}
-use Rattle.place_check.specs.Multipliers.{multiplier_of}
+use Rattle.cert_check.specs.Multipliers.{multiplier_of}
 use Rattle.cert_check.proofs.SumLaws.{holding-next, counted-size, counted-same, next-fits, next-is, next-size}
 use Rattle.place_check.proofs.RowLaws.{row-at, multiplier-size}
 use Rattle.place_check.proofs.sums.sum_of.Goals as goal

@@ -12,7 +12,7 @@ entry-behind-requires-clause-place c =
     let n = length c.args.offers.now.slots.now.bidders in
     let width = sets-width (2 ^ n) c.args.table.now c.requires.shape in
     let small = joined-small n c.args.set c.args.j c.requires.set c.requires.bidder.0 c.requires.bidder.1 c.requires.new in
-    omega (arith, width, small, c.weight.ensures.weight)
+    omega (arith, width, small, c.weight.ensures)
 
 pub covers-requires-clause-behind : goal.covers-requires-clause-behind
 covers-requires-clause-behind c =
@@ -27,7 +27,7 @@ returns c =
     let behind_fits : SFits w128 c.entry-behind.result = search rules in
     let entry_fits : SFits w128 c.entry.result = search rules in
     let test = rw (to_z-of_z w128 c.worth.result worth_fits, to_z-of_z w128 c.entry-behind.result behind_fits, to_z-of_z w128 c.entry.result entry_fits) at c.covers.ensures in
-    let behind = c.entry-behind.ensures ∙ ap (λ (n : ℕ). entry_at c.args.table.now 0 (c.args.set + n)) c.weight.ensures.weight in
+    let behind = c.entry-behind.ensures ∙ ap (λ (n : ℕ). entry_at c.args.table.now 0 (c.args.set + n)) c.weight.ensures in
     let worth = c.worth.ensures.worth in
     let own = c.entry.ensures in
     let may = sym c.starts_behind.ensures ∙ c.if-not-starts_behind.false in (

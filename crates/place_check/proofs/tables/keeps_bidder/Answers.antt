@@ -16,7 +16,7 @@ entry-requires-clause-place c =
     let n = length c.args.offers.now.slots.now.bidders in
     let width = sets-width (2 ^ n) c.args.table.now c.requires.shape in
     let small = joined-small n c.args.set c.args.j c.requires.set c.requires.bidder.0 c.requires.bidder.1 (search rules) in
-    omega (arith, width, small, c.weight.ensures.weight)
+    omega (arith, width, small, c.weight.ensures)
 
 pub loop-i-preserved : goal.loop-i-preserved
 loop-i-preserved c =

@@ -2,10 +2,11 @@ use Rattle.std.proofs.Common.{◌≡◌, ◌-◌, ◌*◌, ◌≤◌, length, sy
 use Rattle.auction_model.specs.Book.{Book}
 use Rattle.auction_model.specs.Prices.{weight_of}
 use Rattle.cert_laws.specs.Tests.{bidders_of, states}
+use Rattle.cert_check.specs.Partway.{IsJudged}
 use Rattle.cert_pieces.specs.declared.due.Table.TheVariants.{Lowered}
 use Rattle.cert_pieces.specs.Rooms.{room_size}
 use Rattle.stream_check.specs.Rules.{HasTwoLines, lines_tested}
-use Rattle.stream_check.proofs.RuleLaws.{lines-rise}
+use Rattle.stream_check.proofs.RuleLaws.{between-judged, lines-rise}
 use Rattle.stream_check.proofs.TableCome.{line-inside, lowered-two, lowered-holds, lowered-rules}
 use Rattle.stream_check.proofs.claims.lowered_failure.Goals as goal
 
@@ -16,7 +17,8 @@ returns c = λ cert is.
     let rise = lines-rise (bidders_of at.book.now) c.args.k (states at.book.now) inside in
     let two = subst (λ (b : Book). HasTwoLines b Lowered c.args.k c.args.at.now.room.now cert.lowered) (sym c.requires.offers.book) (lowered-two c.args.at.now cert is c.args.k c.requires.due) in
     let rules = lowered-rules c.args.at.now cert is c.args.k c.requires.due c.args.offers.now c.rules_fault.result c.requires.offers.book c.requires.offers.nobody (c.requires.offers.net cert is) (c.rules_fault.ensures cert.lowered two) in
-    c.of_rules.ensures at.book.now (weight_of at.weights.now) cert ((c.args.k - 1) * states at.book.now) (lines_tested (bidders_of at.book.now) c.args.k * states at.book.now) (omega (arith, rise.0, rise.1)) (lowered-holds c.args.at.now cert is c.args.k c.requires.due) rules
+    subst (IsJudged at.book.now (weight_of at.weights.now) cert 9 (lines_tested (bidders_of at.book.now) c.args.k * states at.book.now)) (sym c.of_test.ensures.failure)
+    (between-judged at.book.now (weight_of at.weights.now) cert 9 ((c.args.k - 1) * states at.book.now) (lines_tested (bidders_of at.book.now) c.args.k * states at.book.now) c.rules_fault.result (omega (arith, rise.0, rise.1)) (lowered-holds c.args.at.now cert is c.args.k c.requires.due) rules)
 
 pub rules_fault-requires-clause-line : goal.rules_fault-requires-clause-line
 rules_fault-requires-clause-line c = subst (λ (b : Book). c.args.k ≤ bidders_of b) (sym c.requires.offers.book) (line-inside c.args.at.now c.requires.some.0 c.requires.some.1 Lowered c.args.k c.requires.due)

@@ -18,4 +18,4 @@ returns c = λ cert next is follows.
     let at = c.args.at.now in
     let first = subst (λ (b : Book). IsFirstFailing (C5 b cert) c.payments_test.result) c.requires.claim.book (c.payments_test.ensures cert (c.requires.claim.each cert is) (sym (c.numbers_in-pay.ensures ∙ pay-own c.args.at.now cert is c.requires.due))) in
     pay-shows c.args.at.now cert is c.requires.due next c.of_test.result follows
-    (c.of_test.ensures at.book.now (weight_of at.weights.now) cert (pay-holds c.args.at.now cert is c.requires.due) (asks-C5 at.book.now (weight_of at.weights.now) cert 5 c.payments_test.result refl first))
+    (c.of_test.ensures.judged at.book.now (weight_of at.weights.now) cert (pay-holds c.args.at.now cert is c.requires.due) (asks-C5 at.book.now (weight_of at.weights.now) cert 5 c.payments_test.result refl first))

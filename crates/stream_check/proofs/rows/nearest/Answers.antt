@@ -25,7 +25,7 @@ pub returns : goal.returns
 returns c = λ cert is.
     let at = c.args.at.now in
     let totals = c.requires.rows.totals cert is in
-    let few = subst (λ (b : Book). bidders_of b ≤ 16) (sym c.requires.claim.book) (omega (arith, c.bidders-bidders.ensures.bidders, c.bidders-bidders.ensures.most)) in
+    let few = subst (λ (b : Book). bidders_of b ≤ 16) (sym c.requires.claim.book) c.kept.ensures.bidders in
     let pay_is = c.numbers_in-pay.ensures ∙ pay-known c.args.at.now cert is c.requires.rows.line in
     let values = subst (λ (b : Book). AreValuesWithout b cert.choice cert.withouts c.put_part_values.new.values) (sym c.requires.claim.book) (c.put_part_values.ensures.values cert is) in
     asks-C8 at.book.now (weight_of at.weights.now) cert 8 c.second_test.result refl
@@ -38,7 +38,7 @@ second_test-requires-clause-values c =
     let is = c.requires.some.1 in
     let of = c.requires.claim.each cert is in
     let values = subst (λ (b : Book). AreValuesWithout b c.args.claim.now.choice.now cert.withouts c.put_part_values.new.values) (sym c.requires.claim.book) (subst (λ (l : List ℕ). AreValuesWithout c.args.at.now.book.now l cert.withouts c.put_part_values.new.values) of.choice_is (c.put_part_values.ensures.values cert is)) in
-    values-range c.args.claim.now (subst IsBidBook (sym c.requires.claim.book) c.bidders-bidders.ensures.kept) cert.withouts c.put_part_values.new.values
+    values-range c.args.claim.now (subst IsBidBook (sym c.requires.claim.book) c.kept.ensures) cert.withouts c.put_part_values.new.values
     (parts-of-claim c.args.at.now cert is (ends-claimed c.args.at.now.due c.requires.rows.line) c.args.claim.now c.requires.claim)
     values
 

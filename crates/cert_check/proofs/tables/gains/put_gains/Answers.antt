@@ -12,7 +12,7 @@ use Rattle.cert_check.proofs.tables.gains.put_gains.Goals as goal
 pub put_each-requires-clause-lower : goal.put_each-requires-clause-lower
 put_each-requires-clause-lower c =
     let den_fits : SFits w128 c.args.claim.now.den = search rules in
-    rw (to_z-of_z w128 c.args.claim.now.den den_fits) (can-lower c.args.claim.now c.args.pay.now c.bidders-bidders.ensures.kept c.requires.pay.0 c.requires.pay.1)
+    rw (to_z-of_z w128 c.args.claim.now.den den_fits) (can-lower c.args.claim.now c.args.pay.now c.kept.ensures c.requires.pay.0 c.requires.pay.1)
 
 pub returns-clause-gains : goal.returns-clause-gains
 returns-clause-gains c =
@@ -25,4 +25,4 @@ returns-clause-small c =
     let gains : (j : ℕ) → 0 < j → j ≤ bidders_of c.args.claim.now.book.now → of_bidder c.put_each.new.gains j ≡ gain_of c.args.claim.now.book.now c.args.claim.now.den c.args.claim.now.choice.now c.args.pay.now j =
     rw (to_z-of_z w128 c.args.claim.now.den den_fits) at c.put_each.ensures.gains in
     lowered-small c.args.claim.now.book.now c.args.claim.now.den c.args.claim.now.choice.now c.args.pay.now c.put_each.new.gains
-    (can-lower c.args.claim.now c.args.pay.now c.bidders-bidders.ensures.kept c.requires.pay.0 c.requires.pay.1) (omega (arith, c.requires.room, c.put_each.ensures.room)) gains
+    (can-lower c.args.claim.now c.args.pay.now c.kept.ensures c.requires.pay.0 c.requires.pay.1) (omega (arith, c.requires.room, c.put_each.ensures.room)) gains

@@ -1,8 +1,8 @@
 use Rattle.std.proofs.Common.{◌≡◌, ◌∙◌, rules, arith}
 use Rattle.std.proofs.lemmas.Int.{to_z-of_z}
 use Rattle.auction_model.specs.Place.{place_of}
+use Rattle.auction_model.proofs.TrimLaws.{trim-place}
 use Rattle.cert_check.proofs.LineLaws.{block-bid}
-use Rattle.cert_check.proofs.Trims.{trim-place}
 use mir.Val.{SFits, to_z, of_z}
 use mir.Syntax.{w128}
 use Rattle.cert_check.proofs.tables.lines.bid_fault.Goals as goal

@@ -12,4 +12,4 @@ returns-then-better-ne0 c = λ _.
     let test = simp to_z-of_z at c.if-self-ge0.true in
     let den : pos 0 ≤ℤ o.den = grind (arith, ints, test) in
     let some : 0 < c.better.result = omega (arith, c.if-better-ne0.true) in
-    needless-better o c.args.j c.args.i c.better.result c.bidders-bidders.ensures.kept c.requires.bid.1 some den (c.better.ensures some)
+    needless-better o c.args.j c.args.i c.better.result c.kept.ensures c.requires.bid.1 some den (c.better.ensures some)

@@ -1,8 +1,0 @@
-use Rattle.std.proofs.Common.{◌≡◌, ◌+◌, cond}
-use Rattle.auction_model.specs.Lowered.{sum_to}
-use Rattle.slot_places.specs.SetTable.{holds}
-use Rattle.slot_places.specs.Slots.{width_of}
-use Rattle.place_check.proofs.sets.start_behind.Given as goal
-
-abbrev pub invariant-loop-k : goal.invariant-loop-k
-invariant-loop-k l = l.start ≡ 1 + sum_to (λ j. cond (holds l.set j) (width_of l.slots j) 0) l.k
