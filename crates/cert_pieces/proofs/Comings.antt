@@ -107,8 +107,8 @@ module _ (b s : ℕ) where
   none_left m (suc i) (suc n ∷ ns) (w ∷ ws) are le =
       behind_next (m + suc i) w ws (omega (arith, are.0.winner)) ∙ ap (λ (k : ℕ). parts_behind k ws) {y = suc m + i} (omega arith) ∙ none_left (suc m) i ns ws are.1 (omega (arith, le))
 
--- a choice's numbers, as those of a line
-number_at : (ns : List ℕ) (i : ℕ) → get_or (as_numbers ns) i (pos 0) ≡ pos (get_or ns i 0)
+-- the number of a bidder in a choice, as one of a line
+pub number_at : (ns : List ℕ) (i : ℕ) → get_or (as_numbers ns) i (pos 0) ≡ pos (get_or ns i 0)
 number_at [] i = refl
 number_at (n ∷ ns) zero = refl
 number_at (n ∷ ns) (suc i) = number_at ns i

@@ -13,12 +13,11 @@ use Rattle.cert_check.specs.declared.failure.Failure.{Failure}
 use Rattle.cert_check.specs.Partway.{HoldsTo, IsJudged}
 use Rattle.cert_check.proofs.PartLaws.{loses-zero, wins-some}
 use Rattle.cert_check.proofs.PartwayLaws.{holds-further, holds-whole}
-use Rattle.stream_check.proofs.NumberLaws.{number-is}
 use Rattle.cert_pieces.specs.declared.due.Due.{Due}
 use Rattle.cert_pieces.specs.declared.due.Due.TheVariants.{Version, Limits, Den, Value, Choice, Title, Entries, Without, PartChoice, Payments, Rows, Members, Multipliers, RowChoice, End, Nothing}
 use Rattle.cert_pieces.specs.declared.due.Table.TheVariants.{Head, Part, Lowered}
 use Rattle.cert_pieces.specs.Order.{IsPartNext, NoneFrom}
-use Rattle.cert_pieces.proofs.Comings.{finds}
+use Rattle.cert_pieces.proofs.Comings.{finds, number_at}
 use Rattle.stream_check.specs.declared.moment.Moment.{Moment}
 use Rattle.stream_check.specs.Lines.{IsAtLine, IsNext}
 use Rattle.stream_check.specs.Moments.{IsAt}
@@ -44,13 +43,13 @@ found-next book w c due next failed late is found = subst (λ (d : Due). IsFound
 -- a bidder whose number is 0 loses
 pub loses : (choice : List ℕ) (j : ℕ) → get_or (as_numbers choice) (j - 1) (pos 0) ≡ pos 0 → IsTrue (uses choice j) → ⊥
 loses choice j none wins =
-    let both : pos (get_or choice (j - 1) 0) ≡ pos 0 = sym (number-is choice (j - 1)) ∙ none in
+    let both : pos (get_or choice (j - 1) 0) ≡ pos 0 = sym (number_at choice (j - 1)) ∙ none in
     let zero_is : get_or choice (j - 1) 0 ≡ 0 = cc in
     loses-zero choice j zero_is wins
 
 -- and another one wins
 wins : (choice : List ℕ) (j : ℕ) → get_or (as_numbers choice) (j - 1) (pos 0) ≢ pos 0 → IsTrue (uses choice j)
-wins choice j some = wins-some choice j (number_of choice j) refl (λ e. some (number-is choice (j - 1) ∙ ap pos e))
+wins choice j some = wins-some choice j (number_of choice j) refl (λ e. some (number_at choice (j - 1) ∙ ap pos e))
 
 -- the part of each winner is for as many bidders as the certificate
 pub part-choice : (b s : ℕ) (c : CertValue) → IsCertificate b s c → (j : ℕ) → 0 < j → j ≤ b → IsTrue (uses c.choice j) → IsChoice b (part_of c.withouts j).choice

@@ -2,16 +2,11 @@
 use Rattle.std.proofs.Common.{◌≡◌, ◌≢◌, ℕ, zero, suc, ◌+◌, ◌<◌, ◌≤◌, List, [], ◌∷◌, length, get_or, set, get_or-set_other, get_or-set_same, below_more, refl, sym, ap, ◌∙◌, arith}
 use Rattle.std.specs.Prelude.{ℤ, pos}
 use Rattle.cert_form.specs.CertText.{AtMost, as_numbers}
-
--- the number of a bidder in a choice, as one of a line
-pub number-is : (ns : List ℕ) (q : ℕ) → get_or (as_numbers ns) q (pos 0) ≡ pos (get_or ns q 0)
-number-is [] q = refl
-number-is (n ∷ ns) zero = refl
-number-is (n ∷ ns) (suc q) = number-is ns q
+use Rattle.cert_pieces.proofs.Comings.{number_at}
 
 -- one of them
 pub number-at : (from : List ℤ) (ns : List ℕ) (k : ℕ) → from ≡ as_numbers ns → get_or from k (pos 0) ≡ pos (get_or ns k 0)
-number-at from ns k is = ap (λ (l : List ℤ). get_or l k (pos 0)) is ∙ number-is ns k
+number-at from ns k is = ap (λ (l : List ℤ). get_or l k (pos 0)) is ∙ number_at ns k
 
 most : (m : ℕ) (ns : List ℕ) (k : ℕ) → AtMost m ns → get_or ns k 0 ≤ m
 most m [] k all = omega arith
