@@ -9,6 +9,7 @@ use Rattle.auction_model.specs.Menu.{Menu, fits_after, without}
 use Rattle.auction_model.specs.Place.{left_at, states_of}
 use Rattle.auction_model.specs.Table.{IsExactTable}
 use Rattle.auction_model.proofs.BoundLaws.{AreCapped, caps_of, lowered-capped, line-sizes}
+use Rattle.auction_model.proofs.ListLaws.{zeros-at}
 use Rattle.auction_model.proofs.PlainLaws.{fits-without_none, sum-plain}
 use Rattle.bid_book.specs.Kept.{IsBidBook}
 use Rattle.cert_form.specs.CertText.{AllInRange, AreTableLines, IsTable}
