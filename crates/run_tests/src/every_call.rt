@@ -433,7 +433,7 @@ fn review_stands_each_fault(rt: HostRuntime) -> Result<(), Fail> {
     puts_fail(&rt, alloc, REVIEW, held, 31)
 }
 
-// What stands after a run whose third file is appended to in bites of 40 bytes, and whose append of this number fails.
+// What stands after a run of `auction` whose book is appended to in bites of 40 bytes, and whose append of this number fails.
 fn leaves_a_front(
     rt: &impl Abort,
     alloc: Global,
@@ -450,6 +450,20 @@ fn leaves_a_front(
     Ok(())
 }
 
+// A clean run of `auction` with such bites makes so many appends, and then the book is whole.
+fn makes_appends(
+    rt: &impl Abort,
+    alloc: Global,
+    held: Held<'_>,
+    appends: u64,
+    book: &str,
+) -> Result<(), Fail> {
+    let clean = run_in_bites(alloc, AUCTION, held, 40, CLEAN)?;
+    assert_eq!(rt; clean.appends, appends);
+    assert!(rt; clean.third.as_deref().unwrap_or(b"") == book.as_bytes());
+    Ok(())
+}
+
 #[test]
 fn a_book_holds_the_bites_before_a_fault(rt: HostRuntime) -> Result<(), Fail> {
     let alloc = rt.alloc();
@@ -460,9 +474,7 @@ fn a_book_holds_the_bites_before_a_fault(rt: HostRuntime) -> Result<(), Fail> {
         second: Some(&log),
         third: None,
     };
-    let clean = run_in_bites(alloc, AUCTION, held, 40, CLEAN)?;
-    assert_eq!(&rt; clean.appends, 3);
-    assert!(&rt; holds(&clean.third, Some(LOWERED_BOOK.as_bytes())));
+    makes_appends(&rt, alloc, held, 3, LOWERED_BOOK)?;
     leaves_a_front(&rt, alloc, held, 3, LOWERED_BOOK_FRONT)
 }
 
