@@ -45,6 +45,7 @@ better-push bids e kept own i d inside some =
     ]
 
 module _ (b : Inside) (book : Book) (is : book_value b ≡ book) (j : ℕ) (known : j ≤ length b.bidders.items) (some : 0 < j) (bidder : BookBidder) (read : bidder ≡ get_or b.bidders.items (j - 1) bidder) where
+  -- the better bid that stands with bid i of bidder j makes it needless in the book
   pub better-at : (i : ℕ) (e : Entry) → BettersAreKept b → NetsAreKept b → 0 < i → i ≤ length bidder.bids.items → e ≡ get_or bidder.bids.items (i - 1) e → 0 < e.better → IsBetter book j i e.better
   better-at i e kept nets p q r more =
       let items = bidder.bids.items in

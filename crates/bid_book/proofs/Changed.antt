@@ -30,12 +30,15 @@ module _ (b : Inside) (j : ℕ) (some : 0 < j) (known : j ≤ length b.bidders.i
   pub own_nets : NetsAreKept b → All (HasNet b.reserves.items) old.bids.items
   own_nets nets = subst (λ (x : BookBidder). All (HasNet b.reserves.items) x.bids.items) (sym read) (nets (j - 1) old (omega arith))
 
+  -- among the bids of that bidder it is right which are better
   pub own_betters : BettersAreKept b → AreBetter old.bids.items
   own_betters betters = subst (λ (x : BookBidder). AreBetter x.bids.items) (sym read) (betters (j - 1) old (omega arith))
 
+  -- the bids of bidder j in the book are those that stood in its fields
   pub own_bids : (book : Book) → book_value b ≡ book → bids_of book j ≡ map bid_value old.bids.items
   own_bids book is = bids-read b book is j known some old read
 
+  -- the packages of that bidder have as many categories as the supply
   pub own_categories : IsBidBook (book_value b) → All (λ (e : Entry). length e.bid.package ≡ length b.supply) old.bids.items
   own_categories kept k d inside =
       let e = get_or old.bids.items k d in
@@ -51,6 +54,7 @@ module _ (b : Inside) (j : ℕ) (some : 0 < j) (known : j ≤ length b.bidders.i
     abbrev pub changed : Inside
     changed = with_fields b (with_item b.bidders (j - 1) (record { name = old.name; bids = bids }))
 
+    -- the book of the changed fields has this bidder in the place of the old one
     pub changed_is : (own : Bidder) → bidder_with old.name (map bid_value bids.items) ≡ own → book_value changed ≡ with_bidders (book_value b) (set (map bidder_value b.bidders.items) (j - 1) own)
     changed_is own is =
         ap (with_bidders (book_value b)) (map-set bidder_value b.bidders.items (j - 1) (record { name = old.name; bids = bids }) ∙ ap (set (map bidder_value b.bidders.items) (j - 1)) is)
@@ -69,14 +73,18 @@ module _ (b : Inside) (j : ℕ) (some : 0 < j) (known : j ≤ length b.bidders.i
         ∙ ap (λ (x : Book). with_bidders x (set x.bidders (j - 1) (bidder_with old.name list))) is
         ∙ ap (λ (x : Bidder). with_bidders book (set book.bidders (j - 1) (bidder_with x.name list))) (sym own)
 
+    -- where the net amounts of the new bids are right, those of the changed fields are
     pub changed_nets : NetsAreKept b → All (HasNet b.reserves.items) bids.items → NetsAreKept changed
     changed_nets nets own = All-set (λ (x : BookBidder). All (HasNet b.reserves.items) x.bids.items) b.bidders.items (j - 1) (record { name = old.name; bids = bids }) own nets
 
+    -- the net amounts stay right where the bids are the same
     pub same_nets : bids.items ≡ old.bids.items → NetsAreKept b → NetsAreKept changed
     same_nets same nets = changed_nets nets (subst (All (HasNet b.reserves.items)) (sym same) (own_nets nets))
 
+    -- where it is right which of the new bids are better, it is so for the changed fields
     pub changed_betters : BettersAreKept b → AreBetter bids.items → BettersAreKept changed
     changed_betters betters own = All-set (λ (x : BookBidder). AreBetter x.bids.items) b.bidders.items (j - 1) (record { name = old.name; bids = bids }) own betters
 
+    -- which bids are better stays right where the bids are the same
     pub same_betters : bids.items ≡ old.bids.items → BettersAreKept b → BettersAreKept changed
     same_betters same betters = changed_betters betters (subst AreBetter (sym same) (own_betters betters))

@@ -10,10 +10,12 @@ use Rattle.book_form.proofs.TextLaws.{numbers-push}
 use Rattle.bid_book.specs.Stops.{AreNumbers, IsField}
 use Rattle.text_lines.proofs.DecimalFields.{one_field, number_own, decimals_stop}
 
+-- what holds of each item by recursion holds at every place of the list
 pub each_all : {X : Type 0} (P : X → Type 0) (xs : List X) → AllByRecursion P xs → All P xs
 each_all P [] all = All-nil P
 each_all P (x ∷ xs) all = All-cons P x xs all.0 (each_all P xs all.1)
 
+-- what holds at every place of the list holds of each item by recursion
 pub all_each : {X : Type 0} (P : X → Type 0) (xs : List X) → All P xs → AllByRecursion P xs
 all_each P [] all = tt
 all_each P (x ∷ xs) all = (All-head P x xs all, all_each P xs (All-tail P x xs all))
@@ -35,6 +37,7 @@ pub record FirstNumber (field more ns : List ℕ) : Type 0 where
   pub field_is : field ≡ decimal number
   pub more_is : more ≡ decimals_text later
 
+-- the first field of a text that spells numbers is the first of them, and what follows spells the others
 pub first_number : (text field more ns : List ℕ) → IsField text field more → text ≡ decimals_text ns → AreNumbers ns → FirstNumber field more ns
 first_number text field more [] is text_is small = let e : 32 ∷ field ++ more ≡ [] = sym is.spelled ∙ text_is in absurd (cc e)
 first_number text field more (n ∷ ns) is text_is small =
@@ -43,6 +46,7 @@ first_number text field more (n ∷ ns) is text_is small =
     let parts = one_field field (decimal n) more (decimals_text ns) is.own (number_own n (omega (arith, small.0))) is.stops (decimals_stop ns) tails in
     record { number = n; later = ns; whole = refl; small = small.0; later_small = small.1; field_is = parts.0; more_is = parts.1 }
 
+-- after a field that spells n, n is read too, and the rest spells the numbers behind it
 pub goes_further : (had rest field more ns : List ℕ) (n : ℕ) → IsField rest field more → field ≡ decimal n → n ≤ 2 ^ 42 → GoesOn had rest ns → GoesOn (had ++ n ∷ []) more ns
 goes_further had rest field more ns n is spelled small on =
     let first = first_number rest field more on.more is on.rest_is on.small in
@@ -61,10 +65,12 @@ spelled_further text had rest field more n spelled is field_is =
     ∙ sym (append_assoc (decimals_text had) (32 ∷ decimal n) more)
     ∙ ap (λ (l : List ℕ). l ++ more) (sym (numbers-push had n))
 
+-- a text that isn't empty and doesn't begin with a space spells no numbers
 pub not_spaced : (rest : List ℕ) (ns : List ℕ) → 0 < length rest → ((behind : List ℕ) → rest ≡ 32 ∷ behind → ⊥) → rest ≡ decimals_text ns → ⊥
 not_spaced rest [] long other is = omega (arith, ap length is)
 not_spaced rest (n ∷ ns) long other is = other (decimal n ++ decimals_text ns) is
 
+-- a field ends where the text that follows begins with a space
 pub space_first : (cs : List ℕ) → 0 < length cs → get_or cs 0 0 ≡ 32 → FieldEnds cs
 space_first [] long is = tt
 space_first (c ∷ cs) long is = is

@@ -13,11 +13,13 @@ listed book = head_lines book ++ bidder_lines 0 book.bidders
 
 -- one more at the end
 
+-- the lines of bids and one more are theirs and the line of that bid
 pub bid_lines-push : (before : ℕ) (bs : List BookBid) (b : BookBid) → bid_lines before (bs ++ b ∷ []) ≡ bid_lines before bs ++ bid_line (before + length bs) b ∷ []
 bid_lines-push before [] b = ap (λ (k : ℕ). bid_line k b ∷ []) (omega arith)
 bid_lines-push before (c ∷ bs) b =
     ap (λ (l : List Line). bid_line before c ∷ l) (bid_lines-push (before + 1) bs b ∙ ap (λ (k : ℕ). bid_lines (before + 1) bs ++ bid_line k b ∷ []) (omega arith))
 
+-- the lines of bidders and one more are theirs, and then the line of that bidder and those of its bids
 pub bidder_lines-push : (before : ℕ) (bs : List Bidder) (b : Bidder)
     → bidder_lines before (bs ++ b ∷ []) ≡ bidder_lines before bs ++ (bidder_line (before + length bs) b.name ∷ bid_lines 0 b.bids)
 bidder_lines-push before [] b = append-nil (bidder_line before b.name ∷ bid_lines 0 b.bids) ∙ ap (λ (k : ℕ). bidder_line k b.name ∷ bid_lines 0 b.bids) (omega arith)
@@ -26,23 +28,28 @@ bidder_lines-push before (c ∷ bs) b =
     ap (λ (l : List Line). own ++ l) (bidder_lines-push (before + 1) bs b ∙ ap (λ (k : ℕ). bidder_lines (before + 1) bs ++ (bidder_line k b.name ∷ bid_lines 0 b.bids)) (omega arith))
     ∙ sym (append_assoc own (bidder_lines (before + 1) bs) (bidder_line (before + suc (length bs)) b.name ∷ bid_lines 0 b.bids))
 
+-- what the last line exceeds, with a bidder at the end, depends on the bids and the number of that bidder
 pub last_excess-push : (before : ℕ) (bs : List Bidder) (b : Bidder) → last_excess before (bs ++ b ∷ []) ≡ bids_excess (before + length bs + 1) b.bids
 last_excess-push before [] b = ap (λ (k : ℕ). bids_excess k b.bids) (omega arith)
 last_excess-push before (c ∷ []) b = ap (λ (k : ℕ). bids_excess k b.bids) (omega arith)
 last_excess-push before (c ∷ d ∷ bs) b = last_excess-push (before + 1) (d ∷ bs) b ∙ ap (λ (k : ℕ). bids_excess k b.bids) (omega arith)
 
+-- with a bid at the end, the last line exceeds what the count of the bids and one exceeds
 pub bids_excess-push : (bidders : ℕ) (bs : List BookBid) (b : BookBid) → bids_excess bidders (bs ++ b ∷ []) ≡ bid_excess (length bs + 1)
 bids_excess-push bidders [] b = refl
 bids_excess-push bidders (c ∷ bs) b = ap bid_excess (omega (arith, length-append bs (b ∷ [])))
 
+-- the package of the last bid, with a bid at the end, is that of this bid
 pub last_lots-push : (before : List ℕ) (bs : List BookBid) (b : BookBid) → last_lots before (bs ++ b ∷ []) ≡ b.lots
 last_lots-push before [] b = refl
 last_lots-push before (c ∷ bs) b = last_lots-push c.lots bs b
 
+-- valid bids and one more that is valid after the last of them are valid bids
 pub bids_push : (supply reserves before : List ℕ) (bs : List BookBid) (b : BookBid) → AreBids supply reserves before bs → IsBid supply reserves (last_lots before bs) b → AreBids supply reserves before (bs ++ b ∷ [])
 bids_push supply reserves before [] b all is = (is, tt)
 bids_push supply reserves before (c ∷ bs) b all is = (all.0, bids_push supply reserves c.lots bs b all.1 is)
 
+-- valid bidders and one more that is valid behind them are valid bidders
 pub bidders_push : (supply reserves : List ℕ) (earlier bs : List Bidder) (b : Bidder) → AreBidders supply reserves earlier bs → IsBidder supply reserves (earlier ++ bs) b → AreBidders supply reserves earlier (bs ++ b ∷ [])
 bidders_push supply reserves earlier [] b all is = (subst (λ (e : List Bidder). IsBidder supply reserves e b) (append-nil earlier) is, tt)
 bidders_push supply reserves earlier (c ∷ bs) b all is =
@@ -57,6 +64,7 @@ bidders_last supply reserves earlier (c ∷ bs) b all =
 
 -- what a line adds
 
+-- a line that adds a bidder to a valid book leaves it valid, and its lines are the old ones and that line
 pub adds_bidder : (old new : Book) (line : List ℕ) → IsBook old → AddsBidder old new line
     → IsBook new × (listed new ≡ listed old ++ (line, last_excess 0 new.bidders) ∷ [])
 adds_bidder old new line valid adds =
@@ -84,6 +92,7 @@ bid_added old front bidder bid last valid is =
           (record { name = parts.1.name; unused = parts.1.unused; bids = bids_push old.supply old.reserves (empty_package old.supply) bidder.bids bid parts.1.bids is });
     }
 
+-- a bid more of the last bidder is one line more at the end, with what it exceeds
 pub bid_behind : (head : List Line) (front : List Bidder) (bidder : Bidder) (bid : BookBid)
     → head ++ bidder_lines 0 (front ++ bidder_with bidder.name (bidder.bids ++ bid ∷ []) ∷ [])
     ≡ (head ++ bidder_lines 0 (front ++ bidder ∷ [])) ++ ((bid_line 0 bid).0, last_excess 0 (front ++ bidder_with bidder.name (bidder.bids ++ bid ∷ []) ∷ [])) ∷ []
@@ -106,6 +115,7 @@ pub record Parts (bidders : List Bidder) : Type 0 where
   pub bidder : Bidder
   pub whole : bidders ≡ front ++ bidder ∷ []
 
+-- where there is a bidder, the list of bidders is a front and a last one
 pub parts_of : (bidders : List Bidder) → 0 < length bidders → Parts bidders
 parts_of bidders some =
     let all : take (length bidders - 1 + 1) bidders ≡ bidders = take_all (length bidders - 1 + 1) bidders (omega arith) in
@@ -114,10 +124,12 @@ parts_of bidders some =
 last_place : (front : List Bidder) (bidder : Bidder) → length front ≡ length (front ++ bidder ∷ []) - 1
 last_place front bidder = omega (arith, length-append front (bidder ∷ []))
 
+-- the bidder whose number is the count of the bidders is the one behind the front
 pub last_of : (book : Book) (front : List Bidder) (bidder : Bidder) → book.bidders ≡ front ++ bidder ∷ [] → bidder_of book (length book.bidders) ≡ bidder
 last_of book front bidder whole =
     ap (λ (bs : List Bidder). get_or bs (length bs - 1) no_bidder) whole ∙ get_or_at front bidder [] no_bidder (length (front ++ bidder ∷ []) - 1) (last_place front bidder)
 
+-- the book with a bid more has the front as before, and the last bidder with that bid
 pub with_last : (book : Book) (front : List Bidder) (bidder : Bidder) (bid : BookBid) → book.bidders ≡ front ++ bidder ∷ []
     → with_bid book bid ≡ with_bidders book (front ++ bidder_with bidder.name (bidder.bids ++ bid ∷ []) ∷ [])
 with_last book front bidder bid whole =
@@ -126,6 +138,7 @@ with_last book front bidder bid whole =
     ∙ ap (λ (bs : List Bidder). with_bidders book (set bs (length bs - 1) (bidder_with bidder.name (bidder.bids ++ bid ∷ [])))) whole
     ∙ ap (with_bidders book) (set_at front bidder [] (bidder_with bidder.name (bidder.bids ++ bid ∷ [])) (length (front ++ bidder ∷ []) - 1) (last_place front bidder))
 
+-- with a line that adds a bid a valid book stays valid, and that line comes behind the old ones
 pub adds_bid : (old new : Book) (line : List ℕ) → IsBook old → AddsBid old new line
     → IsBook new × (listed new ≡ listed old ++ (line, last_excess 0 new.bidders) ∷ [])
 adds_bid old new line valid adds =
@@ -141,6 +154,7 @@ adds_bid old new line valid adds =
     subst (λ (b : Book). IsBook b × (listed b ≡ listed old ++ (line, last_excess 0 b.bidders) ∷ [])) (sym (adds.new_is ∙ with_last old parts.front parts.bidder adds.bid parts.whole))
     (subst (λ (l : List ℕ). IsBook book × (listed book ≡ listed old ++ (l, last_excess 0 book.bidders) ∷ [])) (sym adds.spelled) here)
 
+-- a line that adds anything to a valid book leaves it valid, and comes behind the old lines
 pub adds_one : (old new : Book) (line : List ℕ) → IsBook old → Adds old new line
     → IsBook new × (listed new ≡ listed old ++ (line, last_excess 0 new.bidders) ∷ [])
 adds_one old new line valid adds = ⊎_elim (adds_bidder old new line valid) (adds_bid old new line valid) adds
