@@ -5,6 +5,7 @@ use Rattle.std.proofs.lemmas.List.{append-nil}
 use Rattle.std.specs.Fmt.{decimal}
 use Rattle.text_lines.specs.Decimals.{decimals_text}
 
+-- the text of two lists of numbers in a row is the text of the first and then that of the second
 pub numbers-append : (ms ns : List ℕ) → decimals_text (ms ++ ns) ≡ decimals_text ms ++ decimals_text ns
 numbers-append [] ns = refl
 numbers-append (m ∷ ms) ns = ap (λ (l : List ℕ). 32 ∷ decimal m ++ l) (numbers-append ms ns) ∙ sym (append_assoc (32 ∷ decimal m) (decimals_text ms) (decimals_text ns))
