@@ -15,6 +15,7 @@ one_number m n ms ns sm sn is =
     let parts = one_field (decimal m) (decimal n) (decimals_text ms) (decimals_text ns) (number_own m sm) (number_own n sn) (decimals_stop ms) (decimals_stop ns) tails in
     (decimal_one m n sm sn parts.0, parts.1)
 
+-- numbers below 2 ^ 120 whose fields are the same text are the same
 pub numbers_one : (ms ns : List ℕ) → AreSmall ms → AreSmall ns → decimals_text ms ≡ decimals_text ns → ms ≡ ns
 numbers_one [] [] sm sn is = refl
 numbers_one [] (n ∷ ns) sm sn is = absurd (cc is)

@@ -28,6 +28,7 @@ use Rattle.bid_book.proofs.SupplyLaws.{supply_within}
 
 -- ---- the order of packages
 
+-- of three packages, each before the next, the first comes before the last
 pub comes-trans : (p q r : List ℕ) → ComesBefore p q → ComesBefore q r → ComesBefore p r
 comes-trans [] q r a b = absurd a
 comes-trans (x ∷ p) [] r a b = absurd a
@@ -163,6 +164,7 @@ module _ (book : Book) (j : ℕ) (is : IsBookWithinLimits book) (some : 0 < j) (
   pub book-bids : AreBids book.supply book.reserves (empty_package book.supply) (bids_of book j)
   book-bids = bids-at book.supply book.reserves [] book.bidders (j - 1) no_bidder (omega arith) is.form.bidders
 
+  -- the bids of a bidder are in the order of packages
   pub book-order : InPackageOrder (bids_of book j)
   book-order = bids-order book.supply book.reserves (empty_package book.supply) (bids_of book j) book-bids
 
@@ -237,6 +239,7 @@ entry-holds P lots amount (b ∷ bids) all =
       ]
     ]
 
+-- where a book keeps its rules with a bid put in, that bid keeps them, whatever bids stand before it
 pub put-sound : (book : Book) (j : ℕ) (bid : BookBid) → 0 < j → j ≤ length book.bidders → IsBookWithinLimits (with_put book j bid) → IsSoundBid book.supply book.reserves bid
 put-sound book j bid some known is =
     let new = bidder_with (bidder_of book j).name (with_entry bid.lots bid.amount (bids_of book j)) in

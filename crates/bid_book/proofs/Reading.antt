@@ -182,6 +182,7 @@ one_step s t u l = by_stage s
 one_value : (v w : Book) → finish v ≡ finish w → v ≡ w
 one_value v w is = cc
 
+-- the reader that goes from stage to stage reads the form of books, line by line
 pub reads : Reads IsSound Step excess begin finish IsBook lines
 reads = record {
   complete = complete;

@@ -61,12 +61,14 @@ values-same from to same = sym (values-bare to) ∙ ap (map bid_value) same ∙ 
 
 -- ---- the values of a changed list
 
+-- the values of a list with an element put in are its values with that of the element put in
 pub map-insert : {A B : Type 0} (f : A → B) (xs : List A) (i : ℕ) (x : A) → map f (insert xs i x) ≡ insert (map f xs) i (f x)
 map-insert f xs i x =
     map-append f (take i xs) (x ∷ drop i xs)
     ∙ ap (λ (l : List _). l ++ f x ∷ map f (drop i xs)) (sym (take-map f i xs))
     ∙ ap (λ (l : List _). take i (map f xs) ++ f x ∷ l) (sym (drop-map f i xs))
 
+-- the values of a list with an element taken out are its values with that one taken out
 pub map-remove : {A B : Type 0} (f : A → B) (xs : List A) (i : ℕ) → map f (remove xs i) ≡ remove (map f xs) i
 map-remove f xs i =
     map-append f (take i xs) (drop (suc i) xs)
@@ -76,6 +78,7 @@ map-remove f xs i =
 All-insert : {A : Type 0} (P : A → Type 0) (xs : List A) (i : ℕ) (x : A) → P x → All P xs → All P (insert xs i x)
 All-insert P xs i x own all = All-append P (take i xs) (x ∷ drop i xs) (All-take P i xs all) (All-cons P x (drop i xs) own (All-drop P i xs all))
 
+-- what holds of all elements still does with one taken out
 pub All-remove : {A : Type 0} (P : A → Type 0) (xs : List A) (i : ℕ) → All P xs → All P (remove xs i)
 All-remove P xs i all = All-append P (take i xs) (drop (suc i) xs) (All-take P i xs all) (All-drop P (suc i) xs all)
 

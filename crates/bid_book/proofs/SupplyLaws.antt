@@ -16,10 +16,12 @@ use Rattle.lots.specs.Limits.{IsSupply, categories_stop, zero_stop, lots_stop, s
 use Rattle.bid_book.specs.declared.stop.LineStop.TheVariants.{Limit}
 use Rattle.bid_book.specs.Stops.{line_stop}
 
+-- where one value or else another is none, the one is none
 pub none_first : {O : Type 0} (a b : Option O) → option_or a b ≡ None → a ≡ None
 none_first None b is = refl
 none_first (Some x) b is = absurd (cc)
 
+-- where one value or else another is none, the other is none
 pub none_second : {O : Type 0} (a b : Option O) → option_or a b ≡ None → b ≡ None
 none_second None b is = is
 none_second (Some x) b is = absurd (cc)
@@ -43,6 +45,7 @@ none_exceeds l m t a b c = grind (arith, nat_tests)
 none_stops : (l m t : ℕ) → 0 < l → l ≤ 6 → m ≤ 40 → t ≤ 16384 → stop_of l m t ≡ None
 none_stops l m t some a b c = grind (arith, nat_tests)
 
+-- what keeps the rules of a supply exceeds no limit
 pub supply_within : (supply : List ℕ) → IsSupply supply → supply_excess supply ≡ None
 supply_within supply is = none_exceeds (length supply) (sum supply) (states_of supply) is.categories is.lots is.states
 
@@ -64,6 +67,7 @@ all_there (n ∷ ns) none few =
 zero_tells : (supply : List ℕ) → zero_stop supply ≡ None → length supply ≤ position_or_len (λ n. n == 0) supply
 zero_tells supply none = grind (arith, nat_tests)
 
+-- a supply has a category, and 1 to 999 lots in each
 pub offer_of : (supply : List ℕ) → IsSupply supply → IsOffer supply
 offer_of supply is =
     let zero : zero_stop supply ≡ None = none_first (zero_stop supply) _ (none_second (categories_stop supply) _ is.allowed) in
@@ -72,6 +76,7 @@ offer_of supply is =
 stop_is : (supply : List ℕ) → IsOffer supply → supply_stop supply ≡ stop_of (length supply) (sum supply) (states_of supply)
 stop_is supply offer = ap (λ (z : Option LotStop). option_or (categories_stop supply) (option_or z (option_or (lots_stop supply) (states_stop supply)))) (zero_none supply offer)
 
+-- an offer that exceeds no limit keeps the rules of a supply
 pub supply_kept : (supply : List ℕ) → IsOffer supply → supply_excess supply ≡ None → IsSupply supply
 supply_kept supply offer none =
     let few = few_tests (length supply) (sum supply) (states_of supply) none in
@@ -112,5 +117,6 @@ over l m t stop some stops =
     record { kind = Categories; count = l; exceeds = grind (arith, nat_tests); line = ap line_stop same })
     (leb_tells l 6)
 
+-- where the making of an offer's supply stops, the offer exceeds the limit that its line stops at
 pub supply_over : (supply : List ℕ) (stop : LotStop) → IsOffer supply → supply_stop supply ≡ Some stop → Over (supply_excess supply) stop
 supply_over supply stop offer stops = over (length supply) (sum supply) (states_of supply) stop offer.some (sym (stop_is supply offer) ∙ stops)

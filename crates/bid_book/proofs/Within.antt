@@ -61,11 +61,13 @@ bidders_sound supply reserves earlier (b ∷ bs) before all none few =
       each = (record { few = omega arith; each = bids_sound supply reserves (empty_package supply) b.bids all.0.bids }, rest.each);
     }
 
+-- what holds of each element holds of the one at a place in the list
 pub each_at : {X : Type 0} (P : X → Type 0) (xs : List X) (i : ℕ) (d : X) → AllByRecursion P xs → i < length xs → P (get_or xs i d)
 each_at P [] i d all lt = absurd (omega arith)
 each_at P (x ∷ xs) zero d all lt = all.0
 each_at P (x ∷ xs) (suc i) d all lt = each_at P xs i d all.1 (omega arith)
 
+-- what holds of each element and of the default holds at any place, in the list or past it
 pub each_or : {X : Type 0} (P : X → Type 0) (xs : List X) (i : ℕ) (d : X) → AllByRecursion P xs → P d → P (get_or xs i d)
 each_or P [] i d all is = is
 each_or P (x ∷ xs) zero d all is = all.0
