@@ -13,6 +13,7 @@ use Rattle.auction_rules.specs.BookOfLog.{bid_lots, best_bids}
 use Rattle.auction_rules.proofs.PackageLaws.{is_same-true, is_same-refl}
 use Rattle.auction_rules.proofs.Agree.{Some-injective}
 
+-- the greatest amount for a package over two lists is the greater of those over each
 pub greatest-append : (lots : List ℕ) (xs ys : List BookBid) → greatest lots (xs ++ ys) ≡ max (greatest lots xs) (greatest lots ys)
 greatest-append lots [] ys = omega arith
 greatest-append lots (b ∷ xs) ys = omega (arith, greatest-append lots xs ys)
@@ -47,6 +48,7 @@ among-placed lots x (p ∷ ps) =
       | inr apart ↦ ap (among lots) (cond-false (is_same x p) (p ∷ ps) _ apart) ∙ placed-apart lots x p ps (is_before x p) (among-placed lots x ps)
     ]
 
+-- a package stands among packages put in order exactly where it stands among these packages
 pub among-in_order : (lots : List ℕ) (ps : List (List ℕ)) → among lots (in_order ps) ≡ among lots ps
 among-in_order lots [] = refl
 among-in_order lots (p ∷ ps) = among-placed lots p (in_order ps) ∙ ap (λ (b : Bool). is_same p lots || b) (among-in_order lots ps)
@@ -106,6 +108,7 @@ highest-best_bids rounds list lots =
 cap_by-best_bids : (rounds : List OwnRound) (list : List BookBid) (lots : List ℕ) (r : OwnRound) → cap_by rounds (best_bids (map clock_bid rounds ++ list)) r lots ≡ cap_by rounds list r lots
 cap_by-best_bids rounds list lots r = ap (λ (h : ℕ). h + cost_of r.prices lots - cost_of r.prices r.held) (highest-best_bids rounds list r.held)
 
+-- the cap of a package not held in the final round is the same over the book's bids as over the submitted list
 pub cap_among-best_bids : (final_cap : Bool) (points : List ℕ) (rounds : List OwnRound) (list : List BookBid) (lots : List ℕ)
     → cap_among final_cap points rounds (best_bids (map clock_bid rounds ++ list)) lots ≡ cap_among final_cap points rounds list lots
 cap_among-best_bids true points rounds list lots =
@@ -113,6 +116,7 @@ cap_among-best_bids true points rounds list lots =
     ∙ ap (min (cap_by rounds list (constraining (cost_of points lots) rounds) lots)) (cap_by-best_bids rounds list lots (last_round rounds))
 cap_among-best_bids false points rounds list lots = cap_by-best_bids rounds list lots (constraining (cost_of points lots) rounds)
 
+-- whether a package has a cap, and which, is the same over the book's bids as over the submitted list
 pub cap_of-best_bids : (final_cap : Bool) (points : List ℕ) (rounds : List OwnRound) (list : List BookBid) (lots : List ℕ)
     → cap_of final_cap points rounds (best_bids (map clock_bid rounds ++ list)) lots ≡ cap_of final_cap points rounds list lots
 cap_of-best_bids final_cap points rounds list lots =
@@ -215,6 +219,7 @@ clock_bids-there (r ∷ rounds) list =
           (λ s. cost_of s.prices s.held ≤ greatest s.held (map clock_bid (r ∷ rounds) ++ list)) rounds (λ s h. omega (arith, h)) (clock_bids-there rounds list),
     )
 
+-- the empty package costs nothing at any prices
 pub cost_of-empty : (prices lots : List ℕ) → is_empty lots ≡ true → cost_of prices lots ≡ 0
 cost_of-empty [] lots h = refl
 cost_of-empty (p ∷ prices) [] h = refl
@@ -285,6 +290,7 @@ excess-later : (o : Option ℕ) (entry : ℕ) (later : Option (ℕ × ℕ)) → 
 excess-later None entry later h = h
 excess-later (Some c) entry later h = cc
 
+-- where no entry is above its cap, the greatest amount for a package that has a cap is at most this cap
 pub list-within_cap : (cap_at : List ℕ → Option ℕ) (entry : ℕ) (bids : List BookBid) (lots : List ℕ) (cap : ℕ) → first_excess cap_at entry bids ≡ None → cap_at lots ≡ Some cap → greatest lots bids ≤ cap
 list-within_cap cap_at entry [] lots cap valid h = omega arith
 list-within_cap cap_at entry (b ∷ bids) lots cap valid h =

@@ -24,6 +24,7 @@ InOrder-best_bids bids =
     let some : List (List ℕ) = filter (λ lots. not (is_empty lots)) (map bid_lots bids) in
     subst InOrder (sym (lots-priced (λ lots. greatest lots bids) (in_order some))) (InOrder-in_order some)
 
+-- after any log a bidder's bids in the book are in the order of their packages, each package once
 pub InOrder-bids_in_book : (terms : Terms) (log : List Event) (j : ℕ) → InOrder (map bid_lots (bids_in_book terms log j))
 InOrder-bids_in_book terms log j =
     let s : Standing = standing terms (admitted terms log) j in
@@ -34,6 +35,7 @@ pub bidders-book_of_log : (terms : Terms) (log : List Event) → length (book_of
 unfolding book_of_log
 bidders-book_of_log terms log = length-listing (book_bidder terms (bids_in_book terms log)) (length terms.bidders)
 
+-- bidder j of the award stands in the book of a log at its place, with its name and its bids
 pub bidder-book_of_log : (terms : Terms) (log : List Event) (j : ℕ) → 1 ≤ j → j ≤ length terms.bidders → bidder_of (book_of_log terms log) j ≡ book_bidder terms (bids_in_book terms log) j
 unfolding book_of_log
 bidder-book_of_log terms log zero low high = absurd (omega arith)

@@ -137,11 +137,13 @@ best_bids-greatest bids =
     each-priced (IsGreatestFor bids) (λ lots. greatest lots bids) (in_order (filter (λ lots. not (is_empty lots)) (map bid_lots bids)))
     (each-in_order Q (filter (λ lots. not (is_empty lots)) (map bid_lots bids)) (each-some Q (map bid_lots bids) each))
 
+-- each bid in a log's book is a clock bid or a submitted entry, and none of these is greater for its package
 pub bids_in_book-greatest : (terms : Terms) (log : List Event) (j : ℕ) → AllByRecursion (IsGreatestFor (pairs_of (standing terms (admitted terms log) j))) (bids_in_book terms log j)
 bids_in_book-greatest terms log j = best_bids-greatest (pairs_of (standing terms (admitted terms log) j))
 
 -- ---- no bid is empty, and there are no more than pairs
 
+-- of packages from which the empty ones are taken out, none is empty
 pub some-some : (ps : List (List ℕ)) → AllByRecursion (λ (lots : List ℕ). is_empty lots ≡ false) (filter (λ lots. not (is_empty lots)) ps)
 some-some [] = tt
 some-some (p ∷ ps) =
@@ -150,6 +152,7 @@ some-some (p ∷ ps) =
       | inr some ↦ rw some (some, some-some ps)
     ]
 
+-- no bid in the book of a log is for the empty package
 pub bids_in_book-some : (terms : Terms) (log : List Event) (j : ℕ) → AllByRecursion (λ (b : BookBid). is_empty b.lots ≡ false) (bids_in_book terms log j)
 bids_in_book-some terms log j =
     let bids : List BookBid = pairs_of (standing terms (admitted terms log) j) in
@@ -187,6 +190,7 @@ lots-count : (bids : List BookBid) → length (map bid_lots bids) ≡ length bid
 lots-count [] = refl
 lots-count (b ∷ bids) = omega (arith, lots-count bids)
 
+-- there are no more bids in a book than bids of which it is made
 pub best_bids-few : (bids : List BookBid) → length (best_bids bids) ≤ length bids
 best_bids-few bids =
     let some : List (List ℕ) = filter (λ lots. not (is_empty lots)) (map bid_lots bids) in

@@ -21,6 +21,7 @@ pub sum_of-within : (none : List ℕ) (f g : ℕ → List ℕ) (n : ℕ) → ((j
 sum_of-within none f g zero same = refl
 sum_of-within none f g (suc n) same = rw (sum_of-within none f g n (λ j low high. same j low (omega arith)), same (suc n) (omega arith) (omega arith)) refl
 
+-- what is asked for together of packages listed for bidders 1 to n is the sum of these packages
 pub asked-listing : (terms : Terms) (f : ℕ → List ℕ) (n : ℕ) → asked terms (listing f n) ≡ sum_of (no_lots terms) f n
 asked-listing terms f n =
     ap (λ (m : ℕ). sum_of (no_lots terms) (λ j. slice_index_or (listing f n) (j - 1) []) m) (length-listing f n)

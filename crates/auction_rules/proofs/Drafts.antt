@@ -10,6 +10,7 @@ use Rattle.auction_rules.proofs.PackageLaws.{is_same-true, is_same-refl, is_befo
 use Rattle.auction_rules.specs.Lines.{draft_word, drafted, draft_of, placed, in_order, entry_before, priced, draft_list, submitted_list, is_submit, with_entry, without_entry, drafts_after}
 use Rattle.auction_rules.specs.Replies.{is_of}
 
+-- where p is before q, packages that all come after q all come after p
 pub AllAfter-trans : (p q : List ℕ) (ps : List (List ℕ)) → is_before p q ≡ true → AllAfter q ps → AllAfter p ps
 AllAfter-trans p q [] h after = tt
 AllAfter-trans p q (r ∷ ps) h after = (is_before-trans p q r h after.0, AllAfter-trans p q ps h after.1)
@@ -25,6 +26,7 @@ AllAfter-placed p x (q ∷ ps) h after =
       ]
     ]
 
+-- packages in order stay in order with one more set in its place
 pub InOrder-placed : (x : List ℕ) (ps : List (List ℕ)) → InOrder ps → InOrder (placed x ps)
 InOrder-placed x [] o = (tt, tt)
 InOrder-placed x (q ∷ ps) o =
@@ -36,6 +38,7 @@ InOrder-placed x (q ∷ ps) o =
       ]
     ]
 
+-- packages that are put in order are in order, each once
 pub InOrder-in_order : (ps : List (List ℕ)) → InOrder (in_order ps)
 InOrder-in_order [] = tt
 InOrder-in_order (p ∷ ps) = InOrder-placed p (in_order ps) (InOrder-in_order ps)
@@ -141,12 +144,14 @@ drafted-other j (Drop k lots) h = refl
 drafted-other j (Submit k) h = refl
 drafted-other j Close h = refl
 
+-- a line that isn't bidder j's leaves the draft list of j as it is
 pub draft_list-other : (j : ℕ) (e : Event) (lines : List Event) → is_of j e ≡ false → draft_list j (e ∷ lines) ≡ draft_list j lines
 draft_list-other j e lines h =
     let none : filter_map (drafted j) (e ∷ lines) ≡ filter_map (drafted j) lines = rw (drafted-other j e h) refl in
     ap (λ (ps : List (List ℕ)). priced (draft_of j (e ∷ lines)) (in_order ps)) none
     ∙ priced-same (draft_of j lines) (draft_of j (e ∷ lines)) (in_order (filter_map (drafted j) lines)) (λ q. rw (draft_word-other j e q h) refl)
 
+-- a line that isn't bidder j's leaves the submitted list of j as it is
 pub submitted_list-other : (j : ℕ) (e : Event) (lines : List Event) → is_of j e ≡ false → submitted_list j (e ∷ lines) ≡ submitted_list j lines
 submitted_list-other j (Bid k lots) lines h = refl
 submitted_list-other j (Draft k lots a) lines h = refl
@@ -154,6 +159,7 @@ submitted_list-other j (Drop k lots) lines h = refl
 submitted_list-other j (Submit k) lines h = rw h refl
 submitted_list-other j Close lines h = refl
 
+-- a line of bidder j's changes its draft list as it says: a draft sets an entry, a drop takes one out
 pub draft_list-own : (j : ℕ) (e : Event) (lines : List Event) → is_of j e ≡ true → draft_list j (e ∷ lines) ≡ drafts_after e (draft_list j lines)
 draft_list-own j (Bid k lots) lines h = priced-same (draft_of j lines) (draft_of j (Bid k lots ∷ lines)) (in_order (filter_map (drafted j) lines)) (λ q. refl)
 draft_list-own j (Draft k x a) lines h =
@@ -171,5 +177,6 @@ draft_list-own j (Drop k x) lines h =
 draft_list-own j (Submit k) lines h = priced-same (draft_of j lines) (draft_of j (Submit k ∷ lines)) (in_order (filter_map (drafted j) lines)) (λ q. refl)
 draft_list-own j Close lines h = cc
 
+-- a submission of bidder j's makes its draft list the submitted list, and any other line leaves this list
 pub submitted_list-own : (j : ℕ) (e : Event) (lines : List Event) → submitted_list j (e ∷ lines) ≡ (if is_submit j e then draft_list j lines else submitted_list j lines)
 submitted_list-own j e lines = refl

@@ -6,12 +6,15 @@ use Rattle.auction_rules.specs.Lines.{is_close, bid_by, closes, section, held_in
 use Rattle.auction_rules.specs.Terms.{Terms, no_lots}
 use Rattle.std.specs.Prelude.{filter_map, unwrap_or, nat_eq}
 
+-- a line that is no close leaves the number of closes
 pub closes-line : (e : Event) (lines : List Event) → is_close e ≡ false → closes (e ∷ lines) ≡ closes lines
 closes-line e lines h = rw h refl
 
+-- a line adds nothing to a section other than that in which it stands
 pub section-elsewhere : (r : ℕ) (e : Event) (lines : List Event) → (suc (closes lines) ≡ r → ⊥) → section r (e ∷ lines) ≡ section r lines
 section-elsewhere r e lines ne = rw (ne_eqb (suc (closes lines)) r ne) refl
 
+-- in its own section a line stands as the newest
 pub section-here : (e : Event) (lines : List Event) → section (suc (closes lines)) (e ∷ lines) ≡ e ∷ section (suc (closes lines)) lines
 section-here e lines = rw (eq-eqb (suc (closes lines)) (suc (closes lines)) refl) refl
 

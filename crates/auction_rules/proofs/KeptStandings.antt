@@ -59,6 +59,7 @@ InOrder-submitted_list j (e ∷ lines) =
 
 -- ---- the length of draft lists
 
+-- where p isn't the same as q, q isn't the same as p
 pub not_same-sym : (p q : List ℕ) → is_same p q ≡ false → is_same q p ≡ false
 not_same-sym p q apart =
     elim (cases_Bool (is_same q p)) [
@@ -258,6 +259,7 @@ stopped-closed : (n : ℕ) (final : Option ℕ) → IsFinal n final → is_clock
 stopped-closed n None f over = cc
 stopped-closed n (Some final) (stopped some few) over = some
 
+-- after any log that has stopped the clock a bidder has at least one closed round
 pub rounds-some : (terms : Terms) (log : List Event) (j : ℕ) → is_clock (standing terms (admitted terms log) j).stage ≡ false → 1 ≤ length (standing terms (admitted terms log) j).rounds
 rounds-some terms log j over =
     let lines : List Event = admitted terms log in
@@ -272,6 +274,7 @@ own_rounds-first terms held j n some =
     let more : 0 < n = omega (arith, some, length-own_rounds terms held j n) in
     ap (λ (r : OwnRound). r.eligibility) (get_or-listing (own_round terms held j) n 0 no_round more)
 
+-- after any log with a closed round a bidder's eligibility in round 1 is that of the award
 pub rounds-first : (terms : Terms) (log : List Event) (j : ℕ) → 1 ≤ length (standing terms (admitted terms log) j).rounds
     → (round_at (standing terms (admitted terms log) j).rounds 1).eligibility ≡ (entrant terms j).eligibility
 rounds-first terms log j some =
@@ -280,6 +283,7 @@ rounds-first terms log j some =
 
 -- ---- the lists after a log, and the number of bids in its book
 
+-- after a log in the award's categories a draft list isn't too long, is in order, and has only what may be drafted
 pub AreDrafts-drafts : (terms : Terms) (log : List Event) (j : ℕ) → AllByRecursion (HasCategories terms) log → AreDrafts terms j (standing terms (admitted terms log) j).drafts
 AreDrafts-drafts terms log j same = record {
   few = (IsKept-standing terms j log).drafts;
@@ -287,6 +291,7 @@ AreDrafts-drafts terms log j same = record {
   each = drafts-lawful terms j (admitted terms log) (admitted-lawful terms log same);
 }
 
+-- after a log in the award's categories a submitted list is short enough, in order, and of entries that may be drafted
 pub AreDrafts-submitted : (terms : Terms) (log : List Event) (j : ℕ) → AllByRecursion (HasCategories terms) log → AreDrafts terms j (standing terms (admitted terms log) j).submitted
 AreDrafts-submitted terms log j same = record {
   few = (IsKept-standing terms j log).submitted;
@@ -298,6 +303,7 @@ rounds-count : (rounds : List OwnRound) → length (map clock_bid rounds) ≡ le
 rounds-count [] = refl
 rounds-count (r ∷ rounds) = omega (arith, rounds-count rounds)
 
+-- a bidder has at most 600 bids in the book of a log
 pub bids_in_book-few : (terms : Terms) (log : List Event) (j : ℕ) → length (bids_in_book terms log j) ≤ 600
 bids_in_book-few terms log j =
     let s : Standing = standing terms (admitted terms log) j in

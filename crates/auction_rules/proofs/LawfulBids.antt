@@ -62,6 +62,7 @@ pub record DraftOk (over : Option ℕ) (short empty low full above : Bool) : Typ
   pub room : full ≡ false
   pub top_kept : above ≡ false
 
+-- a draft gets Ok only with no category over, enough points, some lot, its reserve reached, room, and the top kept
 pub draft-ok : (out strange : Bool) (over : Option ℕ) (rule : Option (ℕ × ℕ)) (short : Bool) (e : ℕ) (empty low : Bool) (r : ℕ) (below : Bool) (c : ℕ) (full above : Bool) (t : ℕ)
     → is_ok_reply (first_reply (when out reply.Stage ∷ when strange reply.Unknown ∷ supply_reply over ∷ spectrum_reply rule ∷ when short (reply.Points e) ∷ when empty reply.Empty
     ∷ when low (reply.BelowReserve r) ∷ when below (reply.BelowClock c) ∷ when full (reply.Full 300) ∷ when above (reply.AmountTop t) ∷ [])) ≡ true
@@ -129,6 +130,7 @@ line-lawful terms lines e ok same =
           (ap is_ok_reply (sym (cond-false (is_close e) (close_reply terms (held_in terms lines) (closes lines)) (own_reply terms (line_bidder e) (standing terms lines (line_bidder e)) e) other)) ∙ ok) same
     ]
 
+-- where the packages of a log have the award's number of categories, each admitted line is lawful
 pub admitted-lawful : (terms : Terms) (log : List Event) → AllByRecursion (HasCategories terms) log → AllByRecursion (IsLawfulLine terms) (admitted terms log)
 admitted-lawful terms [] same = tt
 admitted-lawful terms (e ∷ log) same =
@@ -194,6 +196,7 @@ drafts_after-lawful terms j (Drop k x) list mine new old = without_entry-each (I
 drafts_after-lawful terms j (Submit k) list mine new old = old
 drafts_after-lawful terms j Close list mine new old = old
 
+-- after lawful lines each entry of a bidder's draft list is one that it may draft
 pub drafts-lawful : (terms : Terms) (j : ℕ) (lines : List Event) → AllByRecursion (IsLawfulLine terms) lines → AllByRecursion (IsDraft terms j) (draft_list j lines)
 drafts-lawful terms j [] lawful = tt
 drafts-lawful terms j (e ∷ lines) lawful =
@@ -203,6 +206,7 @@ drafts-lawful terms j (e ∷ lines) lawful =
       | inr theirs ↦ subst (AllByRecursion (IsDraft terms j)) (sym (draft_list-other j e lines theirs)) before
     ]
 
+-- after lawful lines each entry of a bidder's submitted list is one that it may draft
 pub submitted-lawful : (terms : Terms) (j : ℕ) (lines : List Event) → AllByRecursion (IsLawfulLine terms) lines → AllByRecursion (IsDraft terms j) (submitted_list j lines)
 submitted-lawful terms j [] lawful = tt
 submitted-lawful terms j (e ∷ lines) lawful =
@@ -345,6 +349,7 @@ greatest-lawful terms all (b ∷ bids) whole lawful up =
       greatest-lawful terms all bids whole lawful.1 (λ lots. omega (arith, up lots)),
     )
 
+-- what holds of each of the packages holds of each of them that isn't empty
 pub each-some : (Q : List ℕ → Type 0) (ps : List (List ℕ)) → AllByRecursion Q ps → AllByRecursion Q (filter (λ lots. not (is_empty lots)) ps)
 each-some Q [] each = tt
 each-some Q (p ∷ ps) each =
@@ -364,10 +369,12 @@ each-placed Q x (p ∷ ps) new each =
       ]
     ]
 
+-- what holds of each of the packages holds of each of them once they are put in order
 pub each-in_order : (Q : List ℕ → Type 0) (ps : List (List ℕ)) → AllByRecursion Q ps → AllByRecursion Q (in_order ps)
 each-in_order Q [] each = tt
 each-in_order Q (p ∷ ps) each = each-placed Q p (in_order ps) each.0 (each-in_order Q ps each.1)
 
+-- what holds of each package with its amount holds of each bid of the priced packages
 pub each-priced : (P : BookBid → Type 0) (amount : List ℕ → ℕ) (ps : List (List ℕ)) → AllByRecursion (λ (lots : List ℕ). P (record { lots = lots; amount = amount lots })) ps
     → AllByRecursion P (priced (λ lots. Some (amount lots)) ps)
 each-priced P amount [] each = tt

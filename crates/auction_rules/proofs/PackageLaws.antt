@@ -5,6 +5,7 @@ use Rattle.std.proofs.lemmas.Bool.{cases_Bool, eqb-true, eq-eqb, ne_eqb, ltb-tru
 use Rattle.auction_model.specs.Package.{is_within, ComesBefore}
 use Rattle.auction_rules.specs.PackageTests.{first_over, is_same, is_before}
 
+-- packages that the test takes for the same are equal
 pub is_same-true : (p q : List ℕ) → is_same p q ≡ true → p ≡ q
 is_same-true [] [] h = refl
 is_same-true [] (b ∷ q) h = cc
@@ -13,10 +14,12 @@ is_same-true (a ∷ p) (b ∷ q) h =
     let both : ((a == b) ≡ true) × (is_same p q ≡ true) = and_parts (a == b) (is_same p q) h in
     rw (eqb-true a b both.0, is_same-true p q both.1) refl
 
+-- a package is the same as itself
 pub is_same-refl : (p : List ℕ) → is_same p p ≡ true
 is_same-refl [] = refl
 is_same-refl (a ∷ p) = and_from (a == a) (is_same p p) (eq-eqb a a refl) (is_same-refl p)
 
+-- a package that is before another isn't the same as it
 pub is_before-not_same : (p q : List ℕ) → is_before p q ≡ true → is_same p q ≡ false
 is_before-not_same [] [] h = cc
 is_before-not_same [] (b ∷ q) h = refl
@@ -27,6 +30,7 @@ is_before-not_same (a ∷ p) (b ∷ q) h =
       | inr later ↦ let both : ((a == b) ≡ true) × (is_before p q ≡ true) = and_parts (a == b) (is_before p q) later in rw (both.0, is_before-not_same p q both.1) refl
     ]
 
+-- a package before one that is before a third is before the third
 pub is_before-trans : (p q r : List ℕ) → is_before p q ≡ true → is_before q r ≡ true → is_before p r ≡ true
 is_before-trans [] [] r h k = cc
 is_before-trans [] (b ∷ q) [] h k = cc
@@ -51,6 +55,7 @@ is_before-trans (a ∷ p) (b ∷ q) (c ∷ r) h k =
           ]
     ]
 
+-- of two packages that aren't the same, where the first isn't before the second, the second is before the first
 pub is_before-total : (p q : List ℕ) → is_same p q ≡ false → is_before p q ≡ false → is_before q p ≡ true
 is_before-total [] [] h k = cc
 is_before-total [] (b ∷ q) h k = cc
@@ -81,6 +86,7 @@ is_before-comes (a ∷ p) (b ∷ q) same h =
           inr (eqb-true a b both.0, is_before-comes p q (omega arith) both.1)
     ]
 
+-- a package that comes before another in the order of packages passes the test of order
 pub comes-is_before : (p q : List ℕ) → ComesBefore p q → is_before p q ≡ true
 comes-is_before [] q comes = absurd comes
 comes-is_before (a ∷ p) [] comes = absurd comes
@@ -97,6 +103,7 @@ within-first_over category (a ∷ lots) (b ∷ supply) h =
     let both : (nat_le a b ≡ true) × (is_within lots supply ≡ true) = and_parts (nat_le a b) (is_within lots supply) h in
     rw both.0 (within-first_over (suc category) lots supply both.1)
 
+-- a package of which no category is over is within the supply
 pub first_over-within : (category : ℕ) (lots supply : List ℕ) → first_over category lots supply ≡ None → is_within lots supply ≡ true
 first_over-within category [] supply h = refl
 first_over-within category (a ∷ lots) [] h =

@@ -39,6 +39,7 @@ cost_of-raised_prices tick thresholds (p ∷ prices) (n ∷ d) (s ∷ supply) (a
           rw over (omega (arith, up, cost_of-raised_prices tick thresholds prices d supply lots))
     ]
 
+-- after one more round the price of a package is at least what it was
 pub prices_after-rises : (terms : Terms) (held : ℕ → ℕ → List ℕ) (n : ℕ) (lots : List ℕ) → cost_of (prices_after terms held n) lots ≤ cost_of (prices_after terms held (suc n)) lots
 prices_after-rises terms held n lots = cost_of-raised_prices terms.tick terms.thresholds (prices_after terms held n) (demand terms held (suc n)) terms.supply lots
 
@@ -55,6 +56,7 @@ AllRiseTo-append : (rounds : List OwnRound) (r q : OwnRound) → AllRiseTo round
 AllRiseTo-append [] r q all last = (last, tt)
 AllRiseTo-append (s ∷ rounds) r q all last = (all.0, AllRiseTo-append rounds r q all.1 last)
 
+-- rising rounds stay rising with one more at the end to which each of them rises
 pub AreRising-append : (rounds : List OwnRound) (q : OwnRound) → AreRising rounds → AllRiseTo rounds q → AreRising (rounds ++ q ∷ [])
 AreRising-append [] q rising all = (tt, tt)
 AreRising-append (r ∷ rounds) q rising all = (RisesToEach-append r rounds q rising.0 all.0, AreRising-append rounds q rising.1 all.1)
@@ -67,6 +69,7 @@ own_rounds-rise terms held j (suc n) q up =
     let last : (lots : List ℕ) → cost_of (prices_after terms held (suc n - 1)) lots ≤ cost_of q.prices lots = λ lots. rw e (step lots) in
     AllRiseTo-append (own_rounds terms held j n) (own_round terms held j (suc n)) q (own_rounds-rise terms held j n q step) (rises last)
 
+-- the first n rounds of a bidder are rising, whatever is held
 pub AreRising-own_rounds : (terms : Terms) (held : ℕ → ℕ → List ℕ) (j n : ℕ) → AreRising (own_rounds terms held j n)
 AreRising-own_rounds terms held j zero = tt
 AreRising-own_rounds terms held j (suc n) =
@@ -74,6 +77,7 @@ AreRising-own_rounds terms held j (suc n) =
     let last : (lots : List ℕ) → cost_of (prices_after terms held n) lots ≤ cost_of (prices_after terms held (suc n - 1)) lots = λ lots. rw e (omega arith) in
     AreRising-append (own_rounds terms held j n) (own_round terms held j (suc n)) (AreRising-own_rounds terms held j n) (own_rounds-rise terms held j n (own_round terms held j (suc n)) last)
 
+-- rounds in which the bidder is eligible for what it holds stay such with one more that is so
 pub AreEligible-append : (points : List ℕ) (rounds : List OwnRound) (q : OwnRound) → AreEligible points rounds → cost_of points q.held ≤ q.eligibility → AreEligible points (rounds ++ q ∷ [])
 AreEligible-append points [] q all last = (last, tt)
 AreEligible-append points (r ∷ rounds) q all last = (all.0, AreEligible-append points rounds q all.1 last)
@@ -113,6 +117,7 @@ sealed-no_clock Clock h k = cc
 sealed-no_clock Sealed h k = cc
 sealed-no_clock Closed h k = cc
 
+-- a stage that a close has stopped isn't the clock
 pub stopped-no_clock : (stage : Stage) → is_clock (stage_stopped stage) ≡ true → ⊥
 stopped-no_clock Clock h = cc
 stopped-no_clock Sealed h = cc

@@ -35,6 +35,7 @@ pub data IsFinal (n : ℕ) : Option ℕ → Type 0 where
   running : IsFinal n None
   stopped : {final : ℕ} → 0 < final → final ≤ n → IsFinal n (Some final)
 
+-- after n closes there is no final round, or it is one of the rounds 1 to n
 pub IsFinal-final_round : (terms : Terms) (held : ℕ → ℕ → List ℕ) (n : ℕ) (final : Option ℕ) → final_round terms held n ≡ final → IsFinal n final
 IsFinal-final_round terms held n None h = running
 IsFinal-final_round terms held n (Some final) h = let b : (0 < final) × (final ≤ n) = final_round-bounds terms n held final h in stopped b.0 b.1
@@ -189,6 +190,7 @@ closed-standing terms held n j drafts submitted None h f later =
 closed-standing terms held n j drafts submitted (Some final) h (stopped some few) later =
     let now : final_round terms held (suc n) ≡ Some final = rw h refl in subst (ClosesTo terms held n j drafts submitted (Some final)) (sym now) (has_stopped terms held n j drafts submitted final few)
 
+-- one more close makes of a bidder's standing what an admitted close with the prices posted makes of it
 pub standing-close : (terms : Terms) (j : ℕ) (lines : List Event) → standing terms (Close ∷ lines) j ≡ after_close terms (standing terms lines j) (posted terms lines)
 standing-close terms j lines =
     let final : Option ℕ = final_round terms (held_in terms lines) (closes lines) in

@@ -82,6 +82,7 @@ reply_in-state_after terms lines e =
           ∙ sym (cond-false (is_close e) (close_reply terms (held_in terms lines) (closes lines)) (own_reply terms (line_bidder e) (standing terms lines (line_bidder e)) e) other)
     ]
 
+-- a choice between a package and itself is this package
 pub same_either : (b : Bool) (x : List ℕ) → (if b then x else x) ≡ x
 same_either true x = refl
 same_either false x = refl
@@ -167,6 +168,7 @@ state_with-state_of terms log e =
           ∙ ap (state_after terms) (sym (with_line-refused terms lines e refused))
     ]
 
+-- from the state of a log a line gets the reply that the rules give after the log
 pub reply_in-state_of : (terms : Terms) (log : List Event) (e : Event) → reply_in (state_of terms log) e ≡ reply_to terms log e
 unfolding state_of reply_to
 reply_in-state_of terms log e = reply_in-state_after terms (admitted terms log) e

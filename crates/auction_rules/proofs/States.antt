@@ -16,10 +16,12 @@ use Rattle.auction_rules.proofs.Standings.{IsFinal, stopped, IsFinal-final_round
 use Rattle.auction_rules.proofs.Views.{is_of-parts}
 use Rattle.auction_rules.specs.State.{Round, DeskState, round_of, state_after, own_of, standing_in}
 
+-- a listing of what f gives at 1 to n has length n
 pub length-listing : {A : Type 0} (f : ℕ → A) (n : ℕ) → length (listing f n) ≡ n
 length-listing f zero = refl
 length-listing f (suc n) = omega (arith, length-append (listing f n) (f (suc n) ∷ []), length-listing f n)
 
+-- at place k, counted from 0, a listing longer than k has what f gives at k + 1
 pub get_or-listing : {A : Type 0} (f : ℕ → A) (n k : ℕ) (d : A) → k < n → get_or (listing f n) k d ≡ f (suc k)
 get_or-listing f zero k d h = absurd (omega arith)
 get_or-listing f (suc n) k d h =
@@ -30,6 +32,7 @@ get_or-listing f (suc n) k d h =
           get_or_append_left (listing f n) (f (suc n) ∷ []) d k less ∙ get_or-listing f n k d (omega arith)
     ]
 
+-- functions that give the same at each of 1 to n have the same listing
 pub listing-same : {A : Type 0} (f g : ℕ → A) (n : ℕ) → ((j : ℕ) → 1 ≤ j → j ≤ n → f j ≡ g j) → listing f n ≡ listing g n
 listing-same f g zero same = refl
 listing-same f g (suc n) same = rw (listing-same f g n (λ j low high. same j low (omega arith)), same (suc n) (omega arith) (omega arith)) refl
@@ -49,6 +52,7 @@ listing-set f g (suc n) k h others =
           ∙ sym (set-append_left (listing g n) (g (suc n) ∷ []) k (f (suc k)) less)
     ]
 
+-- the entry of bidder k + 1 in a listing for more than k bidders is what f gives at k + 1
 pub at-bidder : {A : Type 0} (f : ℕ → A) (n k : ℕ) (d : A) → k < n → get_or (listing f n) (suc k - 1) d ≡ f (suc k)
 at-bidder f n k d h = let e : suc k - 1 ≡ k = omega arith in ap (λ (i : ℕ). get_or (listing f n) i d) e ∙ get_or-listing f n k d h
 
@@ -123,6 +127,7 @@ rounds-line terms e lines c =
 abbrev pub same_states : DeskState → DeskState → Type 0
 same_states s t = s ≡ t
 
+-- states of the same terms are the same where each of their other parts is
 pub state-parts : (terms : Terms) (stage stage' : Stage) (rounds rounds' : List Round) (prices prices' eligibility eligibility' : List ℕ) (held held' : List (List ℕ)) (drafts drafts' submitted submitted' : List (List BookBid))
     → stage ≡ stage' → rounds ≡ rounds' → prices ≡ prices' → eligibility ≡ eligibility' → held ≡ held' → drafts ≡ drafts' → submitted ≡ submitted'
     → same_states (record { terms = terms; stage = stage; rounds = rounds; prices = prices; eligibility = eligibility; held = held; drafts = drafts; submitted = submitted })

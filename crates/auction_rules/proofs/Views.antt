@@ -28,6 +28,7 @@ replies_seen terms j [] = []
 replies_seen terms j (own e ∷ before) = own_reply terms j (standing_seen terms j before) e ∷ replies_seen terms j before
 replies_seen terms j (closing r prices ∷ before) = replies_seen terms j before
 
+-- a line that the test takes for a close is one
 pub is_close-true : (e : Event) → is_close e ≡ true → e ≡ Close
 is_close-true Close h = refl
 is_close-true (Bid k lots) h = cc
@@ -53,6 +54,7 @@ pub data LineOf (j : ℕ) (e : Event) : Type 0 where
   an_own : is_of j e ≡ true → LineOf j e
   another : is_close e ≡ false → is_of j e ≡ false → LineOf j e
 
+-- each line is a close, a line of bidder j, or neither of these
 pub cases_line : (j : ℕ) (e : Event) → LineOf j e
 cases_line j e =
     elim (cases_Bool (is_close e)) [
@@ -64,6 +66,7 @@ cases_line j e =
 pub with_line-ok : (terms : Terms) (lines : List Event) (e : Event) → is_ok_reply (reply_after terms lines e) ≡ true → with_line terms lines e ≡ e ∷ lines
 with_line-ok terms lines e h = cond-true (is_ok_reply (reply_after terms lines e)) (e ∷ lines) lines h
 
+-- a line that isn't answered by Ok adds nothing to the admitted lines
 pub with_line-refused : (terms : Terms) (lines : List Event) (e : Event) → is_ok_reply (reply_after terms lines e) ≡ false → with_line terms lines e ≡ lines
 with_line-refused terms lines e h = cond-false (is_ok_reply (reply_after terms lines e)) (e ∷ lines) lines h
 
@@ -163,8 +166,10 @@ reply_to-same_view terms j e log other mine same =
     ∙ ap (λ (s : Standing). own_reply terms j s e) (standing-view terms j log ∙ ap (standing_seen terms j) same ∙ sym (standing-view terms j other))
     ∙ sym (reply_after-own terms (admitted terms other) j e mine)
 
+-- where bidder j has the same view of two logs, its lines got the same replies in both
 pub own_replies-same_view : (terms : Terms) (j : ℕ) (log other : List Event) → view terms j log ≡ view terms j other → own_replies terms j log ≡ own_replies terms j other
 own_replies-same_view terms j log other same = own_replies-view terms j log ∙ ap (replies_seen terms j) same ∙ sym (own_replies-view terms j other)
 
+-- where bidder j has the same view of two logs, it has the same bids in their books
 pub bids_in_book-same_view : (terms : Terms) (j : ℕ) (log other : List Event) → view terms j log ≡ view terms j other → bids_in_book terms log j ≡ bids_in_book terms other j
 bids_in_book-same_view terms j log other same = ap book_bids (standing-view terms j log ∙ ap (standing_seen terms j) same ∙ sym (standing-view terms j other))
