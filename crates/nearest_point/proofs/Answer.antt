@@ -20,6 +20,7 @@ pub record Answer (m r : ℕ) (a : ℕ → ℕ → ℤ) (b target weight : ℕ �
   pub seconds : AreSecond m r a b den point first second target weight
   pub few : pairs_used r first second ≤ m
 
+-- a point right at one large t, with no row forced, gives its near part and multipliers by row as an answer
 pub answer : (m r : ℕ) (a : ℕ → ℕ → ℤ) (b target weight : ℕ → ℤ) → ((j : ℕ) → j < m → pos 0 <ℤ weight j) → ((i j : ℕ) → pos 0 ≤ℤ a i j)
     → ((j : ℕ) → j < m → (k : ℕ) × (k < r) × (pos 0 ≤ℤ b k) × ((y : ℕ → ℤ) → dot m (a k) y ≡ y j))
     → (t : ℤ) → pos 0 <ℤ t → (rows : List ℕ) (den : ℤ) (pf pn lf ln : ℕ → ℤ)
@@ -75,6 +76,7 @@ pairs_same zero f g f' g' e d = refl
 pairs_same (suc r) f g f' g' e d = let p = pairs_same r f g f' g' (λ i lt. e i (omega arith)) (λ i lt. d i (omega arith)) in
     rw (p, e r (omega arith), d r (omega arith)) refl
 
+-- an answer stays one with multipliers that are the same at each row
 pub answer_same : (m r : ℕ) (a : ℕ → ℕ → ℤ) (b target weight : ℕ → ℤ) (den : ℤ) (point first second first' second' : ℕ → ℤ)
     → ((i : ℕ) → i < r → first' i ≡ first i) → ((i : ℕ) → i < r → second' i ≡ second i)
     → Answer m r a b target weight den point first second → Answer m r a b target weight den point first' second'

@@ -10,6 +10,7 @@ use Rattle.wide_num.proofs.Sums.{total-zero}
 use Rattle.point_laws.proofs.Sums.{term-le}
 use Rattle.nearest_point.proofs.Places.{lt_or}
 
+-- no coefficient of a set of members is negative
 pub holds_nonneg : (n j : ℕ) → pos 0 ≤ℤ holds n j
 holds_nonneg n j = omega (arith, ints)
 

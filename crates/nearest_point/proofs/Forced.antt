@@ -11,6 +11,7 @@ use Rattle.wide_num.proofs.Sums.{total-same, total-zero, total-scale}
 use Rattle.point_laws.proofs.Sums.{total-sub, total-nonneg, total-le, term-le, dual}
 use Rattle.point_laws.proofs.PointLaws.{gap_of, dot-gap, times_zero}
 
+-- a number is 0 where its square times a positive weight is at most 0
 pub nothing_left : (w u : ℤ) → pos 0 <ℤ w → (w *ℤ (u *ℤ u)) ≤ℤ pos 0 → u ≡ pos 0
 nothing_left w u p h =
     elim (zero_or u) [ inl e ↦ e | inr n ↦ absurd (let k = mul_positive w (u *ℤ u) p (square_positive u n) in omega (arith, ints)) ]
@@ -79,6 +80,7 @@ nonpos_product a b h k =
     let f : a *ℤ (pos 0 -ℤ b) ≡ pos 0 -ℤ a *ℤ b = ring (a ∷ b ∷ []) (mul (var 0) (sub (con (pos 0)) (var 1))) (sub (con (pos 0)) (mul (var 0) (var 1))) refl in
     omega (arith, ints)
 
+-- a place is before another, the same, or after it
 pub cases_at : (i k : ℕ) → (i < k) ⊎ ((i ≡ k) ⊎ (k < i))
 cases_at zero zero = inr (inl refl)
 cases_at zero (suc k) = inl (omega arith)

@@ -4,6 +4,7 @@ use Rattle.std.specs.Prelude.{ℤ}
 use Rattle.std.proofs.lemmas.Nat.{div-mul-add, mod-mul-add, mul-add-lt}
 use Rattle.wide_num.specs.Sums.{nth}
 
+-- what holds of each listed number at its line and column holds at line i and column k of the square
 pub entry_at : (n place : ℕ) (xs : List ℤ) (P : ℕ → ℕ → ℤ → Type 0) → ((p : ℕ) → p < place → P (p / n) (p % n) (nth xs p)) → n * n ≤ place
     → (i k : ℕ) → i < n → k < n → P i k (nth xs (i * n + k))
 entry_at n place xs P all le i k li lk =

@@ -50,6 +50,7 @@ some_of (suc k) s t h = more (some_of k s t (λ j lt. h j (omega arith))) (h k (
     more p e (inl f) = let a = p.0 in let b = p.1 in (omega (arith, ints), omega (arith, ints))
     more p e (inr f) = let a = p.0 in let b = p.1 in (omega (arith, ints), omega (arith, ints))
 
+-- no target is above 2^46 in size
 pub target_small : (target : List ℤ) → AreTargets target → (j : ℕ) → j < length target → unsigned_abs (nth target j) ≤ 2 ^ 46
 target_small target h j lt =
     let a = term-le (length target) (nth target) h.not_negative j lt in
@@ -87,6 +88,7 @@ product_small d a p q h =
     let m = mul-le (unsigned_abs d) (unsigned_abs a) (320 ^ 4) (2 ^ 46) l h in
     omega (arith, e, m)
 
+-- a weight of at most 20 times a sum of at most 6 * 2^106 is at most 120 * 2^106 in size
 pub weighed_small : (w : ℕ) (m : ℤ) → w ≤ 20 → unsigned_abs m ≤ 6 * 2 ^ 106 → unsigned_abs (pos w *ℤ m) ≤ 120 * 2 ^ 106
 weighed_small w m h k =
     let e = unsigned_abs-mul (pos w) m in
@@ -96,6 +98,7 @@ weighed_small w m h k =
 sum_small : (x m : ℤ) → unsigned_abs x ≤ 320 ^ 4 * 2 ^ 46 → unsigned_abs m ≤ 120 * 2 ^ 106 → unsigned_abs (x +ℤ m) < 2 ^ 113
 sum_small x m p q = omega (arith, ints)
 
+-- the denominator times a target, moved by the weight times a sum of multipliers, is below 2^113 in size
 pub moved_small : (d a m : ℤ) (w : ℕ) → pos 0 <ℤ d → d ≤ℤ pos (320 ^ 4) → unsigned_abs a ≤ 2 ^ 46 → w ≤ 20 → unsigned_abs m ≤ 6 * 2 ^ 106
     → unsigned_abs (d *ℤ a +ℤ pos w *ℤ m) < 2 ^ 113
 moved_small d a m w p q h e k = sum_small (d *ℤ a) (pos w *ℤ m) (product_small d a p q h) (weighed_small w m e k)
@@ -116,12 +119,14 @@ sum_is d a m w p q h e k =
     ap (λ (z : ℤ). to_z w128 (of_z w128 (z *ℤ to_z w128 (of_z w128 m)))) w' ∙ ap (λ (z : ℤ). to_z w128 (of_z w128 (pos w *ℤ z))) m' ∙ back (pos w *ℤ m) (omega (arith, wm)) in
     ap (λ (z : ℤ). z +ℤ to_z w128 (of_z w128 (to_z w128 w *ℤ to_z w128 (of_z w128 m)))) left ∙ ap (λ (z : ℤ). d *ℤ a +ℤ z) right
 
+-- in 128 bits, den times a small target and weight times a small sum of multipliers add up exactly
 pub moved_back : (d a m : ℤ) (w : ℕ) → pos 0 <ℤ d → d ≤ℤ pos (320 ^ 4) → unsigned_abs a ≤ 2 ^ 46 → w ≤ 20 → unsigned_abs m ≤ 6 * 2 ^ 106
     → to_z w128 (of_z w128 (to_z w128 (of_z w128 (to_z w128 (of_z w128 d) *ℤ to_z w128 (of_z w128 a))) +ℤ to_z w128 (of_z w128 (to_z w128 w *ℤ to_z w128 (of_z w128 m))))) ≡ d *ℤ a +ℤ pos w *ℤ m
 moved_back d a m w p q h e k =
     ap (λ (z : ℤ). to_z w128 (of_z w128 z)) (sum_is d a m w p q h e k)
     ∙ back (d *ℤ a +ℤ pos w *ℤ m) (let s = moved_small d a m w p q h e k in omega (arith, s))
 
+-- in 128 bits, the sum of den times a small target and weight times a small sum of multipliers fits
 pub moved_fits : (d a m : ℤ) (w : ℕ) → pos 0 <ℤ d → d ≤ℤ pos (320 ^ 4) → unsigned_abs a ≤ 2 ^ 46 → w ≤ 20 → unsigned_abs m ≤ 6 * 2 ^ 106
     → FitsSigned w128 (to_z w128 (of_z w128 (to_z w128 (of_z w128 d) *ℤ to_z w128 (of_z w128 a))) +ℤ to_z w128 (of_z w128 (to_z w128 w *ℤ to_z w128 (of_z w128 m))))
 moved_fits d a m w p q h e k =

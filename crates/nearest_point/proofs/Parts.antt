@@ -32,6 +32,7 @@ settled m n a b target weight den mult point s eqs i lt =
     let d : den *ℤ (b i -ℤ dot m (a i) target) ≡ den *ℤ b i -ℤ den *ℤ dot m (a i) target = ring (den ∷ b i ∷ dot m (a i) target ∷ []) (mul (var 0) (sub (var 1) (var 2))) (sub (mul (var 0) (var 1)) (mul (var 0) (var 2))) refl in
     omega (arith, ints))
 
+-- what a row has of numbers at t is t times what it has of the far parts plus that of the near parts
 pub dot-at_t : (m : ℕ) (a : ℕ → ℤ) (t : ℤ) (far near : ℕ → ℤ) → dot m a (at_t t far near) ≡ dot m a far *ℤ t +ℤ dot m a near
 dot-at_t m a t far near =
     total-same m (λ j. a j *ℤ at_t t far near j) (λ j. t *ℤ (a j *ℤ far j) +ℤ a j *ℤ near j)
@@ -39,6 +40,7 @@ dot-at_t m a t far near =
     ∙ total-add m (λ j. t *ℤ (a j *ℤ far j)) (λ j. a j *ℤ near j)
     ∙ (let p = total-scale m t (λ j. a j *ℤ far j) in let c = *ℤ_comm t (dot m a far) in omega (arith, ints))
 
+-- far and near parts that are each solved over one denominator are solved together at t
 pub solved-at_t : (m n : ℕ) (a : ℕ → ℕ → ℤ) (den t : ℤ) (pf pn lf ln tf tn weight : ℕ → ℤ) → Solved m n a den pf lf tf weight → Solved m n a den pn ln tn weight
     → Solved m n a den (at_t t pf pn) (at_t t lf ln) (at_t t tf tn) weight
 solved-at_t m n a den t pf pn lf ln tf tn weight f g = record {
@@ -65,6 +67,7 @@ far_nonneg t far near tp h k = by_lt_z far (pos 0)
     absurd (omega (arith, ints)))
     (λ (high : pos 0 ≤ℤ far). high)
 
+-- the near part isn't negative where the far part is 0 and the number at t isn't negative
 pub near_nonneg : (t far near : ℤ) → far ≡ pos 0 → pos 0 ≤ℤ (far *ℤ t +ℤ near) → pos 0 ≤ℤ near
 near_nonneg t far near e k = let p : far *ℤ t ≡ pos 0 *ℤ t = ap (λ (z : ℤ). z *ℤ t) e in omega (arith, ints)
 
@@ -138,9 +141,11 @@ pub record FarSign (n : ℕ) (lf ln : ℕ → ℤ) : Type 0 where
   pub far : (i : ℕ) → i < n → pos 0 ≤ℤ lf i
   pub near : (i : ℕ) → i < n → lf i ≡ pos 0 → pos 0 ≤ℤ ln i
 
+-- near parts below t: numbers that aren't negative at t aren't negative in the order of Far
 pub sign-at_t : (n : ℕ) (t : ℤ) (lf ln : ℕ → ℤ) → pos 0 <ℤ t → ((i : ℕ) → i < n → ln i <ℤ t) → ((i : ℕ) → i < n → pos 0 ≤ℤ at_t t lf ln i) → FarSign n lf ln
 sign-at_t n t lf ln tp small h = record { far = λ i lt. far_nonneg t (lf i) (ln i) tp (small i lt) (h i lt); near = λ i lt e. near_nonneg t (lf i) (ln i) e (h i lt) }
 
+-- of pairs that aren't negative in the order of Far, no row gets a negative first multiplier
 pub spread_first : (n : ℕ) (rows : ℕ → ℕ) (lf ln : ℕ → ℤ) (r : ℕ) → FarSign n lf ln → pos 0 ≤ℤ spread n rows lf r
 spread_first n rows lf ln r s = total-nonneg n (λ i. when (eqb (rows i) r) (lf i)) (λ i li. when_nonneg (eqb (rows i) r) (lf i) (s.far i li))
 
@@ -148,6 +153,7 @@ when_sign : (b : Bool) (x y : ℤ) → when b x ≡ pos 0 → (x ≡ pos 0 → p
 when_sign true x y e h = h e
 when_sign false x y e h = omega (arith, ints)
 
+-- of pairs that aren't negative, a row whose first multiplier is 0 gets no negative second one
 pub spread_second : (n : ℕ) (rows : ℕ → ℕ) (lf ln : ℕ → ℤ) (r : ℕ) → FarSign n lf ln → spread n rows lf r ≡ pos 0 → pos 0 ≤ℤ spread n rows ln r
 spread_second n rows lf ln r s e =
     let low : (i : ℕ) → i < n → pos 0 ≤ℤ when (eqb (rows i) r) (lf i) = λ i li. when_nonneg (eqb (rows i) r) (lf i) (s.far i li) in

@@ -22,6 +22,7 @@ use Rattle.nearest_point.proofs.Parts.{dot-at_t, settled, solved-at_t}
 use Rattle.nearest_point.proofs.Steps.{near_start}
 use Rattle.nearest_point.proofs.Vectors.{never_dependent}
 
+-- what common members weigh by the lowered target is what they weigh by the weights
 pub gram_is : (m : ℕ) (a b : ℕ → ℤ) (weights : List ℕ) (lowered : List ℤ) → IsLowered weights lowered → length lowered ≡ m
     → common m a b (nth lowered) ≡ total m (λ j. a j *ℤ (weight_at weights j *ℤ b j))
 gram_is m a b weights lowered h len = total-same m (λ j. a j *ℤ ((pos 0 -ℤ nth lowered j) *ℤ b j)) (λ j. a j *ℤ (weight_at weights j *ℤ b j))
@@ -41,6 +42,7 @@ no_dependence m n a weight wp matrix v g ind d =
     ∙ subst (λ (t : ℕ). dot t (row matrix i) (nth v) ≡ pos 0) g.long (d.zero i (let e = g.long in omega arith)))
     d.place (let e = g.long in let b = d.below in omega arith))
 
+-- for independent rows the system is never answered with a dependence
 pub never : (m n : ℕ) (a : ℕ → ℕ → ℤ) (weight : ℕ → ℤ) → ((j : ℕ) → j < m → pos 0 <ℤ weight j) → (matrix : List (List ℤ)) (v : List ℤ) (fars nears : ℕ → ℤ) (s : Answer)
     → IsGram m n a weight matrix → Independent m n a → IsAnswer matrix fars nears s → s ≡ Dependent v → ⊥
 never m n a weight wp matrix v fars nears s g ind answer e = no_dependence m n a weight wp matrix v g ind (subst (IsAnswer matrix fars nears) e answer)
@@ -98,6 +100,7 @@ of_one target weights rows forced lowered low len matrix right values den f g fa
       small_second = λ i lt. (let l = r.long_second in let b = (small.1 i (omega arith)).1 in rw (r.second i (omega arith)) b);
     }
 
+-- the small solution of the system, as it is read, gives the multipliers of the forced rows by parts
 pub multipliers_of : (target : List ℤ) (weights : List ℕ) (rows : List Row) (forced : List ℕ) (lowered : List ℤ) → IsLowered weights lowered → length lowered ≡ length target
     → (matrix : List (List ℤ)) (right values : List Far) (den : ℤ) (f : Multipliers) (s : Answer)
     → IsGram (length target) (length forced) (row_of rows forced) (weight_at weights) matrix
@@ -149,6 +152,7 @@ parts_are : (target : List ℤ) (weights : List ℕ) (rows : List Row) (forced :
 parts_are target weights rows forced lowered f h s =
     rw (s.rows_are, s.den_is, s.first_is, s.second_is) (by_parts target weights rows forced lowered s.low s.long f h.far.items h.near.items s.solved s.far s.near)
 
+-- with independent forced rows the settled point is right for these with equality, and no row is taken yet
 pub settled_near : (target : List ℤ) (weights : List ℕ) (rows : List Row) (forced : List ℕ) (lowered : List ℤ) (f : Multipliers) (h : Held) → IsSettled target weights rows forced lowered f h
     → Independent (length target) (length forced) (row_of rows forced) → IsNear target weights rows forced (length rows) h
 settled_near target weights rows forced lowered f h s ind =
@@ -165,6 +169,7 @@ settled_near target weights rows forced lowered f h s ind =
     (solved-at_t m (length forced) (row_of rows forced) f.den large (nth h.far.items) (nth h.near.items) (nth f.first.items) (nth f.second.items) (λ j. pos 0 -ℤ w j) (nth target) w p.far p.near)
     tight ind)
 
+-- what is settled has its parts and sizes, where forced places are of rows and its point's parts below 2^113
 pub settled_parts : (target : List ℤ) (weights : List ℕ) (rows : List Row) (forced : List ℕ) (lowered : List ℤ) (f : Multipliers) (h : Held) → IsSettled target weights rows forced lowered f h
     → AreWithin forced rows → AreBelow (2 ^ 113) h.far.items → AreBelow (2 ^ 113) h.near.items → HasParts target weights rows h
 settled_parts target weights rows forced lowered f h s within far near = record {
@@ -182,6 +187,7 @@ settled_parts target weights rows forced lowered f h s within far near = record 
   small_second = subst (AreBelow (2 ^ 106)) (sym s.second_is) s.solved.small_second;
 }
 
+-- a square of what common members weigh by the lowered target is the matrix of the forced rows
 pub is_gram : (target : List ℤ) (weights : List ℕ) (rows : List Row) (forced : List ℕ) (lowered : List ℤ) → IsLowered weights lowered → length lowered ≡ length target
     → (matrix : List (List ℤ)) → length matrix ≡ length forced
     → ((i k : ℕ) → i < length forced → k < length forced → row matrix i k ≡ common (length lowered) (row_of rows forced i) (row_of rows forced k) (nth lowered))
@@ -192,6 +198,7 @@ is_gram target weights rows forced lowered low len matrix long all = record {
       ∙ gram_is (length target) (row_of rows forced i) (row_of rows forced k) weights lowered low len;
 }
 
+-- the denominator of a small solution comes back from its 128 bits
 pub den_back : (matrix : List (List ℤ)) (fars nears : ℕ → ℤ) (den : ℤ) (values : List Far) (s : Answer) → IsAnswer matrix fars nears s → IsSmallAnswer (320 ^ 4 + 1) (2 ^ 106) s → s ≡ One den values
     → to_z w128 (of_z w128 den) ≡ den
 den_back matrix fars nears den values s answer small e =
@@ -201,9 +208,11 @@ den_back matrix fars nears den values s answer small e =
     let q = b.0 in
     omega (arith, ints)
 
+-- a part of a point stays one for an equal denominator, target and multipliers
 pub part_same : (rows : List Row) (forced : List ℕ) (w : ℕ → ℤ) (d d' : ℤ) (t t' m m' p : List ℤ) → d ≡ d' → t ≡ t' → m ≡ m' → IsPart rows forced w d t m p → IsPart rows forced w d' t' m' p
 part_same rows forced w d d' t t' m m' p e f g h =
     subst (λ (x : ℤ). IsPart rows forced w x t' m' p) e (subst (λ (x : List ℤ). IsPart rows forced w d x m' p) f (subst (λ (x : List ℤ). IsPart rows forced w d t x p) g h))
 
+-- the denominator of the multipliers of forced rows comes back from its 128 bits
 pub den_returns : (target : List ℤ) (weights : List ℕ) (rows : List Row) (forced : List ℕ) (f : Multipliers) → AreMultipliers target weights rows forced f → to_z w128 (of_z w128 f.den) ≡ f.den
 den_returns target weights rows forced f h = let p = h.positive in let q = h.small_den in omega (arith, ints)

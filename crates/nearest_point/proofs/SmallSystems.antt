@@ -22,6 +22,7 @@ pub record AreSides (target : List ℤ) (rows : List Row) (lowered : List ℤ) (
 below_by : (weights : List ℕ) (lowered : List ℤ) (top : ℕ) → IsLowered weights lowered → ((j : ℕ) → j < length lowered → slice_index_or weights j 0 ≤ top) → IsBelowBy top lowered
 below_by weights lowered top l h j lt = let e = l.is j lt in let w = h j lt in (omega (arith, ints), omega (arith, ints))
 
+-- in a problem each number of the lowered target is below 0 by at most 20
 pub below_of : (target : List ℤ) (weights : List ℕ) (rows : List Row) (lowered : List ℤ) → IsProblem target weights rows → IsLowered weights lowered → IsBelowBy 20 lowered
 below_of target weights rows lowered problem low = below_by weights lowered 20 low (λ j lt. problem.weighed.most j (let e = low.long in let f = problem.weighed.long in omega arith))
 
@@ -47,6 +48,7 @@ module _ (target : List ℤ) (weights : List ℕ) (rows : List Row) (lowered : L
       widened : (m n t most : ℕ) (x : ℤ) → m ≡ n → n * t ≤ most → x ≤ℤ pos (m * t) → x ≤ℤ pos most
       widened m n t most x e le h = let p : m * t ≡ n * t = rw e refl in omega (arith, ints)
 
+  -- with weights of 1 the system has at most 6 lines, entries up to 6 and right sides up to 2^46
   pub first_system : AreOnes (length target) weights → IsSmallSystem 6 6 (2 ^ 46) matrix right
   first_system ones =
       let few = problem.few in
@@ -59,5 +61,6 @@ module _ (target : List ℤ) (weights : List ℕ) (rows : List Row) (lowered : L
       let few = narrow.few in
       small 4 20 (2 ^ 45) 80 few (below_of target weights rows lowered problem low) (omega arith) (record { sum = narrow.sum; small = narrow.small }) (omega arith)
 
+  -- at most 6 lines with entries up to 6 and right sides up to 2^46, or 4 lines with up to 80 and 2^45
   pub either_system : IsSmallSystem 6 6 (2 ^ 46) matrix right ⊎ IsSmallSystem 4 80 (2 ^ 45) matrix right
   either_system = elim problem.sizes [ inl ones ↦ inl (first_system ones) | inr narrow ↦ inr (second_system narrow) ]

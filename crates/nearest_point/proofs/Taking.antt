@@ -10,6 +10,7 @@ use Rattle.nearest_point.specs.Found.{HasParts, IsNear, IsOwed, point_at, multip
 use Rattle.nearest_point.proofs.Steps.{near_force, near_take, owed_force, owed_less}
 use Rattle.nearest_point.proofs.Whole.{have_weights}
 
+-- where the point violates row k, what is owed is owed with row k forced and the rows after it
 pub force_owed : (target : List ℤ) (weights : List ℕ) (rows : List Row) (forced : List ℕ) (from k q : ℕ) (h : Held) → q ≡ suc k → k < length rows → from ≤ k
     → IsOwed target rows forced from → IsNear target weights rows forced q h → HasParts target weights rows h
     → dot (length h.far.items) (coefficients rows k) (point_at h) <ℤ (h.den *ℤ bounds rows k)
@@ -22,6 +23,7 @@ force_owed target weights rows forced from k q h e lt le (d, (x, owed)) near par
     forced k lt d x less h.rows.items h.den (point_at h) (multiplier_at h) near' violated' in
     rw add-one (_, (_, o))
 
+-- where a point violates row k, the one found with row k forced is right from row k on without forcing it
 pub force_near : (target : List ℤ) (weights : List ℕ) (rows : List Row) (forced : List ℕ) (k q : ℕ) (y x : Held) → q ≡ suc k → k < length rows → IsProblem target weights rows
     → IsNear target weights rows forced q y → HasParts target weights rows y
     → dot (length y.far.items) (coefficients rows k) (point_at y) <ℤ (y.den *ℤ bounds rows k)
@@ -33,6 +35,7 @@ force_near target weights rows forced k q y x e lt problem near parts violated f
     near_force (length target) (length rows) (coefficients rows) (bounds rows) (at_t large (λ j. pos 0 -ℤ weight_at weights j) (nth target)) (weight_at weights) (have_weights (length target) weights problem.weighed)
     forced k lt y.rows.items y.den (point_at y) (multiplier_at y) near' violated' x.rows.items x.den (point_at x) (multiplier_at x) found'
 
+-- a point that meets row k and is right from the next row on is right from row k on
 pub take_near : (target : List ℤ) (weights : List ℕ) (rows : List Row) (forced : List ℕ) (k q : ℕ) (h : Held) → q ≡ suc k
     → IsNear target weights rows forced q h → HasParts target weights rows h
     → (h.den *ℤ bounds rows k) ≤ℤ dot (length h.far.items) (coefficients rows k) (point_at h) → IsNear target weights rows forced k h

@@ -20,11 +20,13 @@ cut zero f k i = k
 cut (suc n) f k zero = f zero
 cut (suc n) f k (suc i) = cut n (λ i. f (suc i)) k i
 
+-- below the cut the numbers are those of the function
 pub cut-below : (n : ℕ) (f : ℕ → ℤ) (k : ℤ) (i : ℕ) → i < n → cut n f k i ≡ f i
 cut-below zero f k i lt = absurd (omega arith)
 cut-below (suc n) f k zero lt = refl
 cut-below (suc n) f k (suc i) lt = cut-below n (λ i. f (suc i)) k i (omega arith)
 
+-- at the cut stands the other number
 pub cut-at : (n : ℕ) (f : ℕ → ℤ) (k : ℤ) → cut n f k n ≡ k
 cut-at zero f k = refl
 cut-at (suc n) f k = cut-at n (λ i. f (suc i)) k
@@ -46,6 +48,7 @@ skip_hits (suc n) (suc q) (suc j) qn jn = lift n q j (skip_hits n q j (omega ari
     lift n q j (inl e) = inl (ap suc e)
     lift n q j (inr (i, b, e)) = inr (suc i, omega arith, ap suc e)
 
+-- of n numbers all are 0, or one is another number
 pub zeros_or : (n : ℕ) (f : ℕ → ℤ) → ((j : ℕ) → j < n → f j ≡ pos 0) ⊎ ((q : ℕ) × (q < n) × ¬ (f q ≡ pos 0))
 zeros_or zero f = inl (λ j lt. absurd (omega arith))
 zeros_or (suc n) f = step (zeros_or n f) (zero_or (f n))
@@ -69,6 +72,7 @@ sum-cut n c k a =
     let q : cut n c k n *ℤ a n ≡ k *ℤ a n = ap (λ (z : ℤ). z *ℤ a n) (cut-at n c k) in
     omega (arith, ints)
 
+-- of one row more than coordinates some combination, not all zero, is 0 everywhere
 pub more_rows_depend : (m : ℕ) (a : ℕ → ℕ → ℤ) → Depends m (suc m) a
 more_rows_depend zero a = ((λ i. pos 1), (λ j lt. absurd (omega arith)), (zero, omega arith, λ e. cc))
 more_rows_depend (suc m) a = by_last (λ b. more_rows_depend m b) (zeros_or (suc m) (a (suc m)))
@@ -107,6 +111,7 @@ more_rows_depend (suc m) a = by_last (λ b. more_rows_depend m b) (zeros_or (suc
               (i₀, omega arith, λ e. not_zero_product (c i₀) (v q) nz₀ nz (sym (cut-below (suc m) c' k i₀ li₀) ∙ e)),
             )
 
+-- no rows at all are independent
 pub none_independent : (m : ℕ) (a : ℕ → ℕ → ℤ) → Independent m 0 a
 none_independent m a = record { only_zero = λ c h i lt. absurd (omega arith) }
 
@@ -161,6 +166,7 @@ never_dependent m n a weight c wp h z i lt =
 pub between : ℤ → (ℕ → ℤ) → ℤ → (ℕ → ℤ) → ℕ → ℤ
 between s x u q j = s *ℤ x j +ℤ u *ℤ q j
 
+-- what a row has of the point between is what it has of both points, each times its factor
 pub dot-between : (m : ℕ) (a : ℕ → ℤ) (s : ℤ) (x : ℕ → ℤ) (u : ℤ) (q : ℕ → ℤ) → dot m a (between s x u q) ≡ s *ℤ dot m a x +ℤ u *ℤ dot m a q
 unfolding between
 dot-between m a s x u q =
@@ -176,6 +182,7 @@ between_equal m a b s x u q d e hx hq =
     dot-between m a s x u q ∙ ap (λ (t : ℤ). s *ℤ t +ℤ u *ℤ dot m a q) hx ∙ ap (λ (t : ℤ). s *ℤ (e *ℤ b) +ℤ u *ℤ t) hq
     ∙ ring (s ∷ e ∷ b ∷ u ∷ d ∷ []) (add (mul (var 0) (mul (var 1) (var 2))) (mul (var 3) (mul (var 4) (var 2)))) (mul (add (mul (var 0) (var 1)) (mul (var 3) (var 4))) (var 2)) refl
 
+-- a row that both points meet is met by the point between, for factors that aren't negative
 pub between_above : (m : ℕ) (a : ℕ → ℤ) (b s : ℤ) (x : ℕ → ℤ) (u : ℤ) (q : ℕ → ℤ) (d e : ℤ) → pos 0 ≤ℤ s → pos 0 ≤ℤ u → (e *ℤ b) ≤ℤ dot m a x → (d *ℤ b) ≤ℤ dot m a q
     → ((s *ℤ e +ℤ u *ℤ d) *ℤ b) ≤ℤ dot m a (between s x u q)
 between_above m a b s x u q d e hs hu hx hq =
@@ -187,6 +194,7 @@ between_above m a b s x u q d e hs hu hx hq =
     (sub (add (mul (var 0) (var 1)) (mul (var 4) (var 5))) (mul (add (mul (var 0) (var 2)) (mul (var 4) (var 6))) (var 3))) refl in
     omega (arith, ints)
 
+-- with what q is below a row and x above it as factors, the point between meets the row with equality
 pub between_crosses : (m : ℕ) (a : ℕ → ℤ) (b : ℤ) (x q : ℕ → ℤ) (d e : ℤ)
     → dot m a (between (d *ℤ b -ℤ dot m a q) x (dot m a x -ℤ e *ℤ b) q) ≡ ((d *ℤ b -ℤ dot m a q) *ℤ e +ℤ (dot m a x -ℤ e *ℤ b) *ℤ d) *ℤ b
 between_crosses m a b x q d e =

@@ -21,6 +21,7 @@ use Rattle.nearest_point.proofs.Answer.{Answer, answer}
 use Rattle.nearest_point.proofs.Bits.{holds_nonneg, dot_single, met_by_all}
 use Rattle.nearest_point.proofs.Vectors.{none_independent, independent_le}
 
+-- each coordinate has a positive weight
 pub have_weights : (m : ℕ) (weights : List ℕ) → AreWeights m weights → (j : ℕ) → j < m → pos 0 <ℤ weight_at weights j
 have_weights m weights h j lt = let e = h.some j lt in omega (arith, ints)
 
@@ -60,6 +61,7 @@ answer_of target weights rows weighed singles c h near parts =
         go : (i : ℕ) × (i < length rows) × ((row_at rows i).members ≡ 2 ^ j) → (k : ℕ) × (k < length rows) × (pos 0 ≤ℤ bounds rows k) × ((y : ℕ → ℤ) → dot (length target) (coefficients rows k) y ≡ y j)
         go (i, li, e) = (i, li, c.not_negative i li, λ y. ap (λ (t : ℕ). dot (length target) (holds t) y) e ∙ dot_single (length target) j y lt)
 
+-- an answer's point has the least sum of all points that meet the rows
 pub has_least_sum : (target : List ℤ) (rows : List Row) (weight : ℕ → ℤ) (den : ℤ) (point first second : ℕ → ℤ)
     → Answer (length target) (length rows) (coefficients rows) (bounds rows) (nth target) weight den point first second
     → HasLeastSum (length target) (MeetsRows (length target) (length rows) (coefficients rows) (bounds rows)) den point
@@ -107,6 +109,7 @@ below_top target rows weight few members singles c den point first second long s
     within : (x s : ℤ) → pos 0 ≤ℤ x → x ≤ℤ s → s ≤ℤ pos (320 ^ 4 * (6 * 2 ^ 46)) → unsigned_abs x < 2 ^ 109
     within x s p q r = omega (arith, ints)
 
+-- an answer's point is nearer to the target than any other of its sum that meets the rows
 pub is_nearest : (target : List ℤ) (weights : List ℕ) (rows : List Row) → AreWeights (length target) weights → (den : ℤ) (point first second : ℕ → ℤ)
     → Answer (length target) (length rows) (coefficients rows) (bounds rows) (nth target) (weight_at weights) den point first second
     → IsNearestTo (length target) (share_at weights) (nth target) (MeetsRows (length target) (length rows) (coefficients rows) (bounds rows)) den point
@@ -121,8 +124,10 @@ is_nearest target weights rows weighed den point first second h e x k =
       whole = λ j lt. share-whole (slice_index_or weights j 0) (weighed.some j lt) (weighed.most j lt);
     }
 
+-- equal lists of rows and multipliers give each row the same
 pub spread_same : (r₁ r₂ : List ℕ) (l₁ l₂ : List ℤ) (q : ℕ) → r₁ ≡ r₂ → l₁ ≡ l₂ → spread (length r₁) (place r₁) (nth l₁) q ≡ spread (length r₂) (place r₂) (nth l₂) q
 spread_same r₁ r₂ l₁ l₂ q e f = ap (λ (r : List ℕ). spread (length r) (place r) (nth l₁) q) e ∙ ap (λ (l : List ℤ). spread (length r₂) (place r₂) (nth l) q) f
 
+-- with at most six coordinates, a point found with no row forced has at most six rows
 pub few_rows : (target : List ℤ) (weights : List ℕ) (rows : List Row) (h : Held) → IsNear target weights rows [] 0 h → length target ≤ 6 → length h.rows.items ≤ 6
 few_rows target weights rows h near six = let le = independent_le (length target) (length h.rows.items) (λ i. coefficients rows (place h.rows.items i)) near.independent in omega arith
