@@ -16,6 +16,7 @@ use Rattle.point_laws.proofs.Sums.{total-sub, total-nonneg, term-le, dual}
 abbrev pub gap_of : ℤ → (ℕ → ℤ) → ℤ → (ℕ → ℤ) → ℕ → ℤ
 gap_of d n e x j = d *ℤ x j -ℤ e *ℤ n j
 
+-- what a row has of the gap of two points is the gap of what it has of each
 pub dot-gap : (m : ℕ) (a : ℕ → ℤ) (d : ℤ) (n : ℕ → ℤ) (e : ℤ) (x : ℕ → ℤ) → dot m a (gap_of d n e x) ≡ d *ℤ dot m a x -ℤ e *ℤ dot m a n
 dot-gap m a d n e x =
     total-same m (λ j. a j *ℤ gap_of d n e x j) (λ j. d *ℤ (a j *ℤ x j) -ℤ e *ℤ (a j *ℤ n j))
@@ -23,6 +24,7 @@ dot-gap m a d n e x =
     ∙ total-sub m (λ j. d *ℤ (a j *ℤ x j)) (λ j. e *ℤ (a j *ℤ n j))
     ∙ (let p = total-scale m d (λ j. a j *ℤ x j) in let q = total-scale m e (λ j. a j *ℤ n j) in omega (arith, ints))
 
+-- the gap of two points sums to the gap of their sums
 pub total-gap : (m : ℕ) (d : ℤ) (n : ℕ → ℤ) (e : ℤ) (x : ℕ → ℤ) → total m (gap_of d n e x) ≡ d *ℤ total m x -ℤ e *ℤ total m n
 total-gap m d n e x =
     total-sub m (λ j. d *ℤ x j) (λ j. e *ℤ n j)
@@ -37,9 +39,11 @@ dot-tight m a b d n e x dp t h =
     let t' : e *ℤ dot m a n ≡ e *ℤ (d *ℤ b) = ap (λ (z : ℤ). e *ℤ z) t in
     omega (arith, ints)
 
+-- a product is 0 where its left factor is
 pub zero_times : (s t : ℤ) → s ≡ pos 0 → s *ℤ t ≡ pos 0
 zero_times s t z = let q : s *ℤ t ≡ pos 0 *ℤ t = ap (λ (y : ℤ). y *ℤ t) z in omega (arith, ints)
 
+-- a product is 0 where its right factor is
 pub times_zero : (s t : ℤ) → t ≡ pos 0 → s *ℤ t ≡ pos 0
 times_zero s t z = let q : s *ℤ t ≡ s *ℤ pos 0 = ap (λ (y : ℤ). s *ℤ y) z in omega (arith, ints)
 
@@ -72,6 +76,7 @@ pub record Compared (m r : ℕ) (a : ℕ → ℕ → ℤ) (bound : ℕ → ℤ) 
   pub sums : SumsToOrStands m r a d n first e x
   pub meets : MeetsRows m r a bound e x
 
+-- a point with first multipliers has at most the sum of another that it is compared with
 pub least_sum : (m r : ℕ) (a : ℕ → ℕ → ℤ) (bound : ℕ → ℤ) (d : ℤ) (n first : ℕ → ℤ) (e : ℤ) (x : ℕ → ℤ) → Compared m r a bound d n first e x → (e *ℤ total m n) ≤ℤ (d *ℤ total m x)
 least_sum m r a bound d n first e x h =
     let y : ℕ → ℤ = gap_of d n e x in
@@ -163,10 +168,12 @@ same_or (suc m) d n e x = both (same_or m d n e x) (equal_or (d *ℤ x m) (e *�
         at j lt (inl same) = ap (λ (k : ℕ). d *ℤ x k) same ∙ last ∙ sym (ap (λ (k : ℕ). e *ℤ n k) same)
         at j lt (inr ne) = s j (omega arith)
 
+-- first multipliers show the least sum of all that meet the rows and stay where they don't come to d
 pub least : (m r : ℕ) (a : ℕ → ℕ → ℤ) (bound : ℕ → ℤ) (d : ℤ) (n first : ℕ → ℤ) → AreFirst m r a bound d n first
     → HasLeastSum m (λ e x. MeetsRows m r a bound e x × SumsToOrStands m r a d n first e x) d n
 least m r a bound d n first f e x among = least_sum m r a bound d n first e x (record { firsts = f; sums = among.1; meets = among.0 })
 
+-- with second multipliers and shares too, every other such point of the same sum is farther from the target
 pub nearest : (m r : ℕ) (a : ℕ → ℕ → ℤ) (bound : ℕ → ℤ) (d : ℤ) (n first second target weight : ℕ → ℤ) (l : ℤ) (share : ℕ → ℤ)
     → AreFirst m r a bound d n first → AreSecond m r a bound d n first second target weight → AreShares m l share weight
     → IsNearestTo m share target (λ e x. MeetsRows m r a bound e x × SumsToOrStands m r a d n first e x) d n

@@ -140,6 +140,7 @@ addp-is : (env : List ℤ) (p q : List Term) → sum_of env (addp p q) ≡ sum_o
 addp-is env [] q = omega (arith, ints)
 addp-is env (t ∷ ts) q = let h = addp-is env ts q in let k = put-is env t.coef t.vars (addp ts q) in omega (arith, ints)
 
+-- the two middle ones of four factors change places
 pub swap_middle : (c d x y : ℤ) → (c *ℤ d) *ℤ (x *ℤ y) ≡ (c *ℤ x) *ℤ (d *ℤ y)
 swap_middle c d x y = mul_assoc c d (x *ℤ y) ∙ ap (λ (z : ℤ). c *ℤ z) (swap_mul d x y) ∙ sym (mul_assoc c x (d *ℤ y))
 
@@ -162,6 +163,7 @@ mulp-is env (t ∷ ts) q =
     let e = add_mul (t.coef *ℤ mono env t.vars) (sum_of env ts) (sum_of env q) in
     omega (arith, ints)
 
+-- the terms of an expression add up to its value
 pub norm-is : (env : List ℤ) (e : Expr) → sum_of env (norm e) ≡ value env e
 norm-is env (var n) = omega (arith, ints)
 norm-is env (con c) = omega (arith, ints)
@@ -189,6 +191,7 @@ all_zero-is env (t ∷ ts) e =
     let m : t.coef *ℤ mono env t.vars ≡ pos 0 *ℤ mono env t.vars = ap (λ (x : ℤ). x *ℤ mono env t.vars) z in
     omega (arith, ints)
 
+-- two expressions have the same value where all terms of their difference cancel out
 pub ring : (env : List ℤ) (a b : Expr) → all_zero (norm (sub a b)) ≡ true → value env a ≡ value env b
 ring env a b e =
     let h = norm-is env (sub a b) in

@@ -6,10 +6,12 @@ use Rattle.std.proofs.lemmas.Int.{ints}
 use Rattle.wide_num.specs.Sums.{total, dot}
 use Rattle.wide_num.proofs.Sums.{dot-through}
 
+-- the sum of differences is the difference of the sums
 pub total-sub : (n : ℕ) (f g : ℕ → ℤ) → total n (λ i. f i -ℤ g i) ≡ total n f -ℤ total n g
 total-sub zero f g = refl
 total-sub (suc n) f g = let a = total-sub n f g in omega (arith, ints)
 
+-- a sum of numbers that aren't negative isn't negative
 pub total-nonneg : (n : ℕ) (f : ℕ → ℤ) → ((i : ℕ) → i < n → pos 0 ≤ℤ f i) → pos 0 ≤ℤ total n f
 total-nonneg zero f h = omega (arith, ints)
 total-nonneg (suc n) f h =
@@ -17,6 +19,7 @@ total-nonneg (suc n) f h =
     let b : pos 0 ≤ℤ f n = h n (omega arith) in
     omega (arith, ints)
 
+-- where each term is at most another, so is the sum
 pub total-le : (n : ℕ) (f g : ℕ → ℤ) → ((i : ℕ) → i < n → f i ≤ℤ g i) → total n f ≤ℤ total n g
 total-le zero f g h = omega (arith, ints)
 total-le (suc n) f g h =
