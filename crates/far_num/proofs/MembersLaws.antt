@@ -38,6 +38,7 @@ pub record IsAtEntry (members : ℕ) (xs : List Far) (n : ℕ) (sum : Far) (left
   pub left_is : left ≡ members / 2 ^ n
   pub inside : StayInRange members xs n
 
+-- past an entry that is no member the sum stays as it is, and one bit fewer is left
 pub passed_other : (members : ℕ) (xs : List Far) (n : ℕ) (sum : Far) (left : ℕ) → IsAtEntry members xs n sum left → left % 2 ≡ 0 → IsAtEntry members xs (suc n) sum (left / 2)
 passed_other members xs n sum left h bit =
     let same = other_left_out members xs n (ap (λ (k : ℕ). k % 2) (sym h.left_is) ∙ bit) in
@@ -47,6 +48,7 @@ passed_other members xs n sum left h bit =
       inside = stays_more members xs n h.inside (subst IsInRange (sym same) (h.inside n (omega arith)));
     }
 
+-- past a member the sum grows by its pair, where that stays in the range, and one bit fewer is left
 pub passed_member : (members : ℕ) (xs : List Far) (n : ℕ) (sum next x : Far) (left : ℕ) → IsAtEntry members xs n sum left → left % 2 ≡ 1 → x ≡ pair_at xs n → next ≡ sum_of sum x → IsInRange (sum_of sum x) → IsAtEntry members xs (suc n) next (left / 2)
 passed_member members xs n sum next x left h bit item is here =
     let more : sum_of sum x ≡ members_sum members xs (suc n) =
