@@ -14,9 +14,11 @@ use Rattle.far_num.specs.Members.{holds}
 use Rattle.row_laws.specs.Winners.{winners_in, for_bidders, has_bit, bits_after, row_of}
 use Rattle.row_laws.proofs.Sums.{over-is}
 
+-- whether the first winner is in a set of bits is the remainder of the bits by 2
 pub holds-front : (bits : ℕ) → holds bits 0 ≡ pos (bits % 2)
 holds-front bits = rw (div-one bits) refl
 
+-- each later winner is in a set of bits where it is, one place lower, in half of them
 pub holds-rest : (bits j : ℕ) → holds bits (suc j) ≡ holds (bits / 2) j
 holds-rest bits j =
     let e : bits / 2 ^ suc j ≡ bits / 2 / 2 ^ j = ap (λ n. bits / n) (pow-suc 2 j ∙ (let a : 2 ^ j * 2 ≡ 2 * 2 ^ j = omega arith in a)) ∙ sym (div-div-eq-div-mul bits 2 (2 ^ j)) in
@@ -89,6 +91,7 @@ bits-hold (suc n ∷ z) s k (suc i) =
     halved true r = omega arith
     halved false r = omega arith
 
+-- the bits of any set of bidders are less than 2 to the number of winners
 pub bits-below : (z : List ℕ) (s : ℕ → Bool) (k : ℕ) → bits_after z s k < 2 ^ winners_in z
 bits-below [] s k = omega arith
 bits-below (zero ∷ z) s k = bits-below z s (suc k)
@@ -120,6 +123,7 @@ bits-skip z s k lt e = rw (add-one, drop-cons z k 0) (go (get_or z k 0) (let a :
         lie : true ≡ false → ⊥
         lie h = cc
 
+-- from a winner on, the bits are its own and twice those behind it, and the winners one more than behind it
 pub bits-take : (z : List ℕ) (s : ℕ → Bool) (k : ℕ) → k < length z → uses z (k + 1) ≡ true → (bits_after (drop k z) s k ≡ cond (s (k + 1)) 1 0 + 2 * bits_after (drop (k + 1) z) s (k + 1)) × (winners_in (drop k z) ≡ suc (winners_in (drop (k + 1) z)))
 bits-take z s k lt e = rw (add-one, drop-cons z k 0) (go (get_or z k 0) (let a : k + 1 - 1 ≡ k = omega arith in rw a at e))
   where
@@ -143,6 +147,7 @@ two_power zero (suc b) h = omega (arith, pow-suc 2 b, two_power zero b (omega ar
 two_power (suc a) zero h = absurd (omega arith)
 two_power (suc a) (suc b) h = omega (arith, pow-suc 2 a, pow-suc 2 b, two_power a b (omega arith))
 
+-- of at most 16 winners, the bits behind any one of them are less than 32,768
 pub bits-small : (z : List ℕ) (s : ℕ → Bool) (k : ℕ) → k < length z → winners_in z ≤ 16 → uses z (k + 1) ≡ true → bits_after (drop (k + 1) z) s (k + 1) < 32768
 bits-small z s k lt few e =
     let t = (bits-take z s k lt e).1 in

@@ -46,6 +46,7 @@ row-asks m z len at bits = sym (ap (sum_over (row_of z bits) (of_bidder (for_bid
 pub meets-winners : (m : Market) (z : List ℕ) → length z ≡ m.bidders → (den : ℤ) (at : List ℤ) (row : Row) → MeetsRow m (record { den = den; at = for_bidders z at }) (row_in z row) → Meets z row den at
 meets-winners m z len den at row h = let e = row-asks m z len at row.members in omega (arith, ints)
 
+-- the bidders' numbers meet the row where the winners' do
 pub meets-bidders : (m : Market) (z : List ℕ) → length z ≡ m.bidders → (den : ℤ) (at : List ℤ) (row : Row) → Meets z row den at → MeetsRow m (record { den = den; at = for_bidders z at }) (row_in z row)
 meets-bidders m z len den at row h = let e = row-asks m z len at row.members in omega (arith, ints)
 
@@ -80,6 +81,7 @@ free-excess m lawful z p free f t s outside =
     let h = free (λ j. not (s j)) f t outside in
     omega (arith, ints)
 
+-- a set of winners that a choice doesn't use has no bidder that the choice uses
 pub idle-outside : (m : Market) (z f : List ℕ) (s : ℕ → Bool) → IsIdleSet m z f s → (j : ℕ) → 0 < j → j ≤ m.bidders → IsTrue (uses f j) → IsTrue (not (s j))
 idle-outside m z f s idle j q le u = by (s j) (uses z j) (uses f j) (λ e. idle j q le e) u
   where

@@ -28,6 +28,7 @@ terms m z p f s k = term p.den (worth_in m f (suc k)) (worth_in m z (suc k)) (of
 abbrev pub low_terms : Market → Point → List ℤ → List ℕ → ℕ → ℤ
 low_terms m p surplus f k = lowered p.den m.worth surplus (suc k) (number_of f (suc k)) -ℤ of_bidder p.at (suc k)
 
+-- a sum over all bidders is a total over the numbers from 0
 pub everyone-is : (f : ℕ → ℤ) (n : ℕ) → sum_over everyone f n ≡ total n (λ k. f (suc k))
 everyone-is f n = over-is everyone f n
 
@@ -56,6 +57,7 @@ module _ (m : Market) (lawful : IsMarket m) (z : List ℕ) (p : Point) where
       let w = worths-are f t in
       omega (arith, ints)
 
+  -- what a coalition offers with an allowed choice beyond all payments is the sum of the terms
   pub offer-is : (f : List ℕ) → IsTrue (m.allowed f) → (s : ℕ → Bool) → offer m z p s f -ℤ paid m p ≡ total m.bidders (terms m z p f s)
   offer-is f t s =
       let a = terms-are f t s in
@@ -65,6 +67,7 @@ module _ (m : Market) (lawful : IsMarket m) (z : List ℕ) (p : Point) where
       let c = total-same m.bidders (λ k. cond (s (suc k)) ((p.den *ℤ worth_in m z (suc k)) -ℤ of_bidder p.at (suc k)) (pos 0) +ℤ of_bidder p.at (suc k)) (λ k. cond (s (suc k)) (p.den *ℤ worth_in m z (suc k)) (of_bidder p.at (suc k))) (λ k lt. cond_gap (s (suc k)) (p.den *ℤ worth_in m z (suc k)) (of_bidder p.at (suc k))) in
       omega (arith, ints)
 
+  -- the excess over a set is the sum of the terms for the coalition of all others
   pub excess-is : (f : List ℕ) → IsTrue (m.allowed f) → (s : ℕ → Bool) → excess_of m z p s f ≡ total m.bidders (terms m z p f (λ j. not (s j)))
   excess-is f t s =
       let a = terms-are f t (λ j. not (s j)) in
@@ -78,6 +81,7 @@ module _ (m : Market) (lawful : IsMarket m) (z : List ℕ) (p : Point) where
     low : List ℕ → ℤ
     low f = sum_after (lowered p.den m.worth surplus) 0 f
 
+    -- the lowered sum of an allowed choice, less all payments, is the sum of its lowered terms
     pub low-is : (f : List ℕ) → IsTrue (m.allowed f) → sum_after (lowered p.den m.worth surplus) 0 f -ℤ paid m p ≡ total m.bidders (low_terms m p surplus f)
     low-is f t =
         let a = choice-is (lowered p.den m.worth surplus) f ∙ ap (λ n. total n (λ k. lowered p.den m.worth surplus (suc k) (number_of f (suc k)))) (lawful.lengths f t) in
@@ -101,13 +105,16 @@ module _ (m : Market) (lawful : IsMarket m) (z : List ℕ) (p : Point) where
             lie : true ≡ false → ⊥
             lie e = cc
 
+    -- the coalition of all but the idle row offers just the lowered sum
     pub terms-reached : (f : List ℕ) → total m.bidders (terms m z p f (λ j. not (idle_row m z p f j))) ≡ total m.bidders (low_terms m p surplus f)
     terms-reached f = total-same m.bidders (terms m z p f (λ j. not (idle_row m z p f j))) (low_terms m p surplus f)
         (λ k lt. term_reached p.den m.worth surplus (suc k) (number_of f (suc k)) (worth_in m z (suc k)) (of_bidder p.at (suc k)) (uses z (suc k)) (lawful.none (suc k)) (own.surpluses k lt) (loser-none k lt))
 
+    -- the excess of a choice over its idle row is its lowered sum less all payments
     pub low-reached : (f : List ℕ) → IsTrue (m.allowed f) → excess_of m z p (idle_row m z p f) f ≡ sum_after (lowered p.den m.worth surplus) 0 f -ℤ paid m p
     low-reached f t = excess-is f t (idle_row m z p f) ∙ terms-reached f ∙ sym (low-is f t)
 
+    -- over no set of winners that it doesn't use is the excess of a choice above its lowered sum less all payments
     pub low-most : (f : List ℕ) (s : ℕ → Bool) → IsTrue (m.allowed f) → IsIdleSet m z f s → excess_of m z p s f ≤ℤ (sum_after (lowered p.den m.worth surplus) 0 f -ℤ paid m p)
     low-most f s t idle =
         let e = excess-is f t s in
@@ -130,6 +137,7 @@ module _ (m : Market) (lawful : IsMarket m) (z : List ℕ) (p : Point) where
             lie : false ≡ true → ⊥
             lie e = cc
 
+    -- the idle row of a choice is a set of winners that the choice doesn't use
     pub row-idle : (f : List ℕ) → IsIdleSet m z f (idle_row m z p f)
     row-idle f j some inside e = both (uses z j) (not (uses f j)) (int_le (of_bidder p.at j) (p.den *ℤ worth_in m z j)) e
       where
@@ -138,6 +146,7 @@ module _ (m : Market) (lawful : IsMarket m) (z : List ℕ) (p : Point) where
         both true false l e = e
         both false u l e = e
 
+    -- no bidder that a choice uses is in its idle row
     pub row-outside : (f : List ℕ) (j : ℕ) → IsTrue (uses f j) → IsTrue (not (idle_row m z p f j))
     row-outside f j e = out (uses z j) (uses f j) (int_le (of_bidder p.at j) (p.den *ℤ worth_in m z j)) e
       where
@@ -149,6 +158,7 @@ module _ (m : Market) (lawful : IsMarket m) (z : List ℕ) (p : Point) where
             lie e = cc
         out false u l e = refl
 
+    -- the lowered sum of the choice z itself is what all bidders pay
     pub winning-pays : IsTrue (m.allowed z) → sum_after (lowered p.den m.worth surplus) 0 z ≡ paid m p
     winning-pays t =
         let l = low-is z t in
@@ -156,6 +166,7 @@ module _ (m : Market) (lawful : IsMarket m) (z : List ℕ) (p : Point) where
         omega (arith, ints)
 
     module _ (f : List ℕ) (best : IsFirstGreatest m.allowed (sum_after (lowered p.den m.worth surplus) 0) f) where
+      -- the first choice of greatest lowered sum, with its idle row, is the block of the turn
       pub taken : IsTakenBlock m z p f (idle_row m z p f) (sum_after (lowered p.den m.worth surplus) 0 f -ℤ paid m p)
       taken = record {
         greatest = λ s g t idle. let a = low-most g s t idle in let b = best.greatest g t in omega (arith, ints);
@@ -195,6 +206,7 @@ module _ (m : Market) (lawful : IsMarket m) (z : List ℕ) (p : Point) where
           largest s idle e (suc k) some inside member =
               elim (cases_Bool (idle_row m z p f (suc k))) [ inl y ↦ y | inr n ↦ (let h = short s idle k (omega arith) member n in absurd (omega (arith, ints))) ]
 
+      -- if the greatest lowered sum is at most all payments, no coalition blocks the point
       pub free-unblocked : sum_after (lowered p.den m.worth surplus) 0 f ≤ℤ paid m p → IsUnblocked m z p
       free-unblocked le s g t only =
           let o = offer-is g t s in
@@ -203,6 +215,7 @@ module _ (m : Market) (lawful : IsMarket m) (z : List ℕ) (p : Point) where
           let h = terms-most g s (λ k lt u. only (suc k) (omega arith) (omega arith) u) in
           omega (arith, ints)
 
+      -- if no coalition blocks the point, the greatest lowered sum is at most all payments
       pub unblocked-free : IsUnblocked m z p → sum_after (lowered p.den m.worth surplus) 0 f ≤ℤ paid m p
       unblocked-free free =
           let t = best.passed in

@@ -17,6 +17,7 @@ use Rattle.row_laws.proofs.Sums.{over-is, choice-is}
 use Rattle.row_laws.proofs.Excess.{IsPaid, low-reached, low-most}
 use Rattle.row_laws.proofs.Bits.{bits-hold}
 
+-- sums over two sets with the same members up to n are equal
 pub over-same : (s t : ℕ → Bool) (f : ℕ → ℤ) (n : ℕ) → ((j : ℕ) → 0 < j → j ≤ n → s j ≡ t j) → sum_over s f n ≡ sum_over t f n
 over-same s t f zero h = refl
 over-same s t f (suc n) h =
@@ -24,12 +25,14 @@ over-same s t f (suc n) h =
     let b = ap (λ x. cond x (f (suc n)) (pos 0)) (h (suc n) (omega arith) (omega arith)) in
     omega (arith, ints)
 
+-- a choice has equal excesses over two sets with the same bidders
 pub excess-same : (m : Market) (z : List ℕ) (p : Point) (s t : ℕ → Bool) (f : List ℕ) → ((j : ℕ) → 0 < j → j ≤ m.bidders → s j ≡ t j) → excess_of m z p s f ≡ excess_of m z p t f
 excess-same m z p s t f h =
     let a = over-same (λ j. not (s j)) (λ j. not (t j)) (λ j. p.den *ℤ worth_in m z j) m.bidders (λ j q r. ap not (h j q r)) in
     let b = over-same s t (of_bidder p.at) m.bidders h in
     omega (arith, ints)
 
+-- if a choice doesn't use the winners of a set, so it is for a set with the same bidders
 pub idle-same : (m : Market) (z f : List ℕ) (s t : ℕ → Bool) → ((j : ℕ) → 0 < j → j ≤ m.bidders → s j ≡ t j) → IsIdleSet m z f s → IsIdleSet m z f t
 idle-same m z f s t h idle j q r e = idle j q r (h j q r ∙ e)
 

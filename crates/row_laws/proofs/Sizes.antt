@@ -32,6 +32,7 @@ product (suc n) (pos d) (pos w) (pos v) r some a b c h =
     let z : d * w ≤ d * v = mul-le-mul_left d (omega (arith, ints)) in
     (omega (arith, ints), omega (arith, ints))
 
+-- den times what any one bidder wins with is at least 0 and in the range
 pub won-range : (m : Market) → IsMarket m → (z : List ℕ) → IsTrue (m.allowed z) → (den : ℤ) (r : ℕ) → pos 1 ≤ℤ den → m.bidders * unsigned_abs den * unsigned_abs (value_of m z) + r < 2 ^ 120 → (j : ℕ) → 0 < j → j ≤ m.bidders → (pos 0 ≤ℤ (den *ℤ worth_in m z j)) × ((den *ℤ worth_in m z j) <ℤ pos (2 ^ 120))
 won-range m lawful z t den r dp range j some inside =
     let w = won-low m lawful z t j some inside in
@@ -60,12 +61,14 @@ worth-range m lawful z t den r dp range =
         let p = product m.bidders den (value_of m z) (value_of m z) r (omega arith) dp (omega (arith, ints)) (omega (arith, ints)) range in
         (omega (arith, ints), p.0, p.1)
 
+-- the value of an allowed choice is never negative
 pub worth-nonneg : (m : Market) → IsMarket m → (z : List ℕ) → IsTrue (m.allowed z) → pos 0 ≤ℤ value_of m z
 worth-nonneg m lawful z t =
     let s : value_of m z ≡ total m.bidders (λ k. worth_in m z (suc k)) = choice-is m.worth z ∙ ap (λ n. total n (λ k. worth_in m z (suc k))) (lawful.lengths z t) in
     let h = total-nonneg m.bidders (λ k. worth_in m z (suc k)) (λ i lt. lawful.not_negative z (suc i) t (omega arith) (omega arith)) in
     omega (arith, ints)
 
+-- a bidder that the choice doesn't use wins with 0
 pub unused-worth : (m : Market) → IsMarket m → (z : List ℕ) (k : ℕ) → not (number_of z (suc k) == 0) ≡ false → worth_in m z (suc k) ≡ pos 0
 unused-worth m lawful z k u = by (number_of z (suc k)) u
   where

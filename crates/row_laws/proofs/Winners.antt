@@ -39,6 +39,7 @@ everyone-zip h none z xs vs =
     ∙ total-same (length z) (λ k. h (of_bidder (for_bidders z xs) (suc k)) (of_bidder (for_bidders z vs) (suc k))) (λ k. h (nth (for_bidders z xs) k) (nth (for_bidders z vs) k)) (λ k lt. let e : suc k - 1 ≡ k = omega arith in rw e refl)
     ∙ zip-sum h none z xs vs
 
+-- what all bidders pay is what the winners pay
 pub paid-zip : (z : List ℕ) (xs : List ℤ) → sum_over everyone (of_bidder (for_bidders z xs)) (length z) ≡ total (winners_in z) (nth xs)
 paid-zip z xs = everyone-zip (λ x v. x) refl z xs xs
 
@@ -67,6 +68,7 @@ loser-zero (suc i ∷ z) (x ∷ xs) zero e = absurd (lie (sym (ap not (ne_eqb (s
     lie h = cc
 loser-zero (suc i ∷ z) (x ∷ xs) (suc k) e = loser-zero z xs k (let b : suc (suc k) - 1 ≡ suc (suc k - 1) = omega arith in rw b at e)
 
+-- a number for each winner makes a list with a number for each bidder
 pub all-bidders : (z : List ℕ) (xs : List ℤ) → length (for_bidders z xs) ≡ length z
 all-bidders [] xs = refl
 all-bidders (zero ∷ z) xs = ap suc (all-bidders z xs)
