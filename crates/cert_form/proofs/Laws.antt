@@ -41,8 +41,10 @@ module _ (b s : ℕ) (bytes : List ℕ) where
   from_lines (beyond p) (faulty q) h g e = cc
   from_lines (beyond p) (beyond q) h g e = cc
 
+  -- of a certificate, bytes say at most one thing
   pub one_saying : (x y : Said CertValue ℕ) → CertSays b s bytes x → CertSays b s bytes y → x ≡ y
   one_saying x y h g = from_lines x y h g (says_one x y h g)
 
+-- for fewer than 2 ^ 100 bidders, the text of a certificate states it
 pub text_says : (b s : ℕ) (c : CertValue) → b < 2 ^ 100 → IsCertificate b s c → CertSays b s (cert_text c) (stated c)
 text_says b s c small h = (h, text_states b s small c h)

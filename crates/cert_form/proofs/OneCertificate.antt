@@ -16,6 +16,7 @@ cut (x ∷ xs) (u ∷ us) ys vs e q =
     let tails : xs ++ ys ≡ us ++ vs = cc in
     let rest = cut xs us ys vs (omega (arith, e)) tails in (cc (heads, rest.0), rest.1)
 
+-- lists of natural numbers are equal if they are so as the numbers of a line
 pub numbers_same : (a b : List ℕ) → as_numbers a ≡ as_numbers b → a ≡ b
 numbers_same [] [] e = refl
 numbers_same [] (y ∷ b) e = cc
@@ -25,9 +26,11 @@ numbers_same (x ∷ a) (y ∷ b) e =
     let tails : as_numbers a ≡ as_numbers b = cc in
     let rest = numbers_same a b tails in cc (heads, rest)
 
+-- equal lines have equal numbers
 pub numbers_of : (l k : Line) → l ≡ k → l.numbers ≡ k.numbers
 numbers_of l k e = ap (λ (x : Line). x.numbers) e
 
+-- tables whose lines are equal are equal
 pub table_same : (a b : List (List ℤ)) → table_lines a ≡ table_lines b → a ≡ b
 table_same [] [] e = refl
 table_same [] (y ∷ b) e = cc
@@ -38,6 +41,7 @@ table_same (x ∷ a) (y ∷ b) e =
     let own : x ≡ y = numbers_of (line (codes "t") x) (line (codes "t") y) heads in
     let rest = table_same a b tails in cc (own, rest)
 
+-- a table is written on as many lines as it has
 pub table_long : (a : List (List ℤ)) → length (table_lines a) ≡ length a
 table_long [] = refl
 table_long (x ∷ a) = ap suc (table_long a)
@@ -164,5 +168,6 @@ one_body b s c d g h e =
         let lowered = cut (table_lines c.lowered) (table_lines d.lowered) _ _ (omega (arith, table_long c.lowered, table_long d.lowered, g.lowered.0, h.lowered.0)) tables in
         (numbers_of _ _ pays, rows_same c.rows d.rows rows.0, table_same c.lowered d.lowered lowered.0)
 
+-- for the same bidders and states, certificates with equal lines are equal
 pub one_certificate : (b s : ℕ) (c d : CertValue) → IsCertificate b s c → IsCertificate b s d → cert_lines c ≡ cert_lines d → c ≡ d
 one_certificate b s c d g h e = one_body b s c d g h (cut _ _ (body_lines c) (body_lines d) (ap length (version_is b s c g ∙ sym (version_is b s d h))) e).1

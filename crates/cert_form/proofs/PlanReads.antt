@@ -12,6 +12,7 @@ module _ {K I : Type 0} (Fits : K → I → Type 0) (after : K → I → List K)
   Leaves [] (i ∷ is) rest = ⊥
   Leaves (k ∷ ks) (i ∷ is) rest = Fits k i × Leaves (after k i ++ ks) is rest
 
+  -- lines that leave a rest of a plan, and then lines of that rest, are together those of the plan
   pub leaves_follows : (ks : List K) (is : List I) (rest : List K) (js : List I) → Leaves ks is rest → Follows Fits after rest js → Follows Fits after ks (is ++ js)
   leaves_follows ks [] rest js l f = subst (λ (p : List K). Follows Fits after p js) (sym l) f
   leaves_follows [] (i ∷ is) rest js l f = absurd l
@@ -83,6 +84,7 @@ module _ {K I : Type 0} (Fits : K → I → Type 0) (after : K → I → List K)
   take_placed place [] js = refl
   take_placed place (i ∷ is) js = ap (λ (r : List (List ℕ × Option ℕ)). (spell i, mark spell over place i) ∷ r) (take_placed (next_place spell over place i) is js)
 
+  -- by a plan that can be followed, the reader reads just the texts whose lines are those of the plan
   pub reads : (plan : List K) → Fine plan → Reads (λ (s : Stage K I). Fine s.plan) Steps excess (begin plan) (finish spell over) (Follows Fits after plan) (placed spell over 0)
   reads plan ok = record {
     complete = λ v f. goes plan [] 0 None v ok f;

@@ -22,10 +22,12 @@ version_within : (first : Bool) → Within (version_of first)
 version_within true = (refl, tt)
 version_within false = (refl, (refl, tt))
 
+-- two lists of lines in range are in range one behind the other
 pub within_append : (xs ys : List Line) → Within xs → Within ys → Within (xs ++ ys)
 within_append [] ys a b = b
 within_append (x ∷ xs) ys a b = (a.0, within_append xs ys a.1 b)
 
+-- lines in range exceed nothing, from whatever place they stand
 pub no_excess : (p : ℕ) (ls : List Line) → Within ls → first_excess (placed spell over p ls) ≡ None
 no_excess p [] w = refl
 no_excess p (l ∷ ls) w = ap (λ (b : Bool). option_or (cond b (Some p) None) (first_excess (placed spell over (next_place spell over p l) ls))) w.0 ∙ no_excess (next_place spell over p l) ls w.1
@@ -33,17 +35,21 @@ no_excess p (l ∷ ls) w = ap (λ (b : Bool). option_or (cond b (Some p) None) (
 in_range : (z : ℤ) → InRange z → is_out z ≡ false
 in_range z h = lt-leb (2 ^ 120) (unsigned_abs z) h
 
+-- if all numbers are in range, none is out
 pub all_in_range : (zs : List ℤ) → AllInRange zs → any_out zs ≡ false
 all_in_range [] h = refl
 all_in_range (z ∷ zs) h = or_from (is_out z) (any_out zs) (in_range z h.0) (all_in_range zs h.1)
 
+-- on a line with a single number in range, none is out
 pub one_in_range : (z : ℤ) → InRange z → any_out (z ∷ []) ≡ false
 one_in_range z h = all_in_range (z ∷ []) (h, tt)
 
+-- no natural number up to a bound less than 2 ^ 120 is out of range
 pub small_numbers : (most : ℕ) (ns : List ℕ) → most < 2 ^ 120 → AtMost most ns → any_out (as_numbers ns) ≡ false
 small_numbers most [] lt h = refl
 small_numbers most (n ∷ ns) lt h = or_from (is_out (pos n)) (any_out (as_numbers ns)) (in_range (pos n) (omega (arith, lt, h.0))) (small_numbers most ns lt h.1)
 
+-- no member is greater than the number of bidders
 pub low_members : (b before : ℕ) (js : List ℕ) → AreMembers b before js → AtMost b js
 low_members b before [] h = tt
 low_members b before (j ∷ js) h = (h.1, low_members b j js h.2)
@@ -52,6 +58,7 @@ module _ (b s : ℕ) (small : b < 2 ^ 100) where
   choice_within : (choice : List ℕ) → IsChoice b choice → any_out (as_numbers choice) ≡ false
   choice_within choice h = small_numbers 65535 choice (omega arith) h.1
 
+  -- the lines of a table are in range
   pub table_within : (table : List (List ℤ)) → AreTableLines s table → Within (table_lines table)
   table_within [] h = tt
   table_within (t ∷ table) h = (all_in_range t h.1, table_within table h.2)

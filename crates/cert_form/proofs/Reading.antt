@@ -20,6 +20,7 @@ abbrev Sound : Stage Kind Line → Type 0
 Sound t = Fine t.plan
 
 module _ {whole : List Kind} (bytes : List ℕ) where
+  -- at place 0 no line is read, and the whole plan is to come
   pub reached-first : Fine whole → ReachedBy whole bytes 0 whole []
   reached-first fine = record { fine = fine; so_far = nothing_yet Sound (StepTo Fits after spell over) excess (begin whole) (finish spell over) (Follows Fits after whole) lines (plan_reads whole fine) bytes; place_is = refl; mark_is = refl }
 
@@ -78,6 +79,7 @@ module _ {whole : List Kind} (bytes : List ℕ) where
     abbrev last : Stage Kind Line
     last = record { plan = []; items = items; place = place; over = None }
 
+    -- if no byte is left at the end of the plan, the bytes are the text of the lines read
     pub reached-end : length (drop place bytes) ≡ 0 → IsTextOf (Follows Fits after whole) lines bytes items
     reached-end none = all_read Sound (StepTo Fits after spell over) excess (begin whole) (finish spell over) (Follows Fits after whole) lines (plan_reads whole here.fine) bytes place last here.so_far items
         (ap (λ (p : ℕ). record { plan = []; items = items; place = p; over = None }) (sym here.place_is) ∙ ap (λ (o : Option ℕ). record { plan = []; items = items; place = end_place spell over 0 items; over = o }) (sym here.mark_is)) none
@@ -89,6 +91,7 @@ module _ {whole : List Kind} (bytes : List ℕ) where
         nothing : (k : Kind) (ks : List Kind) → [] ≡ k ∷ ks → ⊥
         nothing k ks e = cc
 
+    -- bytes without a line feed behind the end of the plan are a fault at their place
     pub reached-tail : IsLine (drop place bytes) → 0 < length (drop place bytes) → FaultAt (Follows Fits after whole) lines bytes place
     reached-tail none some = line_missing Sound (StepTo Fits after spell over) excess (begin whole) (finish spell over) (Follows Fits after whole) lines (plan_reads whole here.fine) bytes place last here.so_far none (λ v e. some)
 

@@ -9,6 +9,7 @@ use Rattle.cert_form.specs.CertText.{line, as_numbers, choice_line, table_lines,
 use Rattle.cert_form.proofs.PlanReads.{follows_both}
 use Rattle.cert_form.proofs.Version.{just_these, version_is}
 
+-- as the numbers of a line, natural numbers are as many
 pub long_numbers : (ns : List ℕ) → length (as_numbers ns) ≡ length ns
 long_numbers [] = refl
 long_numbers (n ∷ ns) = ap suc (long_numbers ns)
@@ -17,9 +18,11 @@ low_numbers : (most : ℕ) (ns : List ℕ) → AtMost most ns → AreNumbers mos
 low_numbers most [] h = tt
 low_numbers most (n ∷ ns) h = (omega (arith, ints), omega (arith, ints, h.0), low_numbers most ns h.1)
 
+-- the line of a choice has a number of at most 65,535 for each bidder
 pub choice_fits : (b : ℕ) (choice : List ℕ) → IsChoice b choice → (length (as_numbers choice) ≡ b) × AreNumbers 65535 (as_numbers choice)
 choice_fits b choice h = (long_numbers choice ∙ h.0, low_numbers 65535 choice h.1)
 
+-- the lines of a table of n are those of a plan of n such lines
 pub table_follows : (n s : ℕ) (table : List (List ℤ)) → length table ≡ n → AreTableLines s table → Follows Fits after (replicate n (kind (codes "t") (signed s))) (table_lines table)
 table_follows zero s [] e h = tt
 table_follows zero s (t ∷ table) e h = absurd (omega (arith, e))
@@ -42,6 +45,7 @@ parts_follow b s j (suc n ∷ ns) (w ∷ ws) h =
     )
     (parts_follow b s (suc j) ns ws h.1)
 
+-- as the numbers of a line, members are each above the one before and at most the number of bidders
 pub rise : (b before : ℕ) (js : List ℕ) → AreMembers b before js → Rise b (pos before) (as_numbers js)
 rise b before [] h = tt
 rise b before (j ∷ js) h = (omega (arith, ints, h.0), omega (arith, ints, h.1), rise b j js h.2)
