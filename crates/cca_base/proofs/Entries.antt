@@ -42,6 +42,7 @@ past_head p x xs is rest =
       passes = rest.passes;
     }
 
+-- if an entry passes, there is a first that does, and its place
 pub first_found : {A : Type 0} (p : A → Bool) (xs : List A) → is_some (find p xs) ≡ true → Found p xs
 first_found p [] some = absurd (cc)
 first_found p (x ∷ xs) some =
@@ -84,6 +85,7 @@ entry_here name_of xs name i d known first =
     let at = first_found (named name_of name) xs known in
     at.found ∙ ap Some (sym (ap (λ (k : ℕ). get_or xs k d) first ∙ at.here d))
 
+-- if an entry passes, the place of the first that does is in the list
 pub place_within : {A : Type 0} (p : A → Bool) (xs : List A) → is_some (find p xs) ≡ true → position_or_len p xs < length xs
 place_within p xs known = (first_found p xs known).within
 
@@ -116,6 +118,7 @@ counts_only count name before after old new change le =
       elsewhere = λ other ne. ap view (change.others other ne);
     }
 
+-- if the count of the changed entry rose, so did the count that its name looks up
 pub counts_rose : {A : Type 0} (count : A → ℕ) (name : List ℕ) (before after : List ℕ → Option A) (old new : A)
     → ChangesOne name before after old new → Rose (count old) (count new)
     → Rose (option_map_or count (before name) 0) (option_map_or count (after name) 0)
@@ -169,6 +172,7 @@ names_more name_of text_of xs y texts i d lt names same q =
 abbrev pub AreApart : {A : Type 0} → (A → List ℕ) → List A → Type 0
 AreApart name_of xs = AllPairs (λ x y. name_of x ≢ name_of y) xs
 
+-- no two entries have one name after one more whose name none of them has
 pub apart_more : {A : Type 0} (name_of : A → List ℕ) (xs : List A) (y : A) → AreApart name_of xs → list_any (named name_of (name_of y)) xs ≡ false → AreApart name_of (xs ++ y ∷ [])
 apart_more name_of xs y apart none = all_pairs_push (λ x z. name_of x ≢ name_of z) xs y apart (λ k d lt same.
     let t : bytes_eq (name_of (get_or xs k d)) (name_of y) ≡ true = (bytes_eq-Decides (name_of (get_or xs k d)) (name_of y)).1 same in
