@@ -32,5 +32,6 @@ digits_own : (ds : List ℕ) → AreDigits ds → NoSpace ds
 digits_own [] all = tt
 digits_own (d ∷ ds) all = ((λ space. omega (arith, all.0)), digits_own ds all.1)
 
+-- the decimal text of a number below 2^120 holds no space
 pub number_own : (n : ℕ) → n < 2 ^ 120 → NoSpace (decimal n)
 number_own n small = digits_own (decimal n) (numeral_decimal n (omega arith)).digits

@@ -40,9 +40,11 @@ take-more (c ∷ text) (suc at) stop lt e = ap (λ (n : ℕ). take n (c ∷ text
     right : suc (at + 1) ≡ suc at + 1
     right = omega arith
 
+-- the first 0 bytes spell no numbers, none is kept, and none is out of range
 pub numbers-start : (text : List ℕ) → KeepsNumbers text 0 [] [] false
 numbers-start text = record { within = omega arith; front = refl; ends = λ some. absurd (omega (arith, some)); count = refl; out = refl; same = λ e. refl }
 
+-- behind the numbers so far, a space and what is kept of one more number are kept with them
 pub numbers-more : (text : List ℕ) (at : ℕ) (ns items : List ℤ) (beyond : Bool) (k : Kept) (z : ℤ) → KeepsNumbers text at ns items beyond → at < length text → get_or text at 0 ≡ 32 → KeepsNumber (drop (at + 1) text) k z
     → KeepsNumbers text (at + (k.stop + 1)) (ns ++ z ∷ []) (items ++ k.number ∷ []) (beyond || k.beyond)
 numbers-more text at ns items beyond k z h lt space kept = record {
@@ -83,6 +85,7 @@ left (n ∷ ns) (m ∷ ms) r ends e =
     last [] = tt
     last (x ∷ ms) = omega arith
 
+-- in a text of numbers, the bytes behind the numbers so far are numbers as well
 pub numbers-left : (text : List ℕ) (at : ℕ) (ns items : List ℤ) (beyond : Bool) → KeepsNumbers text at ns items beyond → (ms : List ℤ) → text ≡ numbers_text ms → (rest : List ℤ) × (drop at text ≡ numbers_text rest)
 numbers-left text at ns items beyond h ms e =
     left ns ms (drop at text) (λ some. h.ends (positive at some h.front)) (ap (λ (l : List ℕ). l ++ drop at text) (sym h.front) ∙ take-append-drop at text ∙ e)
@@ -126,5 +129,6 @@ no_field text at ns items beyond h lt none ms e =
         same : suc at + 1 ≡ suc (at + 1)
         same = omega arith
 
+-- where the numbers so far reach the end of the text, the whole text is these numbers
 pub numbers-whole : (text : List ℕ) (at : ℕ) (ns items : List ℤ) (beyond : Bool) → KeepsNumbers text at ns items beyond → length text ≤ at → HasNumbers text items beyond
 numbers-whole text at ns items beyond h le = record { numbers = ns; spelled = sym (take_all at text le) ∙ h.front; count = h.count; out = h.out; same = h.same }

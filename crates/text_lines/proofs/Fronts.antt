@@ -84,11 +84,13 @@ field_made text stop d le ends lead = record {
     high [] d some other = absurd (omega (arith, some))
     high (c ∷ ds) d some other = omega (arith, d.0.0, other)
 
+-- a field ends where a space stands
 pub ends_at : (text : List ℕ) (i : ℕ) → i < length text → get_or text i 0 ≡ 32 → FieldEnds (drop i text)
 ends_at [] i lt e = absurd (omega arith)
 ends_at (c ∷ text) zero lt e = e
 ends_at (c ∷ text) (suc i) lt e = ends_at text i (omega arith) e
 
+-- a field ends at the end of the text
 pub ends_last : (text : List ℕ) (i : ℕ) → length text ≤ i → FieldEnds (drop i text)
 ends_last [] zero le = tt
 ends_last [] (suc i) le = tt

@@ -23,10 +23,12 @@ digits_same (suc f) (suc g) n lf lg =
       | inr high ↦ digits-more f n high ∙ ap (λ (l : List ℕ). l ++ (48 + n % 10) ∷ []) (digits_same f g (n / 10) (omega arith) (omega arith)) ∙ sym (digits-more g n high)
     ]
 
+-- the numeral of a number below 10 is its one digit
 pub numeral-one : (n : ℕ) → n < 10 → numeral n ≡ (48 + n) ∷ []
 unfolding numeral
 numeral-one n lt = digits-one n n lt
 
+-- from 10 on, a numeral is that of the tenth part rounded down, and the last digit behind it
 pub numeral-more : (n : ℕ) → 10 ≤ n → numeral n ≡ numeral (n / 10) ++ (48 + n % 10) ∷ []
 unfolding numeral
 numeral-more n le = digits-more n n le ∙ ap (λ (l : List ℕ). l ++ (48 + n % 10) ∷ []) (digits_same n (suc (n / 10)) (n / 10) (omega arith) (omega arith))
@@ -64,6 +66,7 @@ good (suc f) n lt =
       | inr high ↦ subst (λ (l : List ℕ). Good l n) (sym (numeral-more n high)) (good_more n (numeral (n / 10)) high (good f (n / 10) (omega arith)))
     ]
 
+-- the digits of a numeral write its number, without a leading zero
 pub numeral_is : (n : ℕ) → IsNumeral (numeral n) n
 numeral_is n = (good (suc n) n (omega arith)).is
 
@@ -89,6 +92,7 @@ one_numeral (c ∷ d ∷ ds) n is =
     let value : read_on (c - 48) (d ∷ ds) ≡ n = ap (λ (k : ℕ). read_on k (d ∷ ds)) (omega arith) ∙ is.value in
     sym (ap numeral (sym value) ∙ numeral-on (c - 48) (d ∷ ds) (omega arith) is.digits.1 ∙ ap (λ (l : List ℕ). l ++ d ∷ ds) one)
 
+-- two numbers with the same numeral are equal
 pub numeral_one : (m n : ℕ) → numeral m ≡ numeral n → m ≡ n
 numeral_one m n e = sym (numeral_is m).value ∙ ap (read_on 0) e ∙ (numeral_is n).value
 
@@ -115,6 +119,7 @@ one_field (x ∷ xs) (y ∷ ys) r q dx dy er eq e =
     let tails : xs ++ r ≡ ys ++ q = cc in
     let rest = one_field xs ys r q dx.1 dy.1 er eq tails in (cc (heads, rest.0), rest.1)
 
+-- a text that begins with a numeral has no byte below '0' in front
 pub first_digit : (n : ℕ) (r : List ℕ) → 48 ≤ get_or (numeral n ++ r) 0 0
 first_digit n r = at (numeral n) (numeral_is n)
   where
@@ -122,6 +127,7 @@ first_digit n r = at (numeral n) (numeral_is n)
     at [] is = absurd (omega (arith, is.some))
     at (d ∷ ds) is = is.digits.0.0
 
+-- a text splits in one way into a signed number and a rest that is empty or begins below '0'
 pub one_signed : (a b : ℤ) (r q : List ℕ) → Ends r → Ends q → signed_numeral a ++ r ≡ signed_numeral b ++ q → (a ≡ b) × (r ≡ q)
 one_signed (pos m) (pos n) r q er eq e = let f = one_field (numeral m) (numeral n) r q (numeral_is m).digits (numeral_is n).digits er eq e in (ap pos (numeral_one m n f.0), f.1)
 one_signed (pos m) (negsuc n) r q er eq e = absurd (omega (arith, first_digit m r, ap (λ (l : List ℕ). get_or l 0 0) e))
@@ -132,6 +138,7 @@ one_signed (negsuc m) (negsuc n) r q er eq e =
     let same : suc m ≡ suc n = numeral_one (suc m) (suc n) f.0 in
     let less : m ≡ n = omega (arith, same) in (ap negsuc less, f.1)
 
+-- a text of numbers is empty or begins with a byte below '0'
 pub numbers-end : (ns : List ℤ) → Ends (numbers_text ns)
 numbers-end [] = tt
 numbers-end (n ∷ ns) = omega arith

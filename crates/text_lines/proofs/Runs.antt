@@ -54,6 +54,7 @@ range_drop zero ns all = all
 range_drop (suc done) [] all = tt
 range_drop (suc done) (n ∷ ns) all = range_drop done ns all.1
 
+-- where all numbers are in range, those from a place on are
 pub tail_range : (ns : List ℤ) (done : ℕ) → AllInRange ns → AllInRange (take (length ns - done) (drop done ns))
 tail_range ns done all = subst AllInRange (sym (tail_whole ns done)) (range_drop done ns all)
 

@@ -14,9 +14,11 @@ field_some text n zero f = absurd (empty (numeral n) (numeral_is n).some f.spell
     empty (d ∷ ds) some e = cc
 field_some text n (suc stop) f = omega arith
 
+-- the field of a natural number is the field of the same number with a sign
 pub plain_field : (text : List ℕ) (n stop : ℕ) → IsField text n stop → IsSignedField text (pos n) stop
 plain_field text n stop f = record { within = f.within; some = field_some text n stop f; spelled = f.spelled; ends = f.ends }
 
+-- a minus before the field of a number above 0 makes a field of its opposite, one byte longer
 pub minus_field : (rest : List ℕ) (n stop : ℕ) → IsField rest (suc n) stop → IsSignedField (45 ∷ rest) (negsuc n) (stop + 1)
 minus_field rest n stop f =
     let more : suc stop ≡ stop + 1 = omega arith in

@@ -4,6 +4,7 @@ use Rattle.std.specs.Prelude.{ℤ}
 use Rattle.text_lines.specs.Numeral.{numbers_text}
 use Rattle.text_lines.proofs.Numerals.{one_numbers}
 
+-- the first bytes of a word and a rest, as many as the word has, are the word
 pub word_front : (word rest : List ℕ) → take (length word) (word ++ rest) ≡ word
 word_front [] rest = refl
 word_front (c ∷ word) rest = ap (λ (l : List ℕ). c ∷ l) (word_front word rest)
