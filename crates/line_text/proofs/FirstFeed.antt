@@ -11,6 +11,7 @@ line_from zero bytes none = tt
 line_from (suc n) [] none = tt
 line_from (suc n) (b ∷ bytes) none = (none 0 (omega arith) (omega arith), line_from n bytes (λ i low inside. none (suc i) (omega (arith, low)) (omega (arith, inside))))
 
+-- a first line feed lies within the bytes, and those before it are a line
 pub feed_found : (bytes : List ℕ) (r : Option ℕ) → IsFirstByte (is_byte 10) bytes r → IfSome r (λ n. IsLine (take n bytes) × (drop n bytes ≡ 10 ∷ drop (n + 1) bytes) × (n < length bytes))
 feed_found bytes None first = tt
 feed_found bytes (Some n) first =
@@ -20,6 +21,7 @@ feed_found bytes (Some n) first =
       first.0.high,
     )
 
+-- bytes where no line feed is found are a line
 pub feed_none : (bytes : List ℕ) (r : Option ℕ) → IsFirstByte (is_byte 10) bytes r → IfNone r (IsLine bytes)
 feed_none bytes None first =
     subst IsLine (take_all (length bytes) bytes (omega arith)) (line_from (length bytes) bytes (λ i low inside e. first i (omega arith) inside (eq-eqb (get_or bytes i 0) 10 e)))

@@ -8,10 +8,12 @@ abbrev pub AreLines : {O : Type 0} → List (List ℕ × Option O) → Type 0
 AreLines [] = Unit {0}
 AreLines (m ∷ ms) = IsLine m.0 × AreLines ms
 
+-- the text of two lists of lines together is the text of the first and then that of the second
 pub text_of-append : {O : Type 0} (xs ys : List (List ℕ × Option O)) → text_of (xs ++ ys) ≡ text_of xs ++ text_of ys
 text_of-append [] ys = refl
 text_of-append (x ∷ xs) ys = ap (λ (l : List ℕ). x.0 ++ 10 ∷ l) (text_of-append xs ys) ∙ sym (append_assoc x.0 (10 ∷ text_of xs) (text_of ys))
 
+-- the first excess of two lists of lines together is that of the first, or else that of the second
 pub first_excess-append : {O : Type 0} (xs ys : List (List ℕ × Option O)) → first_excess (xs ++ ys) ≡ option_or (first_excess xs) (first_excess ys)
 first_excess-append [] ys = refl
 first_excess-append ((l, None) ∷ xs) ys = first_excess-append xs ys
@@ -45,6 +47,7 @@ SameLines [] (m ∷ ms) = ⊥
 SameLines (l ∷ ls) [] = ⊥
 SameLines (l ∷ ls) (m ∷ ms) = (l.0 ≡ m.0) × SameLines ls ms
 
+-- lists of the same lines have the same text, whatever stands beside the lines
 pub text_of_same : {O P : Type 0} (ls : List (List ℕ × Option O)) (ms : List (List ℕ × Option P)) → SameLines ls ms → text_of ls ≡ text_of ms
 text_of_same [] [] same = refl
 text_of_same [] (m ∷ ms) same = absurd same
@@ -67,6 +70,7 @@ pub record StopsWithin {O : Type 0} (ls ms : List (List ℕ × Option O)) : Type
   pub whole : ls ≡ start ++ after
   pub same : SameLines ms start
 
+-- of two lists of lines with which the same bytes begin, the second stops within the first or goes on from it
 pub compare_lines : {O : Type 0} (ls ms : List (List ℕ × Option O)) (x y : List ℕ) → AreLines ls → AreLines ms
     → text_of ls ++ x ≡ text_of ms ++ y → StopsWithin ls ms ⊎ GoesOn ls ms x
 compare_lines [] [] x y al am is = inl (record { start = []; after = []; whole = refl; same = tt })
@@ -79,6 +83,7 @@ compare_lines (l ∷ ls) (m ∷ ms) x y al am is =
     (λ (s : GoesOn ls ms x). inr (record { start = m ∷ s.start; next = s.next; after = s.after; whole = ap (λ (r : List _). m ∷ r) s.whole; same = (heads.0, s.same); more = s.more; rest_is = s.rest_is }))
     (compare_lines ls ms x y al.1 am.1 heads.1)
 
+-- a line with one more byte, no line feed, is a line
 pub line_push : (cs : List ℕ) (c : ℕ) → IsLine cs → c ≢ 10 → IsLine (cs ++ c ∷ [])
 line_push [] c is other = (other, tt)
 line_push (x ∷ xs) c is other = (is.0, line_push xs c is.1 other)

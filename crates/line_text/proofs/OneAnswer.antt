@@ -103,6 +103,7 @@ module _ {S V O : Type 0} (Sound : S → Type 0) (Step : S → List ℕ → S �
   fault_fault : (bytes : List ℕ) (p q : ℕ) → FaultAt IsValid lines bytes p → FaultAt IsValid lines bytes q → p ≡ q
   fault_fault bytes p q a b = omega (arith, a.here, b.here, a.longest b.front, b.longest a.front)
 
+  -- two answers that the bytes give, each a value, the place of a fault or an excess, are the same
   pub one_answer : (bytes : List ℕ) (x y : Said V O) → Says IsValid lines bytes x → Says IsValid lines bytes y → x ≡ y
   one_answer bytes (stated v) (stated w) a b = ap stated (text_text bytes v w a b)
   one_answer bytes (stated v) (faulty q) a b = absurd (b.no_text v a.valid a.spelled)

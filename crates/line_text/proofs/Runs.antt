@@ -11,14 +11,17 @@ module _ {S O : Type 0} (Step : S → List ℕ → S → Type 0) (excess : S →
   Runs s [] t = s ≡ t
   Runs s (m ∷ ms) t = (u : S) × IsLine m.0 × Step s m.0 u × (m.1 ≡ excess u) × Runs u ms t
 
+  -- a run to a stage and a run on from it are one run over the lines of both
   pub runs_append : (s t u : S) (xs ys : List (List ℕ × Option O)) → Runs s xs t → Runs t ys u → Runs s (xs ++ ys) u
   runs_append s t u [] ys first next = subst (λ (r : S). Runs r ys u) (sym first) next
   runs_append s t u (x ∷ xs) ys first next = (first.0, first.1, first.2, first.3, runs_append first.0 t u xs ys first.4 next)
 
+  -- a run over two lists of lines passes some stage between them
   pub runs_split : (s t : S) (xs ys : List (List ℕ × Option O)) → Runs s (xs ++ ys) t → (u : S) × Runs s xs u × Runs u ys t
   runs_split s t [] ys run = (s, refl, run)
   runs_split s t (x ∷ xs) ys run = let rest = runs_split run.0 t xs ys run.4 in (rest.0, (run.0, run.1, run.2, run.3, rest.1), rest.2)
 
+  -- what a run goes over are lines, none with a line feed within
   pub runs_lines : (s t : S) (ms : List (List ℕ × Option O)) → Runs s ms t → AreLines ms
   runs_lines s t [] run = tt
   runs_lines s t (m ∷ ms) run = (run.1, runs_lines run.0 t ms run.4)
@@ -101,6 +104,7 @@ module _ {S V O : Type 0} (Sound : S → Type 0) (Step : S → List ℕ → S �
         let goes = cut.2 in
         blocked on.next.0 on.more goes.1 on.rest_is goes.0 (subst (λ (r : S). Step r on.next.0 goes.0) (sym stages) goes.2)
 
+    -- behind lines without an excess, where no line leads on and no text ends, the first faulty line begins
     pub fault_at : (place : ℕ) → first_excess ms ≡ None → length (text_of ms) ≡ place
         → (blocked : (l more : List ℕ) → IsLine l → bad ≡ l ++ 10 ∷ more → (t : S) → Step s l t → ⊥) → (open_end : (v : V) → s ≡ finish v → 0 < length bad)
         → FaultAt IsValid lines bytes place
@@ -146,6 +150,7 @@ module _ {S V O : Type 0} (Sound : S → Type 0) (Step : S → List ℕ → S �
             (λ (on : GoesOn ms (lines v) bad). absurd (not_on blocked v (length (lines v)) valid (subst (λ (r : List (List ℕ × Option O)). GoesOn ms r bad) (sym (take_all (length (lines v)) (lines v) (omega arith))) on)))
             (compare_lines ms (lines v) bad [] lines_here (runs_lines Step excess begin (finish v) (lines v) run_v) (sym split ∙ is ∙ sym (append-nil (text_of (lines v)))))
 
+    -- the first excess of the lines behind the reader is what the bytes exceed first
     pub exceeds : (o : O) → first_excess ms ≡ Some o → Exceeds IsValid lines bytes o
     exceeds o first =
         let found = reads.sound ms s run in
@@ -154,6 +159,7 @@ module _ {S V O : Type 0} (Sound : S → Type 0) (Step : S → List ℕ → S �
           first = ap first_excess found.3 ∙ first;
         }
 
+    -- at a value's end, with no bytes left and no excess behind, the bytes are the text of the value
     pub is_text : (v : V) → s ≡ finish v → bad ≡ [] → first_excess ms ≡ None → IsTextOf IsValid lines bytes v
     is_text v end none within =
         let found = ended v ms (subst (λ (u : S). Runs Step excess begin ms u) end run) in
@@ -172,6 +178,7 @@ pub record SoFar {S O : Type 0} (Step : S → List ℕ → S → Type 0) (excess
   pub here : length (text_of behind) ≡ place
 
 module _ {S V O : Type 0} (Sound : S → Type 0) (Step : S → List ℕ → S → Type 0) (excess : S → Option O) (begin : S) (finish : V → S) (IsValid : V → Type 0) (lines : V → List (List ℕ × Option O)) (reads : Reads Sound Step excess begin finish IsValid lines) where
+  -- at the beginning the reader stands before place 0
   pub nothing_yet : (bytes : List ℕ) → SoFar Step excess begin bytes 0 begin
   nothing_yet bytes = record { behind = []; run = refl; within = refl; split = refl; here = refl }
 
@@ -197,6 +204,7 @@ module _ {S V O : Type 0} (Sound : S → Type 0) (Step : S → List ℕ → S �
           alone None = refl
           alone (Some x) = refl
 
+      -- by a line with a step to a stage that exceeds nothing, the reader comes behind its line feed
       pub line_taken : (t : S) → Step s (take n (drop place bytes)) t → excess t ≡ None → n < length (drop place bytes) → SoFar Step excess begin bytes (place + (n + 1)) t
       line_taken t step none lt =
           let behind = so_far.behind ++ (take n (drop place bytes), excess t) ∷ [] in
@@ -212,11 +220,13 @@ module _ {S V O : Type 0} (Sound : S → Type 0) (Step : S → List ℕ → S �
             here = long;
           }
 
+      -- where the next line has a step to a stage that exceeds a limit, the bytes exceed that limit first
       pub line_exceeds : (t : S) (o : O) → Step s (take n (drop place bytes)) t → excess t ≡ Some o → Exceeds IsValid lines bytes o
       line_exceeds t o step over =
           exceeds Sound Step excess begin finish IsValid lines reads bytes (drop (n + 1) (drop place bytes)) (so_far.behind ++ (take n (drop place bytes), excess t) ∷ []) t
           (run_more t step) (split_more (excess t)) o (marks_more (excess t) ∙ over)
 
+      -- a next line that no step takes is the first faulty line
       pub line_refused : ((t : S) → Step s (take n (drop place bytes)) t → ⊥) → FaultAt IsValid lines bytes place
       line_refused refused =
           fault_at Sound Step excess begin finish IsValid lines reads bytes (drop place bytes) so_far.behind s so_far.run so_far.split place so_far.within so_far.here
@@ -231,6 +241,7 @@ module _ {S V O : Type 0} (Sound : S → Type 0) (Step : S → List ℕ → S �
         (λ l more line is t step. no_feed l more (subst IsLine is no_line))
         open_end
 
+    -- bytes that are all read when the reader stands at the end of a value are the text of that value
     pub all_read : (v : V) → s ≡ finish v → length (drop place bytes) ≡ 0 → IsTextOf IsValid lines bytes v
     all_read v end none = is_text Sound Step excess begin finish IsValid lines reads bytes (drop place bytes) so_far.behind s so_far.run so_far.split v end (empty (drop place bytes) none) so_far.within
       where
