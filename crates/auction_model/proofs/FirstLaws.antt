@@ -165,6 +165,7 @@ module _ (passes : List ℕ → Bool) (value : List ℕ → ℤ) where
 abbrev pub AreBounded : (List ℕ → Bool) → ℕ → (ℕ → ℕ) → Type 0
 AreBounded passes n caps = (c : List ℕ) → IsTrue (passes c) → (length c ≡ n) × ((i : ℕ) → i < n → get_or c i 0 ≤ caps i)
 
+-- of choices that are bounded so, one is the first of the greatest, or none passes
 pub has-first : (n : ℕ) (caps : ℕ → ℕ) (passes : List ℕ → Bool) (value : List ℕ → ℤ) → AreBounded passes n caps → HasFirst passes value
 has-first zero caps passes value bounded = by (cases_Bool (passes []))
   where

@@ -21,6 +21,7 @@ pub record IsLineUpTo (m : Menu) (counts : ℕ → ℕ → ℤ) (supply : List �
 pub int_max-left : (a b : ℤ) → b ≤ℤ a → int_max a b ≡ a
 int_max-left a b h = omega (arith, ints, int_max_is a b)
 
+-- where the second number is at least the first, it is the greater one
 pub int_max-right : (a b : ℤ) → a ≤ℤ b → int_max a b ≡ b
 int_max-right a b h = omega (arith, ints, int_max_is a b)
 
@@ -28,12 +29,14 @@ lt-le : (a b : ℤ) → a <ℤ b → a ≤ℤ b
 lt-le a b h = omega (arith, ints)
 
 module _ (m : Menu) (counts : ℕ → ℕ → ℤ) (supply : List ℕ) (k : ℕ) where
+  -- a 0 for each place is the line after the last bidder
   pub line-last : (line : List ℤ) → k ≡ m.bidders → length line ≡ states_of supply → ((s : ℕ) → s < states_of supply → get_or line s (pos 0) ≡ pos 0) → IsLine m counts supply k line
   line-last line last places zeros = record {
     places = places;
     exact = λ s h. rw (zeros s h, last) (entry-last m counts (left_at supply s));
   }
 
+  -- line k + 1 plus what bidder k + 1 counts idle is line k with none of its bids counted
   pub line-none : (below line : List ℤ) (idle : ℤ) → idle ≡ counts (suc k) 0 → m.lots (suc k) 0 ≡ [] → IsLine m counts supply (suc k) below → length line ≡ length below → ((s : ℕ) → s < length below → get_or line s (pos 0) ≡ get_or below s (pos 0) +ℤ idle) → IsLineUpTo m counts supply k 0 line
   line-none below line idle is none e places reads = record {
     places = places ∙ e.places;
@@ -59,12 +62,14 @@ module _ (m : Menu) (counts : ℕ → ℕ → ℤ) (supply : List ℕ) (k : ℕ)
         | inr misses ↦ rw (cond-false (is_within lots left) (int_max old sum) old misses) (entry-skips m counts k left i old was misses)
       ]
 
+  -- a line raised at each place by bid i + 1 of bidder k + 1 counts one bid more
   pub line-more : (i : ℕ) (below old new : List ℤ) → IsLine m counts supply (suc k) below → IsLineUpTo m counts supply k i old → length new ≡ length old → ((s : ℕ) → s < length old → get_or new s (pos 0) ≡ raised supply below (m.lots (suc k) (suc i)) (counts (suc k) (suc i)) s (get_or old s (pos 0))) → IsLineUpTo m counts supply k (suc i) new
   line-more i below old new e was places reads = record {
     places = places ∙ was.places;
     exact = λ s h. rw (reads s (omega (arith, was.places))) (entry-raised i s below (get_or old s (pos 0)) h e (was.exact s h));
   }
 
+  -- with all bids of bidder k + 1 counted the line is line k
   pub line-all : (line : List ℤ) → k < m.bidders → IsLineUpTo m counts supply k (m.bids (suc k)) line → IsLine m counts supply k line
   line-all line inside was = record {
     places = was.places;

@@ -11,6 +11,7 @@ pub before-greater : (i j : ℕ) → i < j → IsTrue (is_number_before (suc i) 
 before-greater i j h =
     and_from (nat_lt 0 (suc i)) ((suc j == 0) || nat_lt (suc i) (suc j)) (lt-ltb 0 (suc i) (omega arith)) (or_right (suc j == 0) (nat_lt (suc i) (suc j)) (lt-ltb (suc i) (suc j) (omega arith)))
 
+-- the number of any bid is before 0
 pub before-none : (i : ℕ) → IsTrue (is_number_before (suc i) 0)
 before-none i = and_from (nat_lt 0 (suc i)) ((0 == 0) || nat_lt (suc i) 0) (lt-ltb 0 (suc i) (omega arith)) (or_left (0 == 0) (nat_lt (suc i) 0) (eq-eqb 0 0 refl))
 
@@ -25,9 +26,11 @@ before-says i j t =
       ],
     )
 
+-- no number is before itself
 pub before-self : (i : ℕ) → IsTrue (is_number_before i i) → ⊥
 before-self i t = elim (before-says i i t).1 [ inl none ↦ omega (arith, none, (before-says i i t).0) | inr low ↦ omega (arith, low) ]
 
+-- two numbers are never each before the other
 pub before-not_both : (i j : ℕ) → IsTrue (is_number_before i j) → IsTrue (is_number_before j i) → ⊥
 before-not_both i j t u =
     let p = before-says i j t in
@@ -37,6 +40,7 @@ before-not_both i j t u =
       | inr low ↦ elim q.1 [ inl none ↦ omega (arith, none, p.0) | inr high ↦ omega (arith, low, high) ]
     ]
 
+-- two numbers are the same, or one of them is before the other
 pub before-cases : (i j : ℕ) → (i ≡ j) ⊎ (IsTrue (is_number_before i j) ⊎ IsTrue (is_number_before j i))
 before-cases zero zero = inl refl
 before-cases zero (suc j) = inr (inr (before-none j))
@@ -56,12 +60,15 @@ earlier-says i j c d t =
       | inr same ↦ let p = and_parts (i == j) (is_earlier c d) same in inr (eqb-true i j p.0, p.1)
     ]
 
+-- the choice that begins with the earlier number comes first
 pub earlier-number : (i j : ℕ) (c d : List ℕ) → IsTrue (is_number_before i j) → IsTrue (is_earlier (i ∷ c) (j ∷ d))
 earlier-number i j c d before = or_left (is_number_before i j) ((i == j) && is_earlier c d) before
 
+-- of two choices with the same first number the one with the earlier rest comes first
 pub earlier-rest : (i : ℕ) (c d : List ℕ) → IsTrue (is_earlier c d) → IsTrue (is_earlier (i ∷ c) (i ∷ d))
 earlier-rest i c d rest = or_right (is_number_before i i) ((i == i) && is_earlier c d) (and_from (i == i) (is_earlier c d) (eq-eqb i i refl) rest)
 
+-- two choices never each come before the other
 pub earlier-not_both : (c d : List ℕ) → IsTrue (is_earlier c d) → IsTrue (is_earlier d c) → ⊥
 earlier-not_both [] d t u = false≢true t
 earlier-not_both (i ∷ c) [] t u = false≢true t
@@ -79,6 +86,7 @@ earlier-not_both (i ∷ c) (j ∷ d) t u =
           ]
     ]
 
+-- two choices of equally many numbers are the same, or one of them comes first
 pub earlier-cases : (c d : List ℕ) → length c ≡ length d → (c ≡ d) ⊎ (IsTrue (is_earlier c d) ⊎ IsTrue (is_earlier d c))
 earlier-cases [] [] e = inl refl
 earlier-cases [] (j ∷ d) e = absurd (omega (arith, e))

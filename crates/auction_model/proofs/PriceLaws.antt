@@ -26,6 +26,7 @@ module _ (m : Market) (law : IsMarket m) where
   bounded : (c : List ℕ) → IsTrue (m.allowed c) → (length c ≡ m.bidders) × ((i : ℕ) → i < m.bidders → get_or c i 0 ≤ m.bids (suc i))
   bounded c t = (law.lengths c t, λ i h. let low : get_or c (suc i - 1) 0 ≤ m.bids (suc i) = law.numbers c (suc i) t (omega arith) (omega (arith, h)) in let same : suc i - 1 ≡ i = omega arith in rw same at low)
 
+  -- a lawful market has a winning choice
   pub winning-exists : (c : List ℕ) × IsWinning m c
   winning-exists = by (has-first m.bidders (λ i. m.bids (suc i)) m.allowed (value_of m) bounded)
     where
@@ -33,6 +34,7 @@ module _ (m : Market) (law : IsMarket m) where
       by (inl found) = found
       by (inr none) = absurd (none (replicate m.bidders 0) law.empty)
 
+  -- two winning choices are the same
   pub winning-one : (c d : List ℕ) → IsWinning m c → IsWinning m d → c ≡ d
   winning-one c d g h = one-first m.allowed (value_of m) c d (law.lengths c g.passed ∙ sym (law.lengths d h.passed)) g h
 
@@ -55,9 +57,11 @@ module _ (m : Market) (law : IsMarket m) where
           let is : g.0 ≡ (v +ℤ value_of m z) -ℤ worth_in m z j = omega (arith, ints) in
           (v, ((λ _. subst (IsGreatestValue (allowed_without m j) (value_of m)) is g.1), (λ loses. absurd (false≢true (sym loses ∙ wins)))))
 
+  -- at each choice all bidders have Vickrey prices
   pub vickrey-exist : (z : List ℕ) → (v : ℕ → ℤ) × AreVickreyPrices m z v
   vickrey-exist z = ((λ j. (vickrey-price z j).0), (λ j some inside. (vickrey-price z j).1))
 
+-- a bidder has at most one Vickrey price at a choice
 pub vickrey-one : (m : Market) (z : List ℕ) (j : ℕ) (v w : ℤ) → IsVickreyPrice m z j v → IsVickreyPrice m z j w → v ≡ w
 vickrey-one m z j v w p q = by (cases_Bool (uses z j))
   where
@@ -70,6 +74,7 @@ vickrey-one m z j v w p q = by (cases_Bool (uses z j))
 
 -- sums over bidders
 
+-- two sums over the same bidders are equal where each bidder's numbers are
 pub over-same : (s : ℕ → Bool) (f g : ℕ → ℤ) (n : ℕ) → ((j : ℕ) → 0 < j → j ≤ n → f j ≡ g j) → sum_over s f n ≡ sum_over s g n
 over-same s f g zero same = refl
 over-same s f g (suc n) same =
@@ -183,6 +188,7 @@ module _ (m : Market) (law : IsMarket m) (w : ℕ → ℕ) (z : List ℕ) (p q :
       strict : (x y : ℤ) → x <ℤ y → y <ℤ x → ⊥
       strict x y h k = omega (arith, ints, h, k)
 
+  -- both outcomes ask the same payment of each bidder
   pub outcome-one : SamePoint m p q
   outcome-one j some inside =
       by_lt_z (q.den *ℤ of_bidder p.at j) (p.den *ℤ of_bidder q.at j)
@@ -202,6 +208,7 @@ blocking-none m z p free k f blocks = let most = free k f blocks.allowed blocks.
     strict : (x y : ℤ) → x <ℤ y → y ≤ℤ x → ⊥
     strict x y h k = omega (arith, ints, h, k)
 
+-- where no coalition blocks with any choice, none offers more than all pay
 pub none-blocking : (m : Market) (z : List ℕ) (p : Point) → ((k : ℕ → Bool) (f : List ℕ) → IsBlocking m z p k f → ⊥) → IsUnblocked m z p
 none-blocking m z p none k f allowed within =
     by_lt_z (paid m p) (offer m z p k f) (λ more. absurd (none k f (record { allowed = allowed; within = within; more = more }))) (λ most. most)

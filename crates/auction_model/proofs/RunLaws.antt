@@ -23,18 +23,22 @@ pub width-first : (supply : List ℕ) → 0 < length supply → get_or (widths_o
 width-first [] h = absurd (omega arith)
 width-first (u ∷ supply) h = refl
 
+-- all widths but the first are those of the supply without its first category
 pub widths-rest : (supply : List ℕ) → drop 1 (widths_of supply) ≡ widths_of (drop 1 supply)
 widths-rest [] = refl
 widths-rest (u ∷ supply) = refl
 
+-- there is one width for each category
 pub widths-count : (supply : List ℕ) → length (widths_of supply) ≡ length supply
 widths-count [] = refl
 widths-count (u ∷ supply) = ap suc (widths-count supply)
 
+-- there are as many blocks as lots of the first category, and one more, and they hold all places
 pub states-first : (supply : List ℕ) → 0 < length supply → states_of supply ≡ (get_or supply 0 0 + 1) * states_of (drop 1 supply)
 states-first [] h = absurd (omega arith)
 states-first (u ∷ supply) h = omega arith
 
+-- a block has no more places than the whole supply
 pub width-at_most : (supply : List ℕ) → 0 < length supply → states_of (drop 1 supply) ≤ states_of supply
 width-at_most [] h = absurd (omega arith)
 width-at_most (u ∷ supply) h = omega arith
@@ -61,6 +65,7 @@ raised-high (u ∷ supply) (a ∷ p) below part worth q r old some few h high re
 split-place : (S s : ℕ) → 0 < S → s / S * S + s % S ≡ s
 split-place S s h = div-add-mod' s S
 
+-- places before the first block with enough of the first category keep their entries
 pub raised-before : (supply p : List ℕ) (below : List ℤ) (worth : ℤ) (s : ℕ) (old : ℤ) → 0 < length p → length p ≤ length supply → s < get_or p 0 0 * states_of (drop 1 supply) → raised supply below p worth s old ≡ old
 raised-before supply p below worth s old some few h =
     let S = states_of (drop 1 supply) in
@@ -107,6 +112,7 @@ module _ (supply p : List ℕ) (below line ys : List ℤ) (worth : ℤ) (one : l
   from : ℕ
   from = get_or p 0 0 * states_of (drop 1 supply)
 
+  -- with the run from the bid's first place written anew each place of the line is as after the bid
   pub run-back : (start k : ℕ) → start ≡ get_or p 0 0 * states_of (drop 1 supply) → k ≡ length line - start → start ≤ length line → length ys ≡ k
       → ((i : ℕ) → i < k → get_or ys i (pos 0) ≡ int_max (get_or line (start + i) (pos 0)) (worth +ℤ get_or below i (pos 0)))
       → (s : ℕ) → s < length line → get_or (put_mid start k line ys) s (pos 0) ≡ raised supply below p worth s (get_or line s (pos 0))
@@ -130,6 +136,7 @@ module _ (supply p : List ℕ) (below line ys : List ℤ) (worth : ℤ) (one : l
 -- one block written back into the line
 module _ (supply p : List ℕ) (below initial line ys : List ℤ) (worth : ℤ) (some : 0 < length p) (few : length p ≤ length supply) (q S : ℕ) (width : S ≡ states_of (drop 1 supply))
     (rest : (s : ℕ) → q * S ≤ s → get_or line s (pos 0) ≡ get_or initial s (pos 0)) (k : ℕ) (k-is : k ≡ S) (inside : q * S ≤ length line) (count : length ys ≡ k) where
+  -- with block q written anew the places to its end are as after the bid, if those before it were
   pub block-done : (part : List ℤ) → get_or p 0 0 ≤ q
       → ((i : ℕ) → i < S → get_or part i (pos 0) ≡ get_or below ((q - get_or p 0 0) * S + i) (pos 0))
       → ((i : ℕ) → i < S → get_or ys i (pos 0) ≡ raised (drop 1 supply) part (drop 1 p) worth i (get_or line (q * S + i) (pos 0)))
@@ -154,6 +161,7 @@ module _ (supply p : List ℕ) (below initial line ys : List ℤ) (worth : ℤ) 
             ∙ ap (λ n. raised supply below p worth n (get_or initial n (pos 0))) up
       ]
 
+  -- the places past block q are still as they were at first
   pub block-rest : (s : ℕ) → (q + 1) * S ≤ s → get_or (put_mid (q * S) k line ys) s (pos 0) ≡ get_or initial s (pos 0)
   block-rest s h =
       let more : (q + 1) * S ≡ q * S + S = omega arith in

@@ -29,8 +29,10 @@ each P p1 p2 p3 p4 p5 p6 p7 p8 p9 p10 p11 p12 p13 p14 p15 p16 p17 p18 p19 p20 (s
 each P p1 p2 p3 p4 p5 p6 p7 p8 p9 p10 p11 p12 p13 p14 p15 p16 p17 p18 p19 p20 (suc (suc (suc (suc (suc (suc (suc (suc (suc (suc (suc (suc (suc (suc (suc (suc (suc (suc (suc (suc zero)))))))))))))))))))) some most = p20
 each P p1 p2 p3 p4 p5 p6 p7 p8 p9 p10 p11 p12 p13 p14 p15 p16 p17 p18 p19 p20 (suc (suc (suc (suc (suc (suc (suc (suc (suc (suc (suc (suc (suc (suc (suc (suc (suc (suc (suc (suc (suc n))))))))))))))))))))) some most = absurd (omega arith)
 
+-- the share of a weight from 1 to 20, times the weight, is 232,792,560
 pub share-whole : (n : ℕ) → 1 ≤ n → n ≤ 20 → share n *ℤ pos n ≡ pos 232792560
 share-whole = each (λ n. share n *ℤ pos n ≡ pos 232792560) refl refl refl refl refl refl refl refl refl refl refl refl refl refl refl refl refl refl refl refl
 
+-- the share of a weight from 1 to 20 is above 0
 pub share-positive : (n : ℕ) → 1 ≤ n → n ≤ 20 → pos 0 <ℤ share n
 share-positive = each (λ n. pos 0 <ℤ share n) (omega (arith, ints)) (omega (arith, ints)) (omega (arith, ints)) (omega (arith, ints)) (omega (arith, ints)) (omega (arith, ints)) (omega (arith, ints)) (omega (arith, ints)) (omega (arith, ints)) (omega (arith, ints)) (omega (arith, ints)) (omega (arith, ints)) (omega (arith, ints)) (omega (arith, ints)) (omega (arith, ints)) (omega (arith, ints)) (omega (arith, ints)) (omega (arith, ints)) (omega (arith, ints)) (omega (arith, ints))

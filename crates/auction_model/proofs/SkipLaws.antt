@@ -90,6 +90,7 @@ pub entry-skip : (m : Menu) (counts : ℕ → ℕ → ℤ) (supply : List ℕ) (
 entry-skip m counts supply j most some e =
     IsGreatestValue-same (fits_after (without m j) 0 supply) (λ c. fits_after m 0 supply c && not (uses c j)) (sum_after counts 0) most (λ c. fits-skip m j supply c some) e
 
+-- the first of the greatest with bidder j left out is that of the fitting choices that don't use j
 pub first-skip : (m : Menu) (counts : ℕ → ℕ → ℤ) (supply : List ℕ) (j : ℕ) (c : List ℕ) → 0 < j → IsFirstGreatest (fits_after (without m j) 0 supply) (sum_after counts 0) c → IsFirstGreatest (λ d. fits_after m 0 supply d && not (uses d j)) (sum_after counts 0) c
 first-skip m counts supply j c some g =
     IsFirstGreatest-same (fits_after (without m j) 0 supply) (λ d. fits_after m 0 supply d && not (uses d j)) (sum_after counts 0) (sum_after counts 0) c (λ d. fits-skip m j supply d some) (λ d. refl) g

@@ -6,6 +6,7 @@ use Rattle.auction_model.specs.Package.{is_within, less, IsNothingFrom}
 use Rattle.auction_model.specs.Place.{states_of, place_of, left_at}
 use Rattle.auction_model.specs.Steps.{raised}
 
+-- a package of no lots is within every supply
 pub nothing-within : (p l : List ℕ) → IsNothingFrom 0 p → is_within p l ≡ true
 nothing-within [] l h = refl
 nothing-within (a ∷ p) [] h = rw (h 0 (omega arith)) (nothing-within p [] (λ k low. h (suc k) (omega arith)))
@@ -18,6 +19,7 @@ nothing-less (a ∷ p) (b ∷ l) h =
     let same : b - a ≡ b = omega (arith, h 0 (omega arith)) in
     rw (same, nothing-less p l (λ k low. h (suc k) (omega arith))) refl
 
+-- a package cut where it has nothing more is within the same supplies
 pub trim-within : (n : ℕ) (p l : List ℕ) → IsNothingFrom n p → is_within (take n p) l ≡ is_within p l
 trim-within zero p l h = sym (nothing-within p l h)
 trim-within (suc n) [] l h = refl
@@ -30,6 +32,7 @@ trim-less zero p (b ∷ l) h = sym (nothing-less p (b ∷ l) h)
 trim-less (suc n) [] (b ∷ l) h = refl
 trim-less (suc n) (a ∷ p) (b ∷ l) h = ap (λ r. (b - a) ∷ r) (trim-less n p l (λ k low. h (suc k) (omega arith)))
 
+-- an entry is raised alike by a bid and by the bid without its empty end
 pub raised-trim : (n : ℕ) (supply p : List ℕ) (below : List ℤ) (worth : ℤ) (s : ℕ) (old : ℤ) → IsNothingFrom n p → raised supply below (take n p) worth s old ≡ raised supply below p worth s old
 raised-trim n supply p below worth s old h = rw (trim-within n p (left_at supply s) h, trim-less n p (left_at supply s) h) refl
 

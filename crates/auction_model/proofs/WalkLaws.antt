@@ -41,6 +41,7 @@ module _ (m : Menu) (counts : ℕ → ℕ → ℤ) (supply : List ℕ) (j s : �
   next : suc (j - 1) ≡ j
   next = omega arith
 
+  -- what bidder j counts with a number that fits, and the rest with what is left, is at most the entry
   pub number-bounds : (i : ℕ) → i ≤ m.bids j → IsTrue (is_within (m.lots j i) (left_at supply s)) → sum_with m counts supply j s below i ≤ℤ here
   number-bounds i known own = rw next at (sum-bounds m counts supply (j - 1) s (omega arith) place here below e (rw next b) i (rw next known) (rw next own))
 

@@ -14,6 +14,7 @@ over-scale f (suc n) = step (sum_over everyone (λ j. pos 232792560 *ℤ f j) n)
     step : (x y a : ℤ) → x ≡ pos 232792560 *ℤ y → x +ℤ pos 232792560 *ℤ a ≡ pos 232792560 *ℤ (y +ℤ a)
     step x y a e = omega (arith, ints, e)
 
+-- with all weights 1 the distance is 232,792,560 times the plain sum of squares
 pub plain-distance : (m : Market) (v : ℕ → ℤ) (p : Point)
     → square_distance m alike v p ≡ pos 232792560 *ℤ sum_over everyone (λ j. (of_bidder p.at j -ℤ (p.den *ℤ v j)) *ℤ (of_bidder p.at j -ℤ (p.den *ℤ v j))) m.bidders
 plain-distance m v p = over-scale (λ j. (of_bidder p.at j -ℤ (p.den *ℤ v j)) *ℤ (of_bidder p.at j -ℤ (p.den *ℤ v j))) m.bidders
@@ -24,12 +25,14 @@ module _ (m : Market) (w y : ℕ → ℕ) (same : (j : ℕ) → 0 < j → j ≤ 
       over-same everyone (λ j. share (w j) *ℤ ((of_bidder p.at j -ℤ (p.den *ℤ v j)) *ℤ (of_bidder p.at j -ℤ (p.den *ℤ v j)))) (λ j. share (y j) *ℤ ((of_bidder p.at j -ℤ (p.den *ℤ v j)) *ℤ (of_bidder p.at j -ℤ (p.den *ℤ v j)))) m.bidders
       (λ j some inside. ap (λ n. share n *ℤ ((of_bidder p.at j -ℤ (p.den *ℤ v j)) *ℤ (of_bidder p.at j -ℤ (p.den *ℤ v j)))) (same j some inside))
 
+  -- the nearest point is the same by weights that are equal for all bidders
   pub nearest-same : (v : ℕ → ℤ) (Among : Point → Type 0) (p : Point) → IsNearestTo m w v Among p → IsNearestTo m y v Among p
   nearest-same v Among p h q among sums apart =
       let less : ((q.den *ℤ q.den) *ℤ square_distance m w v p) <ℤ ((p.den *ℤ p.den) *ℤ square_distance m w v q) = h q among sums apart in
       subst (λ x. ((q.den *ℤ q.den) *ℤ x) <ℤ ((p.den *ℤ p.den) *ℤ square_distance m y v q)) (distance-same v p)
       (subst (λ x. ((q.den *ℤ q.den) *ℤ square_distance m w v p) <ℤ ((p.den *ℤ p.den) *ℤ x)) (distance-same v q) less)
 
+-- a core outcome is one too by other weights that are equal for all bidders
 pub outcome-weights : (m : Market) (w y : ℕ → ℕ) (z : List ℕ) (p : Point) → ((j : ℕ) → 0 < j → j ≤ m.bidders → w j ≡ y j) → IsCoreOutcome m w z p → IsCoreOutcome m y z p
 outcome-weights m w y z p same h = record {
   greatest = h.greatest;
