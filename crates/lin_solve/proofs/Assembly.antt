@@ -20,6 +20,7 @@ use Rattle.lin_solve.proofs.CommonFacts.{den_small}
 use Rattle.lin_solve.proofs.PivotFacts.{c_small, part_small}
 use Rattle.lin_solve.proofs.Shared.{Common, common}
 
+-- a list that is a clearing for column i isn't all 0 and has the product 0 with each column but that one
 pub clears_of : (i : ℕ) (lines : List (List ℤ)) (f : List ℤ) → IsClearing lines i f → Clears (length lines) (row lines) (nth f) i
 clears_of i lines f c = record { place = c.place; below = c.below; apart = c.apart; clear = c.clear }
 
@@ -78,6 +79,7 @@ module _ (lines : List (List ℤ)) (fars nears : List ℤ) (ps : List Pivot) (sy
   own_shared : Common (length lines) system.limit (λ (m i : ℕ). pos (unsigned_abs (row lines m i))) (nth fars) (nth nears)
   own_shared = shared_by system.limit system.within.some system.within.sized
 
+  -- the pivots are whole over some number, whose products with all their parts stay in the range
   pub have_common : HaveCommon ps
   have_common = record {
     k = pos own_shared.den;
@@ -122,6 +124,7 @@ module _ (lines : List (List ℤ)) (fars nears : List ℤ) (ps : List Pivot) (sy
     up : (i : ℕ) → i < length lines → i < length ps
     up i l = subst (λ (n : ℕ). i < n) (sym long) l
 
+    -- the values of the pivots over their common denominator are the only solution of the system, for both parts
     pub one_solution : IsOneSolution lines (nth fars) (nth nears) den values
     one_solution = record {
       positive = cd.positive;
@@ -151,6 +154,7 @@ module _ (lines : List (List ℤ)) (fars nears : List ℤ) (ps : List Pivot) (sy
       den_within : unsigned_abs den ≤ limit ^ length lines
       den_within = den_small ps den (pos by_limit.den) (limit ^ length lines) cd.least (omega (arith, ints, by_limit.some)) (whole_by limit by_limit) by_limit.small
 
+      -- by each limit that the system keeps, the answer of this denominator and these values is small
       pub small_answer : IsSmallAnswer (limit ^ length lines + 1) (most limit edge (length lines) + 1) (One den values)
       small_answer = (
         omega (arith, den_within),

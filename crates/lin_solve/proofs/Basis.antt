@@ -9,9 +9,11 @@ use Rattle.wide_num.specs.Sums.{dot}
 use Rattle.lin_solve.proofs.Siegel.{Solves}
 use Rattle.lin_solve.specs.Bounds.{nat_total}
 
+-- no flag is both true and false
 pub true_false : {X : Type 0} (b : Bool) → b ≡ true → b ≡ false → X
 true_false b e f = cc
 
+-- a multiple of one solution less a multiple of another is a solution too
 pub Solves-lin : (n : ℕ) (s t : ℤ) (z y : ℕ → ℤ) (rows : List (ℕ → ℤ)) → Solves n z rows → Solves n y rows → Solves n (λ (i : ℕ). s *ℤ z i -ℤ t *ℤ y i) rows
 Solves-lin n s t z y [] h k = tt
 Solves-lin n s t z y (a ∷ rows) h k = (
@@ -44,6 +46,7 @@ pub record Basis (n : ℕ) (free : ℕ → Bool) (kept : List (ℕ → ℤ)) (v 
   pub only : (z : ℕ → ℤ) → Solves n z kept → ((l : ℕ) → l < n → free l ≡ true → z l ≡ pos 0) → (l : ℕ) → l < n → z l ≡ pos 0
   pub count : length kept ≤ taken n free
 
+-- where all coordinates are free, their unit rows are a basis for no rows at all
 pub start : (n : ℕ) (free : ℕ → Bool) (v : ℕ → ℕ → ℤ) → ((j : ℕ) → j < n → free j ≡ true) → ((j : ℕ) → j < n → v j j ≡ pos 1) → ((j l : ℕ) → j < n → l < n → l ≢ j → v j l ≡ pos 0) → Basis n free [] v
 start n free v all one none = record {
   own = λ j b f e. absurd (omega (arith, ints, one j b, e));
@@ -59,9 +62,11 @@ pub record Cleared (n : ℕ) (a vj vp v' : ℕ → ℤ) : Type 0 where
   pub apart : g ≢ pos 0
   pub is : (i : ℕ) → i < n → g *ℤ v' i ≡ dot n a vp *ℤ vj i -ℤ dot n a vj *ℤ vp i
 
+-- a product less the same product with its factors swapped is 0
 pub minus_same : (x y : ℤ) → x *ℤ y -ℤ y *ℤ x ≡ pos 0
 minus_same x y = omega (arith, lin, *ℤ_comm x y)
 
+-- a multiple of 0 less a multiple of 0 is 0
 pub minus_zero : (s t x y : ℤ) → x ≡ pos 0 → y ≡ pos 0 → s *ℤ x -ℤ t *ℤ y ≡ pos 0
 minus_zero s t x y e f = omega (arith, lin, ap (λ (d : ℤ). s *ℤ d) e, ap (λ (d : ℤ). t *ℤ d) f, *ℤ-zero s, *ℤ-zero t)
 
@@ -71,6 +76,7 @@ left_zero s t x y e h = omega (arith, lin, ap (λ (d : ℤ). t *ℤ d) e, *ℤ-z
 right_zero : (s t x y : ℤ) → x ≡ pos 0 → s *ℤ x -ℤ t *ℤ y ≡ pos 0 → t *ℤ y ≡ pos 0
 right_zero s t x y e h = omega (arith, lin, ap (λ (d : ℤ). s *ℤ d) e, *ℤ-zero s, h)
 
+-- where one free coordinate is free no more and all others stay as they are, one more is taken
 pub taken_one : (n p : ℕ) (f g : ℕ → Bool) → p < n → f p ≡ true → g p ≡ false → ((i : ℕ) → i ≢ p → g i ≡ f i) → taken n g ≡ suc (taken n f)
 taken_one zero p f g l a b h = absurd (omega arith)
 taken_one (suc n) zero f g l a b h =
@@ -133,6 +139,7 @@ module _ (n : ℕ) (free free' : ℕ → Bool) (kept : List (ℕ → ℤ)) (v v'
       clear : (s t x y : ℤ) → t ≡ pos 0 → s *ℤ x -ℤ t *ℤ y ≡ pos 0 → s *ℤ x ≡ pos 0
       clear s t x y e h = omega (arith, lin, ap (λ (d : ℤ). y *ℤ d) e, *ℤ_comm t y, *ℤ-zero y, h)
 
+  -- with p free no more, the rows cleared at p are a basis for the kept rows and one more
   pub step : Basis n free' (a ∷ kept) v'
   step = record {
     own = new_own;

@@ -32,6 +32,7 @@ module _ (out : ℕ) (lines all : List (List ℤ)) (b : IsBounded lines) (lo : o
                 (h k l)
           ]
 
+  -- the kept columns, as lines, are as long as there are lines and keep a limit that leaves room
   pub kept_lines : AreLines (length lines) all
   kept_lines = record {
     limit = b.limit;
@@ -41,6 +42,7 @@ module _ (out : ℕ) (lines all : List (List ℤ)) (b : IsBounded lines) (lo : o
     sized = sizes b.limit b.columns;
   }
 
+  -- the kept columns, as lines, send more than 0 to 0
   pub never : OnlyZero (length lines) all → ⊥
   never only =
       let w : Solvable (length lines) (row all) (unit out) =
@@ -49,6 +51,7 @@ module _ (out : ℕ) (lines all : List (List ℤ)) (b : IsBounded lines) (lo : o
       dot_comm (length lines) (row all out) w.y ∙ dot-zero (length lines) w.y (row all out) (λ k l. (columns out lo).zero refl k l) in
       w.apart (sym (*ℤ-one w.d) ∙ ap (λ (x : ℤ). w.d *ℤ x) (sym (unit-same out)) ∙ sym (w.is out lo) ∙ z)
 
+  -- a kernel row of the kept columns is a clearing for the column that is left out
   pub clears : (f : List ℤ) → IsKernelRow (length lines) all f → IsClearing lines out f
   clears f k = record {
     long = k.long;

@@ -30,16 +30,19 @@ pub sign_of : ℤ → ℤ
 sign_of (pos n) = pos 1
 sign_of (negsuc n) = negsuc 0
 
+-- the size of a number is its sign times the number
 pub size_is : (z : ℤ) → pos (unsigned_abs z) ≡ sign_of z *ℤ z
 unfolding sign_of
 size_is (pos n) = omega (arith, ints)
 size_is (negsuc n) = omega (arith, ints)
 
+-- a number is its sign times its size
 pub from_size : (z : ℤ) → sign_of z *ℤ pos (unsigned_abs z) ≡ z
 unfolding sign_of
 from_size (pos n) = omega (arith, ints)
 from_size (negsuc n) = omega (arith, ints)
 
+-- a sign times itself is 1
 pub sign_twice : (c : ℤ) → sign_of c *ℤ sign_of c ≡ pos 1
 unfolding sign_of
 sign_twice (pos n) = refl
@@ -49,6 +52,7 @@ abbrev front : ℤ → (ℕ → ℤ) → ℕ → ℤ
 front x f zero = x
 front x f (suc i) = f i
 
+-- d and any n numbers have a common divisor that is a combination of them
 pub content : (n d : ℕ) (p : ℕ → ℤ) → Content n d p
 content zero d p = record { g = d; rest = 1; whole = omega arith; x = pos 1; e = λ (i : ℕ). pos 0; sum_is = omega (arith, ints); part = λ (i : ℕ). pos 0; parts = λ i l. absurd (omega arith) }
 content (suc n) d p =
@@ -91,6 +95,7 @@ pub record Rest (d : ℕ) (z : ℤ) : Type 0 where
   pub below : r < d
   pub is : z ≡ pos r +ℤ pos d *ℤ q
 
+-- by a d of at least 1, each number leaves a remainder from 0 to below d
 pub rest_of : (d : ℕ) (z : ℤ) → 1 ≤ d → Rest d z
 rest_of d (pos n) h = record { r = n % d; q = pos (n / d); below = mod-lt n h; is = omega (arith, ints, div-add-mod n d) }
 rest_of d (negsuc n) h =
@@ -323,6 +328,7 @@ module _ (n s d : ℕ) (a : ℕ → ℕ → ℕ) (p q b c : ℕ → ℤ) (s1 : 1
       pair_same : (i ≡ i') × (j ≡ j')
       pair_same = (first second, second)
 
+    -- where d and the numerators of both solutions combine to 1, d is at most the limit to the power of the lines
     pub least_den : d ≤ s ^ n
     least_den =
         elim (cases_lt (s ^ n) d) [

@@ -31,6 +31,7 @@ divided g a h z =
     ∙ ap pos (let e : unsigned_abs g * (unsigned_abs a / unsigned_abs g) ≡ unsigned_abs a = omega (arith, div-add-mod (unsigned_abs a) (unsigned_abs g)) in e))
     ∙ from_size a
 
+-- the greatest common divisor of the sizes of two numbers is a combination of the two and divides both
 pub gcd_parts : (a b g : ℤ) → pos 0 ≤ℤ g → IsGcd (unsigned_abs a) (unsigned_abs b) (unsigned_abs g) → GcdParts a b g
 gcd_parts a b g h is =
     let w = bezout (unsigned_abs a) (unsigned_abs b) (unsigned_abs g) is in
@@ -59,9 +60,11 @@ patch-other : (f : ℕ → ℤ) (n : ℕ) (x : ℤ) (k : ℕ) → k ≢ n → pa
 unfolding patch
 patch-other f n x k h = elim (cases_eq k n) as (λ c. elim c as (λ _. ℤ) [ inl e ↦ x | inr ne ↦ f k ] ≡ f k) [ inl e ↦ absurd (h e) | inr ne ↦ refl ]
 
+-- the content of no numbers is 0
 pub content_none : (v : ℕ → ℤ) → ContentOf 0 v (pos 0)
 content_none v = record { e = v; sum_is = refl; part = v; parts = λ i l. absurd (omega arith) }
 
+-- what the content of the first n numbers shares with the next number is the content of n + 1 numbers
 pub content_more : (n : ℕ) (v : ℕ → ℤ) (g h : ℤ) → ContentOf n v g → GcdParts g (v n) h → ContentOf (suc n) v h
 content_more n v g h c w = record {
   e = patch (λ (k : ℕ). w.s *ℤ c.e k) n w.t;

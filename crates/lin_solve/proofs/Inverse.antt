@@ -16,15 +16,18 @@ abbrev pub rows_of : ℕ → (ℕ → ℕ → ℤ) → List (ℕ → ℤ)
 rows_of zero a = []
 rows_of (suc m) a = a zero ∷ rows_of m (λ (k : ℕ). a (suc k))
 
+-- the first m rows are m in number
 pub length-rows_of : (m : ℕ) (a : ℕ → ℕ → ℤ) → length (rows_of m a) ≡ m
 length-rows_of zero a = refl
 length-rows_of (suc m) a = ap suc (length-rows_of m (λ (k : ℕ). a (suc k)))
 
+-- a solution of the first m rows is sent to 0 by each of them
 pub Solves-at : (n m : ℕ) (a : ℕ → ℕ → ℤ) (z : ℕ → ℤ) → Solves n z (rows_of m a) → (k : ℕ) → k < m → dot n (a k) z ≡ pos 0
 Solves-at n zero a z h k l = absurd (omega arith)
 Solves-at n (suc m) a z h zero l = h.0
 Solves-at n (suc m) a z h (suc k) l = Solves-at n m (λ (i : ℕ). a (suc i)) z h.1 k (omega arith)
 
+-- what each of the first m rows sends to 0 is a solution of them all
 pub Solves-all : (n m : ℕ) (a : ℕ → ℕ → ℤ) (z : ℕ → ℤ) → ((k : ℕ) → k < m → dot n (a k) z ≡ pos 0) → Solves n z (rows_of m a)
 Solves-all n zero a z h = tt
 Solves-all n (suc m) a z h = (h zero (omega arith), Solves-all n m (λ (i : ℕ). a (suc i)) z (λ k l. h (suc k) (omega arith)))
@@ -66,6 +69,7 @@ abbrev beside : (ℕ → ℕ → ℤ) → (ℕ → ℤ) → ℕ → ℕ → ℤ
 beside a b k zero = b k
 beside a b k (suc i) = a k i
 
+-- where the matrix sends only 0 to 0, each right side has a solution over some d other than 0
 pub solvable : (n : ℕ) (a : ℕ → ℕ → ℤ) → Injective n a → (b : ℕ → ℤ) → Solvable n a b
 solvable n a inj b =
     let w = few_rows (suc n) n (beside a b) (omega arith) in
@@ -100,13 +104,16 @@ pub record Clears (n : ℕ) (a : ℕ → ℕ → ℤ) (f : ℕ → ℤ) (i : ℕ
   pub apart : f place ≢ pos 0
   pub clear : (k : ℕ) → k < n → k ≢ i → dot n f (λ (m : ℕ). a m k) ≡ pos 0
 
+-- 1 at place p and 0 at all others
 pub unit : ℕ → ℕ → ℤ
 unit p k = elim (cases_eq k p) [ inl e ↦ pos 1 | inr ne ↦ pos 0 ]
 
+-- the unit row of p is 1 at p
 pub unit-same : (p : ℕ) → unit p p ≡ pos 1
 unfolding unit
 unit-same p = elim (cases_eq p p) as (λ c. elim c as (λ _. ℤ) [ inl e ↦ pos 1 | inr ne ↦ pos 0 ] ≡ pos 1) [ inl e ↦ refl | inr ne ↦ absurd (ne refl) ]
 
+-- the unit row of p is 0 at each place other than p
 pub unit-other : (p k : ℕ) → k ≢ p → unit p k ≡ pos 0
 unfolding unit
 unit-other p k h = elim (cases_eq k p) as (λ c. elim c as (λ _. ℤ) [ inl e ↦ pos 1 | inr ne ↦ pos 0 ] ≡ pos 0) [ inl e ↦ absurd (h e) | inr ne ↦ refl ]
@@ -118,6 +125,7 @@ pick n a f z i l h =
     ∙ total-one n i (λ (k : ℕ). dot n f (λ (m : ℕ). a m k) *ℤ z k) l
     (λ k b ne. *ℤ_comm (dot n f (λ (m : ℕ). a m k)) (z k) ∙ ap (λ (x : ℤ). z k *ℤ x) (h k b ne) ∙ *ℤ-zero (z k))
 
+-- where the matrix sends only 0 to 0, a clearing row and the column that it leaves have a product other than 0
 pub pivot : (n : ℕ) (a : ℕ → ℕ → ℤ) → Injective n a → (f : ℕ → ℤ) (i : ℕ) → i < n → Clears n a f i → dot n f (λ (m : ℕ). a m i) ≢ pos 0
 pivot n a inj f i l c e =
     let w : Solvable n a (unit c.place) = solvable n a inj (unit c.place) in

@@ -20,6 +20,7 @@ module _ (count top edge : ℕ) (m : List (List ℤ)) (right : List Far) (ys zs 
   row_le : (a : ℕ → ℤ) → IsWithin top (length m) a → size (length m) a ≤ count * top
   row_le a w = le_trans {m = length m * top} (size_small (length m) top a w) (mul-le-mul sys.lines (le_refl top))
 
+  -- the lines and columns keep the limit of count times top, and both parts of the right side keep the edge
   pub within_limits : IsWithinLimits (count * top) edge m ys zs
   within_limits = record {
     some = some;
@@ -33,12 +34,15 @@ module _ (count top edge : ℕ) (m : List (List ℤ)) (right : List Far) (ys zs 
   bound_le : bound (count * top) (length m) ≤ bound (count * top) count
   bound_le = let l : length m - 1 ≤ count - 1 = omega (arith, sys.lines) in pow-le-pow_right some l
 
+  -- the limit to the power of the lines is at most the limit to the power of the count
   pub den_le : (count * top) ^ length m ≤ (count * top) ^ count
   den_le = pow-le-pow_right some sys.lines
 
+  -- the most that a value can be for these lines is at most that for as many lines as the count
   pub most_le : most (count * top) edge (length m) ≤ most (count * top) edge count
   most_le = mul-le-mul den_le (mul-le-mul (mul-le-mul sys.lines bound_le) (le_refl edge))
 
+  -- where the limit leaves room for as many lines as the count, the lines and both parts are a system
   pub is_system : 2 * (count * top * (bound (count * top) count * bound (count * top) count)) < 2 ^ 120 → most (count * top) edge count < 2 ^ 119
       → (count * top) ^ count * (count * top * bound (count * top) count) < 2 ^ 120 → IsSystem m ys zs
   is_system room parts cs = record {
@@ -81,6 +85,7 @@ module _ (count top edge : ℕ) (m : List (List ℤ)) (right : List Far) (ys zs 
     (square : (k : ℕ) → k < length m → length (slice_index_or m k []) ≡ length m)
     (py : AreParts (length right) (far_at right) ys) (pz : AreParts (length right) (near_at right) zs) (some : 1 ≤ count * top) (s : Solved)
     (small : (limit edge : ℕ) → IsWithinLimits limit edge m ys zs → IsSmallAnswer (limit ^ length m + 1) (most limit edge (length m) + 1) s) where
+  -- the answer is small by any two bounds above those for as many lines as the count
   pub small_of : (a p : ℕ) → (count * top) ^ count < a → most (count * top) edge count < p → IsSmallAnswer a p s
   small_of a p la lp =
       let d = den_le count top edge m right ys zs long sys square py pz some in
@@ -91,9 +96,11 @@ module _ (count top edge : ℕ) (m : List (List ℤ)) (right : List Far) (ys zs 
 module _ (m : List (List ℤ)) (right : List Far) (ys zs : List ℤ) (long : length right ≡ length m) (square : (k : ℕ) → k < length m → length (slice_index_or m k []) ≡ length m)
     (py : AreParts (length right) (far_at right) ys) (pz : AreParts (length right) (near_at right) zs) (s : Solved)
     (small : (limit edge : ℕ) → IsWithinLimits limit edge m ys zs → IsSmallAnswer (limit ^ length m + 1) (most limit edge (length m) + 1) s) where
+  -- with up to six lines and entries up to 6, the answer is small by the bounds 2^32 and 2^106
   pub first_case : IsSmallSystem 6 6 (2 ^ 46) m right → IsSmallAnswer (2 ^ 32) (2 ^ 106) s
   first_case sys = small_of 6 6 (2 ^ 46) m right ys zs long sys square py pz (omega arith) s small (2 ^ 32) (2 ^ 106) (omega arith) (omega arith)
 
+  -- in each of the two cases the answer is small by the bounds 320^4 + 1 and 2^106
   pub either_case : IsSmallSystem 6 6 (2 ^ 46) m right ⊎ IsSmallSystem 4 80 (2 ^ 45) m right → IsSmallAnswer (320 ^ 4 + 1) (2 ^ 106) s
   either_case (inl sys) = wider_answer (2 ^ 32) (320 ^ 4 + 1) (2 ^ 106) (2 ^ 106) s (omega arith) (omega arith) (first_case sys)
   either_case (inr sys) = small_of 4 80 (2 ^ 45) m right ys zs long sys square py pz (omega arith) s small (320 ^ 4 + 1) (2 ^ 106) (omega arith) (omega arith)

@@ -3,9 +3,11 @@ use Rattle.std.proofs.Common.{◌≡◌, ℕ, ◌+◌, ◌<◌, ℤ, pos, length
 use Rattle.std.proofs.lemmas.List.{length_push, get_or_push, get_or_append_left}
 use Rattle.wide_num.specs.Sums.{nth}
 
+-- the number at the end of a list with x pushed is x
 pub nth-push : (xs : List ℤ) (x : ℤ) (i : ℕ) → length xs ≡ i → nth (xs ++ x ∷ []) i ≡ x
 nth-push xs x i h = get_or_push xs x (pos 0) i h
 
+-- the numbers before one that is pushed stay as they were
 pub nth-front : (xs : List ℤ) (x : ℤ) (k : ℕ) → k < length xs → nth (xs ++ x ∷ []) k ≡ nth xs k
 nth-front xs x k h = get_or_append_left xs (x ∷ []) (pos 0) k h
 
@@ -16,5 +18,6 @@ grown P xs ys x i e l all here =
     (λ k h. subst (P k) (sym (ap (λ (zs : List ℤ). nth zs k) e ∙ nth-front xs x k (omega (arith, l, h)))) (all k h))
     (subst (P i) (sym (ap (λ (zs : List ℤ). nth zs i) e ∙ nth-push xs x i l)) here)
 
+-- a list of i numbers with one more pushed has i + 1 numbers
 pub grown_length : (xs ys : List ℤ) (x : ℤ) (i : ℕ) → ys ≡ xs ++ x ∷ [] → length xs ≡ i → length ys ≡ i + 1
 grown_length xs ys x i e l = ap length e ∙ length_push xs x ∙ ap (λ (n : ℕ). n + 1) l

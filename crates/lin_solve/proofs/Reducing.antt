@@ -7,9 +7,11 @@ use Rattle.lin_solve.specs.Elimination.{ContentOf, AreQuotients, IsPrimitivePart
 use Rattle.wide_num.specs.Sums.{nth, dot}
 use Rattle.wide_num.proofs.Sums.{dot-same, dot-scale}
 
+-- the content of a row with a number other than 0 isn't 0
 pub content_apart : (v : List ℤ) (g : ℤ) → ContentOf (length v) (nth v) g → (p : ℕ) → p < length v → nth v p ≢ pos 0 → g ≢ pos 0
 content_apart v g c p l ne e = ne (sym (c.parts p l) ∙ ap (λ (x : ℤ). x *ℤ c.part p) e ∙ *ℤ_comm (pos 0) (c.part p) ∙ *ℤ-zero (c.part p))
 
+-- the quotients of a row by its content, where that isn't 0, are the primitive part of the row
 pub primitive_part : (v y : List ℤ) (g : ℤ) → g ≢ pos 0 → ContentOf (length v) (nth v) g → AreQuotients g v y → IsPrimitivePart v y
 primitive_part v y g ne c p = record {
   long = p.long;
@@ -23,6 +25,7 @@ primitive_part v y g ne c p = record {
   );
 }
 
+-- the primitive part of s times v less t times w is these two rows combined and reduced
 pub reduces : (s t : ℤ) (v w m y : List ℤ) → IsMix s t v w m → IsPrimitivePart m y → Reduces s t v w y
 reduces s t v w m y h p = record {
   long = p.long ∙ h.long;
@@ -32,6 +35,7 @@ reduces s t v w m y h p = record {
   primitive = (p.primitive.0, subst (λ (n : ℕ). dot n p.primitive.0 (nth y) ≡ pos 1) h.long p.primitive.1);
 }
 
+-- s times x less t times y is in the range where the sizes of the two products sum to a number in the range
 pub mix_small : (s t x y z : ℤ) → z ≡ s *ℤ x -ℤ t *ℤ y → unsigned_abs s * unsigned_abs x + unsigned_abs t * unsigned_abs y < 2 ^ 120 → unsigned_abs z < 2 ^ 120
 mix_small s t x y z e h =
     let k : unsigned_abs (s *ℤ x -ℤ t *ℤ y) ≤ unsigned_abs (s *ℤ x) + unsigned_abs (t *ℤ y) = minus_abs (s *ℤ x) (t *ℤ y) in
@@ -40,10 +44,12 @@ mix_small s t x y z e h =
     minus_abs : (x y : ℤ) → unsigned_abs (x -ℤ y) ≤ unsigned_abs x + unsigned_abs y
     minus_abs x y = omega (arith, ints)
 
+-- where each value with P has Q too, a call whose value has P, if there is one, is a call whose value has Q
 pub if_ok : {T E : Type 0} (r : Result T E) (P Q : T → Type 0) → ((x : T) → P x → Q x) → IfOk r P → IfOk r Q
 if_ok (Ok x) P Q f h = f x h
 if_ok (Err e) P Q f h = h
 
+-- a fact for each case of an option gives any that follows from it in the same case
 pub match_option : {T : Type 0} (r : Option T) (P P' : Type 0) (Q Q' : T → Type 0) → (P → P') → ((x : T) → Q x → Q' x) → MatchOption r P Q → MatchOption r P' Q'
 match_option None P P' Q Q' f g h = f h
 match_option (Some x) P P' Q Q' f g h = g x h
@@ -53,5 +59,6 @@ pub each_ok : {T E : Type 0} (r : Result T E) (P : T → Type 0) → ((x : T) �
 each_ok (Ok x) P f = f x refl
 each_ok (Err e) P f = tt
 
+-- what holds of the value of a call, if any, holds of the value that the call gave
 pub at_ok : {T E : Type 0} (r : Result T E) (x : T) (P : T → Type 0) → r ≡ Ok x → IfOk r P → P x
 at_ok {T} {E} r x P e h = subst (λ (s : Result T E). IfOk s P) e h

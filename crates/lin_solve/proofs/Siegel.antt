@@ -18,14 +18,17 @@ abbrev SameOn : ℕ → (ℕ → ℤ) → (ℕ → ℤ) → List (ℕ → ℤ) �
 SameOn n z y [] = Unit {0}
 SameOn n z y (a ∷ rows) = (dot n a z ≡ dot n a y) × SameOn n z y rows
 
+-- where each number of f is at most that of g, the sum of f is at most that of g
 pub nat_total-le : (n : ℕ) (f g : ℕ → ℕ) → ((i : ℕ) → i < n → f i ≤ g i) → nat_total n f ≤ nat_total n g
 nat_total-le zero f g h = omega arith
 nat_total-le (suc n) f g h = omega (arith, h zero (omega arith), nat_total-le n (λ (i : ℕ). f (suc i)) (λ (i : ℕ). g (suc i)) (λ i l. h (suc i) (omega arith)))
 
+-- the sum of n + 1 numbers is the sum of the first n and the last one
 pub nat_total-last : (n : ℕ) (f : ℕ → ℕ) → nat_total (suc n) f ≡ nat_total n f + f n
 nat_total-last zero f = omega arith
 nat_total-last (suc n) f = omega (arith, nat_total-last n (λ (i : ℕ). f (suc i)))
 
+-- the sum of the first i numbers is at most the sum of the first n, for i up to n
 pub nat_total-more : (i n : ℕ) (f : ℕ → ℕ) → i ≤ n → nat_total i f ≤ nat_total n f
 nat_total-more zero n f h = omega arith
 nat_total-more (suc i) zero f h = absurd (omega arith)
@@ -34,6 +37,7 @@ nat_total-more (suc i) (suc n) f h = omega (arith, nat_total-more i n (λ (k : �
 abs_add : (x y : ℤ) → unsigned_abs (x +ℤ y) ≤ unsigned_abs x + unsigned_abs y
 abs_add x y = omega (arith, ints)
 
+-- the size of a sum is at most the sum of the sizes
 pub abs_total : (n : ℕ) (f : ℕ → ℤ) → unsigned_abs (total n f) ≤ nat_total n (λ (i : ℕ). unsigned_abs (f i))
 abs_total zero f = omega arith
 abs_total (suc n) f = omega (arith, abs_add (total n f) (f n), abs_total n f, nat_total-last n (λ (i : ℕ). unsigned_abs (f i)))
@@ -42,6 +46,7 @@ nat_total-same : (n : ℕ) (f g : ℕ → ℕ) → ((i : ℕ) → f i ≡ g i) �
 nat_total-same zero f g h = refl
 nat_total-same (suc n) f g h = omega (arith, h zero, nat_total-same n (λ (i : ℕ). f (suc i)) (λ (i : ℕ). g (suc i)) (λ i. h (suc i)))
 
+-- the size of a sum of products is at most the sum of the products of the sizes
 pub abs_dot : (n : ℕ) (a v : ℕ → ℤ) → unsigned_abs (dot n a v) ≤ nat_total n (λ (i : ℕ). unsigned_abs (a i) * unsigned_abs (v i))
 abs_dot n a v = omega (arith, abs_total n (λ (i : ℕ). a i *ℤ v i), nat_total-same n (λ (i : ℕ). unsigned_abs (a i *ℤ v i)) (λ (i : ℕ). unsigned_abs (a i) * unsigned_abs (v i)) (λ i. unsigned_abs-mul (a i) (v i)))
 
@@ -83,6 +88,7 @@ part_below (negsuc c) u z h = omega (arith, minus_mul c u z h)
 image : ℕ → (ℕ → ℤ) → (ℕ → ℕ) → (ℕ → ℕ) → ℕ
 image n a u z = nat_total n (λ (i : ℕ). part (a i) (u i) (z i))
 
+-- the sum of natural numbers is, as an integer, the sum of these numbers as integers
 pub pos-nat_total : (n : ℕ) (f : ℕ → ℕ) → pos (nat_total n f) ≡ total n (λ (i : ℕ). pos (f i))
 pos-nat_total zero f = refl
 pos-nat_total (suc n) f = ap pos (nat_total-last n f) ∙ ap (λ (x : ℤ). x +ℤ pos (f n)) (pos-nat_total n f)
@@ -107,6 +113,7 @@ images : ℕ → (ℕ → ℕ) → List (ℕ → ℤ) → (ℕ → ℕ) → ℕ
 images n u [] z = 0
 images n u (a ∷ rows) z = image n a u z + suc (weight n a u) * images n u rows z
 
+-- a number x up to w, joined with a q below r, is below w + 1 times r
 pub joined_below : (x w q r : ℕ) → x ≤ w → q < r → x + suc w * q < suc w * r
 joined_below x w q r h l = step (mul-le-mul (le_refl_of (suc w)) l)
   where
@@ -121,6 +128,7 @@ unfolding images
 images_below n u [] z h = omega arith
 images_below n u (a ∷ rows) z h = joined_below (image n a u z) (weight n a u) (images n u rows z) (room n u rows) (image_below n a u z h) (images_below n u rows z h)
 
+-- two pairs that are joined to the same number, each with a first number up to w, are the same pair
 pub joined_same : (x w q x' q' : ℕ) → x ≤ w → x' ≤ w → x + suc w * q ≡ x' + suc w * q' → (x ≡ x') × (q ≡ q')
 joined_same x w zero x' zero h h' e = (omega arith, refl)
 joined_same x w zero x' (suc q') h h' e = absurd (omega arith)
@@ -194,6 +202,7 @@ minus_solves n z y (a ∷ rows) h = (omega (arith, ints, dot-lin n (pos 1) (pos 
 gap : (p q b : ℕ) → p ≤ b → q ≤ b → unsigned_abs (pos 1 *ℤ pos p -ℤ pos 1 *ℤ pos q) ≤ b
 gap p q b h k = omega (arith, ints)
 
+-- where the rows have fewer values than the box has points, they have a solution other than 0 up to the sides u
 pub siegel : (n : ℕ) (u : ℕ → ℕ) (rows : List (ℕ → ℤ)) → room n u rows < box n u → Solution n u rows
 siegel n u rows h =
     let w : Collision (λ (t : ℕ). images n u rows (digit u t)) (box n u) =

@@ -19,13 +19,16 @@ abbrev pub SizesWithin : ℕ → ℕ → List (ℕ → ℤ) → Type 0
 SizesWithin n s [] = Unit {0}
 SizesWithin n s (a ∷ rows) = (size n a ≤ s) × SizesWithin n s rows
 
+-- the sum of numbers each times h is their sum times h
 pub nat_total-scale : (n h : ℕ) (f : ℕ → ℕ) → nat_total n (λ (i : ℕ). f i * h) ≡ nat_total n f * h
 nat_total-scale zero h f = omega arith
 nat_total-scale (suc n) h f = omega (arith, nat_total-scale n h (λ (i : ℕ). f (suc i)))
 
+-- with a greater second factor a product is at least as great
 pub le_mul : (a b d : ℕ) → b ≤ d → a * b ≤ a * d
 le_mul a b d h = grind arith
 
+-- with a greater first factor a product is at least as great
 pub mul_le : (a b d : ℕ) → b ≤ d → b * a ≤ d * a
 mul_le a b d h = grind arith
 
@@ -38,6 +41,7 @@ weight_below n s h a u below sized =
       mul_le h (size n a) s sized,
     )
 
+-- rows of sizes up to s have on a box with sides up to h at most s h + 1 to the power of the rows as room
 pub room_below : (n s h : ℕ) (u : ℕ → ℕ) (rows : List (ℕ → ℤ)) → ((i : ℕ) → i < n → u i ≤ h) → SizesWithin n s rows → room n u rows ≤ suc (s * h) ^ length rows
 room_below n s h u [] below sized = omega (arith, pow-zero (suc (s * h)))
 room_below n s h u (a ∷ rows) below sized =
@@ -113,6 +117,7 @@ module _ (n : ℕ) (free one_less : ℕ → Bool) (kept : List (ℕ → ℤ)) (v
       minus_out : (x y : ℤ) → x -ℤ y ≡ pos 0 → x ≡ y
       minus_out x y h = omega (arith, lin, h)
 
+  -- the row of j, where it is primitive, has numbers of at most s to the power of the kept rows in size
   pub small : (i : ℕ) → i < n → unsigned_abs (v j i) ≤ s ^ length kept
   small i li =
       let m : (i : ℕ) → i < n → v j j *ℤ some.z i ≡ some.z j *ℤ v j i =

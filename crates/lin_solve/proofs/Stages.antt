@@ -143,6 +143,7 @@ opening n lines free vs all long one none = record {
   among = λ z h. tt;
 }
 
+-- after the first k lines the rows of the free coordinates are ready for line k
 pub ready_of : (n k : ℕ) (lines : List (List ℤ)) (free : List Bool) (vs : List (List ℤ)) → AreLines n lines → State n k lines free vs → k < length lines → length free ≡ n → length vs ≡ n → Ready (get_or lines k []) vs free
 ready_of n k lines free vs a st lk ef ev =
     let el : length (get_or lines k []) ≡ n = a.long k lk in
@@ -162,6 +163,7 @@ ready_of n k lines free vs a st lk ef ev =
     low : (j : ℕ) → j < length free → j < n
     low j l = subst (λ (m : ℕ). j < m) ef l
 
+-- the product of a row of n numbers with another is the sum of the first n products
 pub product_is : (n : ℕ) (a v : List ℤ) → length a ≡ n → product a v ≡ dot n (nth a) (nth v)
 product_is n a v e = ap (λ (m : ℕ). dot m (nth a) (nth v)) e
 
@@ -183,12 +185,14 @@ pub skipped : (n k : ℕ) (lines : List (List ℤ)) (free : List Bool) (vs : Lis
 skipped n k lines free vs a st lk ef none =
     skip n k lines free vs st (λ j l f. sym (product_is n (get_or lines k []) (get_or vs j []) (a.long k lk)) ∙ none j (subst (λ (m : ℕ). j < m) (sym ef) l) f)
 
+-- a list of n flags that are all true, with a unit row for each, is the state before any line
 pub opened : (n : ℕ) (lines : List (List ℤ)) (free : List Bool) (vs : List (List ℤ)) → free ≡ replicate n true → ((j : ℕ) → j < n → IsUnit n j (get_or vs j [])) → State n 0 lines free vs
 opened n lines free vs e u =
     opening n lines free vs
     (λ j l. ap (λ (fs : List Bool). flag fs j) e ∙ get_or-replicate n j true false l)
     (λ j l. let w = u j l in w.long) (λ j l. let w = u j l in w.one l) (λ j i l li ne. let w = u j l in w.none i li ne)
 
+-- after all lines the row of a free coordinate is a kernel row of the lines
 pub row_found : (n : ℕ) (lines : List (List ℤ)) (free : List Bool) (vs : List (List ℤ)) (j : ℕ) → State n (length lines) lines free vs → j < n → flag free j ≡ true → IsKernelRow n lines (get_or vs j [])
 row_found n lines free vs j st l f = record {
   long = st.long j l f;
