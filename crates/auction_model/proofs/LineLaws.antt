@@ -10,7 +10,7 @@ use Rattle.auction_model.specs.Menu.{Menu}
 use Rattle.auction_model.specs.Table.{IsEntry, IsLine}
 use Rattle.auction_model.specs.Steps.{raised}
 use Rattle.auction_model.proofs.TableLaws.{IsEntryUpTo, entry-none, entry-skips, entry-keeps, entry-takes, entry-all, entry-last}
-use Rattle.auction_model.proofs.PlaceLaws.{left_at-less, place-less-below}
+use Rattle.auction_model.proofs.PlaceLaws.{left_at-less, place-less_below}
 
 -- a line while only the first i bids of bidder k + 1 are counted
 pub record IsLineUpTo (m : Menu) (counts : ℕ → ℕ → ℤ) (supply : List ℕ) (k i : ℕ) (line : List ℤ) : Type 0 where
@@ -54,7 +54,7 @@ module _ (m : Menu) (counts : ℕ → ℕ → ℤ) (supply : List ℕ) (k : ℕ)
       let sum = counts (suc k) (suc i) +ℤ rest in
       elim (cases_Bool (is_within lots left)) [
         | inl fits ↦
-            let b : IsEntry m counts (suc k) (less left lots) rest = rw (left_at-less supply lots s h) at (e.exact (place_of supply (less left lots)) (place-less-below supply lots s h)) in
+            let b : IsEntry m counts (suc k) (less left lots) rest = rw (left_at-less supply lots s h) at (e.exact (place_of supply (less left lots)) (place-less_below supply lots s h)) in
             rw (cond-true (is_within lots left) (int_max old sum) old fits)
             (by_lt_z old sum
             (λ lt. rw (int_max-right old sum (lt-le old sum lt)) (entry-takes m counts k left i old rest was b fits (lt-le old sum lt)))

@@ -8,7 +8,7 @@ use Rattle.std.proofs.lemmas.List.{get_or-drop, get_or_past, length-take}
 use Rattle.auction_model.specs.Package.{is_within, less}
 use Rattle.auction_model.specs.Place.{states_of, place_of, left_at, widths_of}
 use Rattle.auction_model.specs.Steps.{raised}
-use Rattle.auction_model.proofs.PlaceLaws.{states-positive, place_of-left_at, place-less-below}
+use Rattle.auction_model.proofs.PlaceLaws.{states-positive, place_of-left_at, place-less_below}
 use Rattle.auction_model.proofs.PackageLaws.{less-empty}
 use Rattle.auction_model.proofs.PartReads.{read-part, read-before, read-middle, read-after}
 use borrow.Rule.Slice.PartMut.{put_mid}
@@ -59,7 +59,7 @@ raised-high [] p below part worth q r old some few h high reads = absurd (omega 
 raised-high (u ∷ supply) [] below part worth q r old some few h high reads = absurd (omega arith)
 raised-high (u ∷ supply) (a ∷ p) below part worth q r old some few h high reads =
     let at = place_of supply (less (left_at supply r) p) in
-    rw (div-mul-add q (states_of supply) r h, mod-mul-add q (states_of supply) r h, le-leb a q high, ← reads at (place-less-below supply p r h)) refl
+    rw (div-mul-add q (states_of supply) r h, mod-mul-add q (states_of supply) r h, le-leb a q high, ← reads at (place-less_below supply p r h)) refl
 
 -- a place as a block and a place in it
 split-place : (S s : ℕ) → 0 < S → s / S * S + s % S ≡ s

@@ -10,12 +10,12 @@ use Rattle.auction_model.specs.Menu.{Menu, fits_after}
 use Rattle.auction_model.specs.Table.{IsEntry, IsLine}
 use Rattle.auction_model.specs.Steps.{sum_with, IsFirstNumber}
 use Rattle.auction_model.proofs.PackageLaws.{less-empty}
-use Rattle.auction_model.proofs.PlaceLaws.{left_at-less, place-less-below}
+use Rattle.auction_model.proofs.PlaceLaws.{left_at-less, place-less_below}
 use Rattle.auction_model.proofs.TraceLaws.{short-below, entry-bounds, first-step, zero-reaches}
 
 module _ (m : Menu) (counts : ℕ → ℕ → ℤ) (supply : List ℕ) (k s : ℕ) (inside : k < m.bidders) (place : s < states_of supply) (here : ℤ) (below : List ℤ) (e : IsEntry m counts k (left_at supply s) here) (b : IsLine m counts supply (suc k) below) where
   below-at : (i : ℕ) → IsEntry m counts (suc k) (less (left_at supply s) (m.lots (suc k) i)) (get_or below (place_of supply (less (left_at supply s) (m.lots (suc k) i))) (pos 0))
-  below-at i = rw left_at-less at (b.exact (place_of supply (less (left_at supply s) (m.lots (suc k) i))) (place-less-below supply (m.lots (suc k) i) s place))
+  below-at i = rw left_at-less at (b.exact (place_of supply (less (left_at supply s) (m.lots (suc k) i))) (place-less_below supply (m.lots (suc k) i) s place))
 
   -- no number gives more than the entry
   pub sum-bounds : (i : ℕ) → i ≤ m.bids (suc k) → IsTrue (is_within (m.lots (suc k) i) (left_at supply s)) → sum_with m counts supply (suc k) s below i ≤ℤ here

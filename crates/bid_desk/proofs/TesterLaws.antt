@@ -106,7 +106,7 @@ pub testers-emptied : (rounds : List Round) (points : List ℕ) (place : ℕ) (t
 testers-emptied rounds points place testers none inside empty are = testers-set rounds points place testers none inside are (subst (IsKeptFor rounds points (place + 1)) (sym empty) tt)
 
 -- the draft list of a bidder that was read at its place
-pub drafts-of-read : (terms : Terms) (clock : ClockState) (closed : Bool) (bidders : List Lists) (j : ℕ) (d old : Lists) (now : DeskState) (drafts : List BookBid) → j - 1 < length bidders
+pub drafts_of-read : (terms : Terms) (clock : ClockState) (closed : Bool) (bidders : List Lists) (j : ℕ) (d old : Lists) (now : DeskState) (drafts : List BookBid) → j - 1 < length bidders
     → old ≡ get_or bidders (j - 1) d → drafts ≡ old.drafts → desk_value terms clock closed bidders ≡ now → drafts ≡ drafts_of now j
-drafts-of-read terms clock closed bidders j d old now drafts inside read is view =
+drafts_of-read terms clock closed bidders j d old now drafts inside read is view =
     is ∙ drafts-read terms clock closed bidders j d old inside read ∙ ap (λ (s : DeskState). drafts_of s j) view

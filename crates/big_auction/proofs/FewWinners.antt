@@ -24,7 +24,7 @@ use Rattle.big_auction.proofs.Drawing.{IsOwn-package_of}
 use Rattle.big_auction.proofs.MadeClock.{held-early, held-last, stays, leaves, own-rounds, none-yet, each-push, head-together}
 use Rattle.big_auction.proofs.Offers.{own-lot, reduced-own}
 use Rattle.big_auction.proofs.SealedRound.{HasLot}
-use Rattle.big_auction.proofs.WholeLog.{IsEnd, end_state, end-of-log, log-state}
+use Rattle.big_auction.proofs.WholeLog.{IsEnd, end_state, end_of_log, log-state}
 
 -- a package that is empty or has a lot of the first category
 abbrev IsEmptyOrHasLot : List ℕ → Type 0
@@ -124,4 +124,4 @@ pub few-win : (number : ℕ) (c : List ℕ) → IsTrue ((market_of (book_of_log 
 few-win number c allowed =
     let same : book_of_log made_terms (reverse (made_log number)) ≡ book_in (end_state number) =
     sym (book_in-state_of made_terms (reverse (made_log number))) ∙ ap book_in (log-state number) in
-    few-in number (end_state number) c (end-of-log number) (subst (λ (b : Book). IsTrue ((market_of b).allowed c)) same allowed)
+    few-in number (end_state number) c (end_of_log number) (subst (λ (b : Book). IsTrue ((market_of b).allowed c)) same allowed)

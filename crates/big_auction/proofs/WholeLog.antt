@@ -92,5 +92,5 @@ pub log-state : (number : ℕ) → state_of made_terms (reverse (made_log number
 log-state number = (log-stands number).state
 
 -- in that state the auction is closed after ten rounds, and each submitted bid has a lot of the first category
-pub end-of-log : (number : ℕ) → IsEnd number (end_state number)
-end-of-log number = (log-goes number).to
+pub end_of_log : (number : ℕ) → IsEnd number (end_state number)
+end_of_log number = (log-goes number).to

@@ -13,7 +13,7 @@ use Rattle.auction_model.specs.Table.{IsEntry, IsExactTable, entry_at}
 use Rattle.auction_model.proofs.BookMarket.{fits-known}
 use Rattle.auction_model.proofs.ChoiceLaws.{known-length}
 use Rattle.auction_model.proofs.MenuLaws.{fits-cons}
-use Rattle.auction_model.proofs.PlaceLaws.{left_at-less, left_at-whole, place-less-below, states-positive}
+use Rattle.auction_model.proofs.PlaceLaws.{left_at-less, left_at-whole, place-less_below, states-positive}
 use Rattle.auction_model.proofs.OrderLaws.{earlier-number, earlier-rest}
 use Rattle.cert_laws.specs.Tests.{NoEarlier, left_after, worth_before}
 
@@ -104,7 +104,7 @@ module _ (m : Menu) (worth : ℕ → ℕ → ℤ) (supply z : List ℕ) (fits : 
       let lots = m.lots (suc k) (number_of z (suc k)) in
       record {
         place = place_of supply (less (left_at supply before.place) lots);
-        inside = place-less-below supply lots before.place before.inside;
+        inside = place-less_below supply lots before.place before.inside;
         left = ap (λ (l : List ℕ). less l lots) before.left ∙ sym (left_at-less supply lots before.place before.inside);
       }
 
@@ -119,7 +119,7 @@ module _ (m : Menu) (worth : ℕ → ℕ → ℤ) (supply z : List ℕ) (fits : 
         let left = left_after m supply z k in
         let place = place_of supply (less left lots) in
         let same : place ≡ place_of supply (less (left_at supply here.place) lots) = ap (λ (l : List ℕ). place_of supply (less l lots)) here.left in
-        let there : place < states_of supply = omega (arith, same, place-less-below supply lots here.place here.inside) in
+        let there : place < states_of supply = omega (arith, same, place-less_below supply lots here.place here.inside) in
         let back : left_at supply place ≡ less left lots = ap (left_at supply) same ∙ left_at-less supply lots here.place here.inside ∙ ap (λ (l : List ℕ). less l lots) (sym here.left) in
         let entry : IsEntry m worth (suc k) (left_at supply place) (entry_at table (suc k) place) = (exact.exact (suc k) (omega (arith, lt))).exact place there in
         let d = entry.reached.0 in

@@ -90,10 +90,10 @@ fed-whole book weights told file room checker at s size buffer loaded some short
 }
 
 -- more came than the limit leaves
-pub fed-too-long : (file : Option (List ℕ)) (at n limit size : ℕ) (buffer : List ℕ) → at ≤ limit → limit - at < n → (file ≡ None → ⊥) → ((f : List ℕ) → file ≡ Some f → Stands f at size buffer n)
+pub fed-too_long : (file : Option (List ℕ)) (at n limit size : ℕ) (buffer : List ℕ) → at ≤ limit → limit - at < n → (file ≡ None → ⊥) → ((f : List ℕ) → file ≡ Some f → Stands f at size buffer n)
     → IsSomeAnd file (λ bytes. limit < length bytes)
-fed-too-long None at n limit size buffer le more there loaded = absurd (there refl)
-fed-too-long (Some f) at n limit size buffer le more there loaded = let within = (loaded f refl).within in omega (arith, le, more, within)
+fed-too_long None at n limit size buffer le more there loaded = absurd (there refl)
+fed-too_long (Some f) at n limit size buffer le more there loaded = let within = (loaded f refl).within in omega (arith, le, more, within)
 
 -- the stop of a text is what its bytes answer
 pub text-stop : (b : BookValue) (bytes : List ℕ) (stop : TextStop) → SaysStop (bidders_of b) (states b) bytes stop

@@ -37,7 +37,7 @@ use Rattle.cca_inputs.specs.declared.status.FileKind.{FileKind}
 use Rattle.cca_inputs.specs.declared.status.FileKind.TheVariants as kinds
 use Rattle.cca_inputs.specs.declared.status.Status.{Status}
 use Rattle.cca_inputs.specs.declared.status.Status.TheVariants.{Done, ReadFault}
-use Rattle.cca_run.proofs.OneLog.{one-award-answer}
+use Rattle.cca_run.proofs.OneLog.{one_award-answer}
 use Rattle.cca_run.proofs.Same.{one-answer}
 use Rattle.cca_run.specs.Gives.{ArePriceLines, ArePrinted, AwardGives, BookGives, BookOfLogGives, CertGives, EndGives, FilesGive, IsPricing, LogGives, PriceGives, VerdictGives, cert_file, ones, replay_status}
 use Rattle.cca_run.specs.Later.{HoldsCert, HoldsNothing}
@@ -231,5 +231,5 @@ module _ (one_cert : (bidders number : ℕ) (bytes : List ℕ) (x y : Said CertV
     pub accepted-log : FilesGive (award terms log cert form) file o → FilesGive (audit terms log cert) later p → Accepts form o p
     accepted-log prices checks =
         two-inputs kinds.Award AWARD_BYTES AwardAnswers (λ t. LogGives t (file log) (λ events. BookOfLogGives t events Prices)) (λ t. LogGives t (later log) (λ events. BookOfLogGives t events Checks))
-        (file terms) o p (Accepts form o p) one-award-answer none-stops on-award prices
+        (file terms) o p (Accepts form o p) one_award-answer none-stops on-award prices
         (subst (λ (c : Option (List ℕ)). AwardGives c (λ t. LogGives t (later log) (λ events. BookOfLogGives t events Checks)) p) holds.inputs_hold.0 checks)

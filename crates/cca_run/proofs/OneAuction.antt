@@ -15,7 +15,7 @@ use Rattle.cca_inputs.specs.Outcome.{Answer, AnswerGives, InputGives, Outcome, d
 use Rattle.cca_inputs.specs.declared.status.FileKind.{FileKind}
 use Rattle.cca_inputs.specs.declared.status.FileKind.TheVariants.{Award, Log}
 use Rattle.cca_run.specs.Gives.{AuctionGives, FilesGive, LogGives, RepliesGive, book_file}
-use Rattle.cca_run.proofs.OneLog.{one-award-answer}
+use Rattle.cca_run.proofs.OneLog.{one_award-answer}
 use Rattle.cca_run.proofs.Same.{one-answer}
 
 -- an input with one answer gives one outcome, where each of its values does
@@ -42,5 +42,5 @@ module _ (one_log_answer : (terms : Terms) (bytes : List ℕ) (x y : Answer (Lis
   pub one-auction : (award log book : List ℕ) (file : List ℕ → Option (List ℕ)) (o p : Outcome) → FilesGive (auction award log book) file o → FilesGive (auction award log book) file p → o ≡ p
   one-auction award log book file o p x y =
       let contents = contents_of (auction award log book) file in
-      one-given Award AWARD_BYTES AwardAnswers (λ terms. LogGives terms (contents Log) (AuctionGives terms)) one-award-answer (contents Award) o p
+      one-given Award AWARD_BYTES AwardAnswers (λ terms. LogGives terms (contents Log) (AuctionGives terms)) one_award-answer (contents Award) o p
       (λ terms a b. one-given Log LOG_BYTES (LogAnswers terms) (AuctionGives terms) (one_log_answer terms) (contents Log) o p (λ events g h. one-replies _ _ _ o p g h) a b) x y

@@ -9,8 +9,8 @@ use Rattle.cca_inputs.specs.declared.status.FileKind.TheVariants.{Log}
 use Rattle.cca_inputs.specs.declared.status.Status.TheVariants.{Refused}
 
 -- that of an award follows from the one reading of its bytes
-pub one-award-answer : (bytes : List ℕ) (a b : Answer Terms) → AwardAnswers bytes a → AwardAnswers bytes b → a ≡ b
-one-award-answer bytes a b x y = x.0 ∙ sym y.0
+pub one_award-answer : (bytes : List ℕ) (a b : Answer Terms) → AwardAnswers bytes a → AwardAnswers bytes b → a ≡ b
+one_award-answer bytes a b x y = x.0 ∙ sym y.0
 
 -- what the laws of logs say
 module _ (one_log : (terms : Terms) (rows : List (List (List ℕ))) (events others : List Event) → AreLog terms rows events → AreLog terms rows others → events ≡ others)
@@ -31,5 +31,5 @@ module _ (one_log : (terms : Terms) (rows : List (List (List ℕ))) (events othe
   one-records terms rows (stops s) (stops t) (inr x) (inr y) = ap stops (x.1 ∙ sym y.1)
 
   -- that of a log
-  pub one-log-answer : (terms : Terms) (bytes : List ℕ) (a b : Answer (List Event)) → LogAnswers terms bytes a → LogAnswers terms bytes b → a ≡ b
-  one-log-answer terms bytes a b x y = one-records terms (log_records bytes) a b x y
+  pub one_log-answer : (terms : Terms) (bytes : List ℕ) (a b : Answer (List Event)) → LogAnswers terms bytes a → LogAnswers terms bytes b → a ≡ b
+  one_log-answer terms bytes a b x y = one-records terms (log_records bytes) a b x y

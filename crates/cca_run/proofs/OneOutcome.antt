@@ -36,7 +36,7 @@ use Rattle.std.specs.List.{AllByRecursion}
 use Rattle.review.specs.declared.edit.Edit.{Edit}
 use Rattle.review_text.specs.ReviewText.{IsReviewText}
 use Rattle.cca_run.proofs.Same.{Same, both, equal, one-answer, one-input, printed-same}
-use Rattle.cca_run.proofs.OneLog.{one-award-answer}
+use Rattle.cca_run.proofs.OneLog.{one_award-answer}
 use Rattle.book_price.proofs.Ones.{ones-weigh}
 use Rattle.cca_run.proofs.Ones.{not_few_and_many}
 use Rattle.cca_inputs.specs.Answers.{AwardAnswers, BookAnswers, CertAnswers, EditsAnswers, LogAnswers, WeightsAnswers, book_answer, cert_answer, edits_answer, weights_answer}
@@ -98,14 +98,14 @@ module _ (one_book : (bytes : List ℕ) (x y : Said Book Excess) → Says IsBook
     (one_tested : (slots cert : List ℕ) (contents : FileKind → Option (List ℕ)) (o p : Outcome) → CommandGives (place_check slots cert) contents o → CommandGives (place_check slots cert) contents p → Same o p)
     (one_edits : (categories : ℕ) (bytes : List ℕ) (x y : Said (List NamedEdit) Excess) → EditsSay categories bytes x → EditsSay categories bytes y → x ≡ y)
     (one_review : (book : Book) (edits : List Edit) (t u : List ℕ) → IsBookWithinLimits book → AllByRecursion (λ e. length (edit_lots e) ≡ length book.supply) edits → IsReviewText book edits t → IsReviewText book edits u → t ≡ u) where
-  one-book-answer : (bytes : List ℕ) (x y : Answer Book) → BookAnswers bytes x → BookAnswers bytes y → x ≡ y
-  one-book-answer bytes x y a b = a.2 ∙ ap book_answer (one_book bytes a.0 b.0 a.1 b.1) ∙ sym b.2
+  one_book-answer : (bytes : List ℕ) (x y : Answer Book) → BookAnswers bytes x → BookAnswers bytes y → x ≡ y
+  one_book-answer bytes x y a b = a.2 ∙ ap book_answer (one_book bytes a.0 b.0 a.1 b.1) ∙ sym b.2
 
-  one-cert-answer : (book : Book) (bytes : List ℕ) (x y : Answer CertValue) → CertAnswers book bytes x → CertAnswers book bytes y → x ≡ y
-  one-cert-answer book bytes x y a b = a.2 ∙ ap cert_answer (one_cert (bidders_of book) (states book) bytes a.0 b.0 a.1 b.1) ∙ sym b.2
+  one_cert-answer : (book : Book) (bytes : List ℕ) (x y : Answer CertValue) → CertAnswers book bytes x → CertAnswers book bytes y → x ≡ y
+  one_cert-answer book bytes x y a b = a.2 ∙ ap cert_answer (one_cert (bidders_of book) (states book) bytes a.0 b.0 a.1 b.1) ∙ sym b.2
 
-  one-edits-answer : (book : Book) (bytes : List ℕ) (x y : Answer (List Edit)) → EditsAnswers book bytes x → EditsAnswers book bytes y → x ≡ y
-  one-edits-answer book bytes x y a b = a.2 ∙ ap (edits_answer book) (one_edits (length book.supply) bytes a.0 b.0 a.1 b.1) ∙ sym b.2
+  one_edits-answer : (book : Book) (bytes : List ℕ) (x y : Answer (List Edit)) → EditsAnswers book bytes x → EditsAnswers book bytes y → x ≡ y
+  one_edits-answer book bytes x y a b = a.2 ∙ ap (edits_answer book) (one_edits (length book.supply) bytes a.0 b.0 a.1 b.1) ∙ sym b.2
 
   -- edits that bytes state have as many categories as the book
   lots-in : (book : Book) (bytes : List ℕ) (edits : List Edit) → EditsAnswers book bytes (value edits) → AllByRecursion (λ e. length (edit_lots e) ≡ length book.supply) edits
@@ -134,8 +134,8 @@ module _ (one_book : (bytes : List ℕ) (x y : Said Book Excess) → Says IsBook
       by (faulty at) says is = absurd cc
       by (beyond e) says is = absurd cc
 
-  one-weights-answer : (book : Book) → IsBook book → (bytes : List ℕ) (x y : Answer (List ℕ)) → WeightsAnswers book bytes x → WeightsAnswers book bytes y → x ≡ y
-  one-weights-answer book rules bytes x y a b = a.2 ∙ ap weights_answer (one_weighing book bytes a.0 b.0 rules a.1 b.1) ∙ sym b.2
+  one_weights-answer : (book : Book) → IsBook book → (bytes : List ℕ) (x y : Answer (List ℕ)) → WeightsAnswers book bytes x → WeightsAnswers book bytes y → x ≡ y
+  one_weights-answer book rules bytes x y a b = a.2 ∙ ap weights_answer (one_weighing book bytes a.0 b.0 rules a.1 b.1) ∙ sym b.2
 
   -- weights that bytes state are one of 1 to 20 for each bidder
   weights-of : (book : Book) (bytes weights : List ℕ) → WeightsAnswers book bytes (value weights) → AreWeights (bidders_of book) weights
@@ -196,14 +196,14 @@ module _ (one_book : (bytes : List ℕ) (x y : Said Book Excess) → Says IsBook
       a.priced.outcome.core.den_positive outcome.core.den_positive (one_core (market_of book) (weight_of weights) c.choice (cert_point c) (cert_point d) m a.priced.outcome outcome)
       (one_vickrey (market_of book) c.choice (cert_prices book c) (cert_prices book d) (vickrey-of book weights are form c t a) vickrey) a.run run form.json form.rounds t u a.printed printed
 
-  few-or-many : (book : Book) (weights : List ℕ) (form : PriceForm) (c : CertValue) (t z : List ℕ) → IsMarket (market_of book) → IsPricing book weights form c t → HasTooMany book z weights → ⊥
-  few-or-many book weights form c t z m a many =
+  few_or_many : (book : Book) (weights : List ℕ) (form : PriceForm) (c : CertValue) (t z : List ℕ) → IsMarket (market_of book) → IsPricing book weights form c t → HasTooMany book z weights → ⊥
+  few_or_many book weights form c t z m a many =
       not_few_and_many z weights (subst (λ (x : List ℕ). FewWin x weights) (one_winning (market_of book) c.choice z m a.priced.winning many.winning) a.few) many.many
 
   one-priced : (book : Book) (weights : List ℕ) → AreWeights (bidders_of book) weights → (form : PriceForm) (o p : Outcome) → IsMarket (market_of book) → PriceGives book weights form o → PriceGives book weights form p → Same o p
   one-priced book weights are form o p m (inl x) (inl y) = both o p (done x.1 (cert_file (cert_text x.0) ∷ [])) (done y.1 (cert_file (cert_text y.0) ∷ [])) x.3 y.3 (printed-same x.1 y.1 (cert_file (cert_text x.0) ∷ []) (cert_file (cert_text y.0) ∷ []) (one-pricing book weights are form x.0 y.0 x.1 y.1 m x.2 y.2))
-  one-priced book weights are form o p m (inl x) (inr y) = absurd (few-or-many book weights form x.0 x.1 y.0 m x.2 y.1)
-  one-priced book weights are form o p m (inr x) (inl y) = absurd (few-or-many book weights form y.0 y.1 x.0 m y.2 x.1)
+  one-priced book weights are form o p m (inl x) (inr y) = absurd (few_or_many book weights form x.0 x.1 y.0 m x.2 y.1)
+  one-priced book weights are form o p m (inr x) (inl y) = absurd (few_or_many book weights form y.0 y.1 x.0 m y.2 x.1)
   one-priced book weights are form o p m (inr x) (inr y) =
       let is : winners_in x.0 ≡ winners_in y.0 = ap winners_in (one_winning (market_of book) x.0 y.0 m x.1.winning y.1.winning) in
       equal o p (stopped (Limit Winners (winners_in y.0))) (x.2 ∙ ap (λ (n : ℕ). stopped (Limit Winners n)) is) y.2
@@ -224,44 +224,44 @@ module _ (one_book : (bytes : List ℕ) (x y : Said Book Excess) → Says IsBook
       equal o p (stopped (No certs.Book y.0 y.1)) (x.3 ∙ ap (λ (t : ℕ). stopped (No certs.Book t x.1)) is.0 ∙ ap (λ (q : ℕ). stopped (No certs.Book y.0 q)) is.1) y.3
 
   one-of : (command : CommandValue) (contents : FileKind → Option (List ℕ)) (o p : Outcome) → CommandGives command contents o → CommandGives command contents p → Same o p
-  one-of (win name) contents o p x y = one-input BookFile BOOK_BYTES BookAnswers WinGives one-book-answer (contents BookFile) o p
+  one-of (win name) contents o p x y = one-input BookFile BOOK_BYTES BookAnswers WinGives one_book-answer (contents BookFile) o p
       (λ book bytes says x y.
       let m = lawful bytes book says in
       let same = one_winning (market_of book) x.0 y.0 m x.1 y.1 in
       both o p (done (win_text book x.0) []) (done (win_text book y.0) []) x.2 y.2 (printed-same (win_text book x.0) (win_text book y.0) [] [] (ap (win_text book) same))) x y
-  one-of (price name cert form) contents o p x y = one-input BookFile BOOK_BYTES BookAnswers (λ book. PriceGives book (ones book) form) one-book-answer (contents BookFile) o p
+  one-of (price name cert form) contents o p x y = one-input BookFile BOOK_BYTES BookAnswers (λ book. PriceGives book (ones book) form) one_book-answer (contents BookFile) o p
       (λ book bytes says x y. one-priced book (ones book) (ones-weigh (bidders_of book)) form o p (lawful bytes book says) x y) x y
-  one-of (check name cert) contents o p x y = one-input BookFile BOOK_BYTES BookAnswers (λ book. CertGives book (contents Cert) (VerdictGives book (ones book))) one-book-answer (contents BookFile) o p
-      (λ book bytes says x y. one-input Cert CERT_BYTES (CertAnswers book) (VerdictGives book (ones book)) (one-cert-answer book) (contents Cert) o p
+  one-of (check name cert) contents o p x y = one-input BookFile BOOK_BYTES BookAnswers (λ book. CertGives book (contents Cert) (VerdictGives book (ones book))) one_book-answer (contents BookFile) o p
+      (λ book bytes says x y. one-input Cert CERT_BYTES (CertAnswers book) (VerdictGives book (ones book)) (one_cert-answer book) (contents Cert) o p
       (λ c of says_it a b. one-judged book (ones book) c o p (lawful bytes book says) a b) x y) x y
   one-of (weigh name weights cert form) contents o p x y =
-      one-input BookFile BOOK_BYTES BookAnswers (λ b. WeightsGive b (contents Weights) (λ w. PriceGives b w form)) one-book-answer (contents BookFile) o p
-      (λ book bytes says x y. one-input Weights WEIGHTS_BYTES (WeightsAnswers book) (λ w. PriceGives book w form) (one-weights-answer book (form-of bytes book says)) (contents Weights) o p
+      one-input BookFile BOOK_BYTES BookAnswers (λ b. WeightsGive b (contents Weights) (λ w. PriceGives b w form)) one_book-answer (contents BookFile) o p
+      (λ book bytes says x y. one-input Weights WEIGHTS_BYTES (WeightsAnswers book) (λ w. PriceGives book w form) (one_weights-answer book (form-of bytes book says)) (contents Weights) o p
       (λ w of says_it a b. one-priced book w (weights-of book of w says_it) form o p (lawful bytes book says) a b) x y) x y
   one-of (weigh_check name weights cert) contents o p x y =
-      one-input BookFile BOOK_BYTES BookAnswers (λ b. WeightsGive b (contents Weights) (λ w. CertGives b (contents Cert) (VerdictGives b w))) one-book-answer (contents BookFile) o p
-      (λ book bytes says x y. one-input Weights WEIGHTS_BYTES (WeightsAnswers book) (λ w. CertGives book (contents Cert) (VerdictGives book w)) (one-weights-answer book (form-of bytes book says)) (contents Weights) o p
-      (λ w of says_it a b. one-input Cert CERT_BYTES (CertAnswers book) (VerdictGives book w) (one-cert-answer book) (contents Cert) o p
+      one-input BookFile BOOK_BYTES BookAnswers (λ b. WeightsGive b (contents Weights) (λ w. CertGives b (contents Cert) (VerdictGives b w))) one_book-answer (contents BookFile) o p
+      (λ book bytes says x y. one-input Weights WEIGHTS_BYTES (WeightsAnswers book) (λ w. CertGives book (contents Cert) (VerdictGives book w)) (one_weights-answer book (form-of bytes book says)) (contents Weights) o p
+      (λ w of says_it a b. one-input Cert CERT_BYTES (CertAnswers book) (VerdictGives book w) (one_cert-answer book) (contents Cert) o p
       (λ c with_it says_cert g h. one-judged book w c o p (lawful bytes book says) g h) a b) x y) x y
-  one-of (auction terms log book) contents o p x y = one-input Award AWARD_BYTES AwardAnswers (λ terms. LogGives terms (contents Log) (AuctionGives terms)) one-award-answer (contents Award) o p
+  one-of (auction terms log book) contents o p x y = one-input Award AWARD_BYTES AwardAnswers (λ terms. LogGives terms (contents Log) (AuctionGives terms)) one_award-answer (contents Award) o p
       (λ terms bytes says x y. one-input Log LOG_BYTES (LogAnswers terms) (AuctionGives terms) (one_log_answer terms) (contents Log) o p
       (λ events of says_it a b. one-end _ _ _ o p a b) x y) x y
   one-of (award terms log cert form) contents o p x y =
-      one-input Award AWARD_BYTES AwardAnswers (λ t. LogGives t (contents Log) (λ events. BookOfLogGives t events (λ b. PriceGives b (ones b) form))) one-award-answer (contents Award) o p
+      one-input Award AWARD_BYTES AwardAnswers (λ t. LogGives t (contents Log) (λ events. BookOfLogGives t events (λ b. PriceGives b (ones b) form))) one_award-answer (contents Award) o p
       (λ t bytes says x y. one-input Log LOG_BYTES (LogAnswers t) (λ events. BookOfLogGives t events (λ b. PriceGives b (ones b) form)) (one_log_answer t) (contents Log) o p
       (λ events of says_it a b. one-ended (length events) (end_of t (reverse events)) (λ b. PriceGives b (ones b) form) o p
       (λ book is. one-priced book (ones book) (ones-weigh (bidders_of book)) form o p (lawful_log t (log_records of) events book says.1 says_it is)) a b) x y) x y
   one-of (audit terms log cert) contents o p x y =
-      one-input Award AWARD_BYTES AwardAnswers (λ t. LogGives t (contents Log) (λ events. BookOfLogGives t events (λ b. CertGives b (contents Cert) (VerdictGives b (ones b))))) one-award-answer (contents Award) o p
+      one-input Award AWARD_BYTES AwardAnswers (λ t. LogGives t (contents Log) (λ events. BookOfLogGives t events (λ b. CertGives b (contents Cert) (VerdictGives b (ones b))))) one_award-answer (contents Award) o p
       (λ t bytes says x y. one-input Log LOG_BYTES (LogAnswers t) (λ events. BookOfLogGives t events (λ b. CertGives b (contents Cert) (VerdictGives b (ones b)))) (one_log_answer t) (contents Log) o p
       (λ events of says_it a b. one-ended (length events) (end_of t (reverse events)) (λ b. CertGives b (contents Cert) (VerdictGives b (ones b))) o p
-      (λ book is x y. one-input Cert CERT_BYTES (CertAnswers book) (VerdictGives book (ones book)) (one-cert-answer book) (contents Cert) o p
+      (λ book is x y. one-input Cert CERT_BYTES (CertAnswers book) (VerdictGives book (ones book)) (one_cert-answer book) (contents Cert) o p
       (λ c with_it says_cert g h. one-judged book (ones book) c o p (lawful_log t (log_records of) events book says.1 says_it is) g h) x y) a b) x y) x y
   one-of (make number terms log) contents o p x y = equal o p _ x y
   one-of (place slots cert rounds) contents o p x y = one_placed slots cert rounds contents o p x y
   one-of (place_check slots cert) contents o p x y = one_tested slots cert contents o p x y
-  one-of (review name edits) contents o p x y = one-input BookFile BOOK_BYTES BookAnswers (λ b. EditsGive b (contents Edits) (ReviewGives b)) one-book-answer (contents BookFile) o p
-      (λ book bytes says x y. one-input Edits EDITS_BYTES (EditsAnswers book) (ReviewGives book) (one-edits-answer book) (contents Edits) o p
+  one-of (review name edits) contents o p x y = one-input BookFile BOOK_BYTES BookAnswers (λ b. EditsGive b (contents Edits) (ReviewGives b)) one_book-answer (contents BookFile) o p
+      (λ book bytes says x y. one-input Edits EDITS_BYTES (EditsAnswers book) (ReviewGives book) (one_edits-answer book) (contents Edits) o p
       (λ changes of says_it a b. both o p (done a.0 []) (done b.0 []) a.2 b.2 (printed-same a.0 b.0 [] [] (one_review book changes a.0 b.0 (limits-of bytes book says) (lots-in book of changes says_it) a.1 b.1))) x y) x y
 
   one-words : (command : Option CommandValue) (file : List ℕ → Option (List ℕ)) (o p : Outcome) → WordsGive command file o → WordsGive command file p → Same o p

@@ -55,11 +55,11 @@ module _ (one_slots : (bytes : List ℕ) (x y : Said SlotList Excess) → Says I
     → AreTurnLines z 0 runs t → AreTurnLines z 0 others u → t ≡ u)
     (one_text : (slots : SlotList) (order z : List ℕ) (v w : ℕ → ℤ) (p q : Point) (t u : List ℕ) → length z ≡ length slots.bidders → pos 1 ≤ℤ p.den → pos 1 ≤ℤ q.den
     → SamePoint (market_of slots) p q → ((j : ℕ) → 0 < j → j ≤ length slots.bidders → v j ≡ w j) → IsPlaceText slots order z v p t → IsPlaceText slots order z w q u → t ≡ u) where
-  one-slots-answer : (bytes : List ℕ) (x y : Answer SlotList) → SlotsAnswers bytes x → SlotsAnswers bytes y → x ≡ y
-  one-slots-answer bytes x y a b = a.2 ∙ ap slots_answer (one_slots bytes a.0 b.0 a.1 b.1) ∙ sym b.2
+  one_slots-answer : (bytes : List ℕ) (x y : Answer SlotList) → SlotsAnswers bytes x → SlotsAnswers bytes y → x ≡ y
+  one_slots-answer bytes x y a b = a.2 ∙ ap slots_answer (one_slots bytes a.0 b.0 a.1 b.1) ∙ sym b.2
 
-  one-cert-answer : (slots : SlotList) (bytes : List ℕ) (x y : Answer PlaceCertValue) → PlaceCertAnswers (length slots.bidders) bytes x → PlaceCertAnswers (length slots.bidders) bytes y → x ≡ y
-  one-cert-answer slots bytes x y a b = a.2 ∙ ap place_cert_answer (one_cert (length slots.bidders) bytes a.0 b.0 a.1 b.1) ∙ sym b.2
+  one_cert-answer : (slots : SlotList) (bytes : List ℕ) (x y : Answer PlaceCertValue) → PlaceCertAnswers (length slots.bidders) bytes x → PlaceCertAnswers (length slots.bidders) bytes y → x ≡ y
+  one_cert-answer slots bytes x y a b = a.2 ∙ ap place_cert_answer (one_cert (length slots.bidders) bytes a.0 b.0 a.1 b.1) ∙ sym b.2
 
   one-rounds : (rounds : Bool) (slots : SlotList) (z : List ℕ) (runs others : List Turn) (t u : List ℕ) → IsMarket (market_of slots) → IsPricingRun (market_of slots) alike z runs
       → IsPricingRun (market_of slots) alike z others → AreRounds rounds z runs t → AreRounds rounds z others u → t ≡ u
@@ -109,11 +109,11 @@ module _ (one_slots : (bytes : List ℕ) (x y : Said SlotList Excess) → Says I
 
   -- the placement that is worked out
   pub one-place : (slots cert : List ℕ) (rounds : Bool) (contents : FileKind → Option (List ℕ)) (o p : Outcome) → CommandGives (place slots cert rounds) contents o → CommandGives (place slots cert rounds) contents p → Same o p
-  one-place slots cert rounds contents o p x y = one-input Slots SLOTS_BYTES SlotsAnswers (λ s. PlaceGives s rounds) one-slots-answer (contents Slots) o p
+  one-place slots cert rounds contents o p x y = one-input Slots SLOTS_BYTES SlotsAnswers (λ s. PlaceGives s rounds) one_slots-answer (contents Slots) o p
       (λ s bytes says x y. one-placing s rounds o p (few-placed bytes s says) x y) x y
 
   -- and one that is tested
   pub one-place_check : (slots cert : List ℕ) (contents : FileKind → Option (List ℕ)) (o p : Outcome) → CommandGives (place_check slots cert) contents o → CommandGives (place_check slots cert) contents p → Same o p
-  one-place_check slots cert contents o p x y = one-input Slots SLOTS_BYTES SlotsAnswers (λ s. PlaceCertGives s (contents Cert) (PlaceVerdictGives s)) one-slots-answer (contents Slots) o p
-      (λ s bytes says x y. one-input Cert CERT_BYTES (PlaceCertAnswers (length s.bidders)) (PlaceVerdictGives s) (one-cert-answer s) (contents Cert) o p
+  one-place_check slots cert contents o p x y = one-input Slots SLOTS_BYTES SlotsAnswers (λ s. PlaceCertGives s (contents Cert) (PlaceVerdictGives s)) one_slots-answer (contents Slots) o p
+      (λ s bytes says x y. one-input Cert CERT_BYTES (PlaceCertAnswers (length s.bidders)) (PlaceVerdictGives s) (one_cert-answer s) (contents Cert) o p
       (λ c of says_it a b. one-judged s c o p (few-placed bytes s says) a b) x y) x y

@@ -76,8 +76,8 @@ has-facts book w cert shape holds = record {
 }
 
 -- the turns can be printed beside the facts
-pub can-print-facts : (book : BookValue) (c : CertValue) (facts : CertFacts) (turns : List Turn) → AreFacts book c facts → AllByRecursion (CanPrintTurn c.choice) turns → AllByRecursion (CanPrintTurn facts.choice) turns
-can-print-facts book c facts turns are can = subst (λ (z : List ℕ). AllByRecursion (CanPrintTurn z) turns) (sym are.choice) can
+pub can_print-facts : (book : BookValue) (c : CertValue) (facts : CertFacts) (turns : List Turn) → AreFacts book c facts → AllByRecursion (CanPrintTurn c.choice) turns → AllByRecursion (CanPrintTurn facts.choice) turns
+can_print-facts book c facts turns are can = subst (λ (z : List ℕ). AllByRecursion (CanPrintTurn z) turns) (sym are.choice) can
 
 -- a certificate for which all tests hold gives yes
 pub accepts : (book : BookValue) (weights : List ℕ) (c : CertValue) (text : List ℕ) (appended : List FileText) → appended ≡ [] → Holds book (weight_of weights) c → IsSound book (weight_of weights) c

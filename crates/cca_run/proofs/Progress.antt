@@ -131,8 +131,8 @@ module _ {V : Type 0} (command : CommandValue) (old mid new : Folder) (seen : Li
   stops-next halts turn gone agree s stop = stops-with halts (λ bytes status halt. (stops status, turn bytes status halt, refl)) gone agree s stop
 
 -- the kinds of texts are those of outputs
-outputs-of-kinds : (command : CommandValue) (texts : List FileText) (kinds : List FileKind) → map (λ t. t.kind) texts ≡ kinds → AllByRecursion (λ kind. IsSome (output_as command kind)) kinds → AreOutputs command texts
-outputs-of-kinds command texts kinds is all = by texts (subst (λ (ks : List FileKind). AllByRecursion (λ kind. IsSome (output_as command kind)) ks) (sym is) all)
+outputs_of-kinds : (command : CommandValue) (texts : List FileText) (kinds : List FileKind) → map (λ t. t.kind) texts ≡ kinds → AllByRecursion (λ kind. IsSome (output_as command kind)) kinds → AreOutputs command texts
+outputs_of-kinds command texts kinds is all = by texts (subst (λ (ks : List FileKind). AllByRecursion (λ kind. IsSome (output_as command kind)) ks) (sym is) all)
   where
     by : (texts : List FileText) → AllByRecursion (λ kind. IsSome (output_as command kind)) (map (λ t. t.kind) texts) → AreOutputs command texts
     by [] all = tt
@@ -148,7 +148,7 @@ works command old new seen rest at kinds outputs result is = record { out = by r
     given o gives told = at.leads told (contents_of command old.file) (agree-own command old seen) o gives
 
     by : (result : Result Work Stop) → IsWork (rest (contents_of command old.file)) kinds result → WorksOut command old new result
-    by (Ok work) is = (outputs-of-kinds command work.appended.items kinds is.1 outputs, given (done work.printed work.appended.items) is.0)
+    by (Ok work) is = (outputs_of-kinds command work.appended.items kinds is.1 outputs, given (done work.printed work.appended.items) is.0)
     by (Err stop) (inl memory) = inl memory
     by (Err stop) (inr x) = inr (inr (x.0, given _ x.1))
 

@@ -80,8 +80,8 @@ module _ (command : CommandValue) (old new : Folder) (kind : FileKind) (fault : 
   text = record { kind = kind; text = part.text }
 
   -- its file had no room for all that goes to it
-  had-no-room : HasRoom (old.room part.name) (appended_to command part.name fault.appended) → ⊥
-  had-no-room has = part.no_room (behind-texts command part.name part.before old part.between part.whole (length part.text)
+  had-no_room : HasRoom (old.room part.name) (appended_to command part.name fault.appended) → ⊥
+  had-no_room has = part.no_room (behind-texts command part.name part.before old part.between part.whole (length part.text)
       (less-room (old.room part.name) (appended_to command part.name part.before + length part.text) (appended_to command part.name (part.before ++ text ∷ part.behind))
       (among-texts command part.name part.before text part.behind (goes-to command part.name part.name text part.output ∙ (bytes_eq-Decides part.name part.name).1 refl))
       (subst (λ (texts : List FileText). HasRoom (old.room part.name) (appended_to command part.name texts)) part.split has)))
@@ -107,7 +107,7 @@ module _ (words : List (List ℕ)) (old new : Folder) (before now : Output) (tol
           let room = has.appends given.0 (subst (λ (c : Option CommandValue). WordsGive c old.file given.0) (sym is) given.1) name
           (subst (λ (c : Option CommandValue). Contains (outputs c) name) (sym is) (output-among command kind name fault.part.output)) in
           let here = subst (λ (c : Option CommandValue). HasRoom (old.room name) (told_to c name given.0.appended)) is room in
-          had-no-room command old new kind fault (subst (λ (texts : List FileText). HasRoom (old.room name) (appended_to command name texts)) given.3 here)
+          had-no_room command old new kind fault (subst (λ (texts : List FileText). HasRoom (old.room name) (appended_to command name texts)) given.3 here)
 
   -- no line of a hindrance is due but that of want of memory
   due-line : (status : Status) → IsHindrance (command_of words) old new status → HasRoom before.room (length (status_line status))

@@ -119,8 +119,8 @@ run-complete command old new before now (Limit which count) ends none = inr tt
 -- without a fault a run whose words and bytes give Done alone is Done, or there was no memory
 module _ (command : Option CommandValue) (old new : Folder) (before now : Output) (result : Status) (ends : RunEnds command old new before now result) (told : IsTrue old.told)
     (none : HasNoFault command old new before now) where
-  done-or-memory : ((o : Outcome) → WordsGive command old.file o → o.status ≡ Done) → (result ≡ Done) ⊎ (result ≡ Memory)
-  done-or-memory all =
+  done_or_memory : ((o : Outcome) → WordsGive command old.file o → o.status ≡ Done) → (result ≡ Done) ⊎ (result ≡ Memory)
+  done_or_memory all =
       elim (run-complete command old new before now result ends none) [
         | inl memory ↦ inr memory
         | inr decided ↦ (let a = ends.answer told decided in inl (sym a.2 ∙ all a.0 a.1))
@@ -130,7 +130,7 @@ module _ (command : Option CommandValue) (old new : Folder) (before now : Output
   pub run-awarded : ((file : List ℕ → Option (List ℕ)) (terms log cert : List ℕ) (form : PriceForm) (o : Outcome) → CanBeAwarded file terms log → FilesGive (award terms log cert form) file o → o.status ≡ Done)
       → (terms log cert : List ℕ) (form : PriceForm) → command ≡ Some (award terms log cert form) → CanBeAwarded old.file terms log → (result ≡ Done) ⊎ (result ≡ Memory)
   run-awarded law terms log cert form is can =
-      done-or-memory (λ o gives. law old.file terms log cert form o can (subst (λ (k : Option CommandValue). WordsGive k old.file o) is gives))
+      done_or_memory (λ o gives. law old.file terms log cert form o can (subst (λ (k : Option CommandValue). WordsGive k old.file o) is gives))
 
   -- and its certificate accepted
   pub run-accepted : ((terms log cert : List ℕ) (form : PriceForm) (file later : List ℕ → Option (List ℕ)) (o p : Outcome) → FilesGive (award terms log cert form) file o → HoldsCert (terms ∷ log ∷ []) cert file later o
@@ -138,7 +138,7 @@ module _ (command : Option CommandValue) (old new : Folder) (before now : Output
       → (terms log cert : List ℕ) (form : PriceForm) (earlier : List ℕ → Option (List ℕ)) (o : Outcome) → command ≡ Some (audit terms log cert) → FilesGive (award terms log cert form) earlier o
       → HoldsCert (terms ∷ log ∷ []) cert earlier old.file o → (result ≡ Done) ⊎ (result ≡ Memory)
   run-accepted law terms log cert form earlier o is gave holds =
-      done-or-memory (λ p gives. law terms log cert form earlier old.file o p gave holds (subst (λ (k : Option CommandValue). WordsGive k old.file p) is gives))
+      done_or_memory (λ p gives. law terms log cert form earlier old.file o p gave holds (subst (λ (k : Option CommandValue). WordsGive k old.file p) is gives))
 
 -- what a text that was appended whole to a file that is none of these leaves in the files
 appended-cert : (terms log cert text : List ℕ) (form : PriceForm) (old new : Folder) (o : Outcome) → IsApart terms log cert → IsTrue old.told → o.appended ≡ cert_file text ∷ [] → HoldsNothing (old.file cert)
@@ -161,9 +161,9 @@ appended-cert terms log cert text form old new o apart told some nothing (betwee
     in_new name = ap (λ (f : List ℕ → Option (List ℕ)). f name) kept.file
 
 -- over a certificate's file that held nothing it hands it on
-pub run-hands-on : AwardLaw → (words : List (List ℕ)) (old new : Folder) (before now : Output) (result : Status) → RunEnds (command_of words) old new before now result
+pub run-hands_on : AwardLaw → (words : List (List ℕ)) (old new : Folder) (before now : Output) (result : Status) → RunEnds (command_of words) old new before now result
     → (terms log cert : List ℕ) (form : PriceForm) → command_of words ≡ Some (award terms log cert form) → IsTrue old.told → result ≡ Done → HoldsNothing (old.file cert)
     → (o : Outcome) × FilesGive (award terms log cert form) old.file o × HoldsCert (terms ∷ log ∷ []) cert old.file new.file o
-run-hands-on law words old new before now result ends terms log cert form is told done nothing =
+run-hands_on law words old new before now result ends terms log cert form is told done nothing =
     let d = award-done law (command_of words) old new before now result ends terms log cert form is told done in
     (d.outcome, d.gives, appended-cert terms log cert d.text form old new d.outcome (apart-in words terms log cert form is) told d.appended nothing d.appends)

@@ -70,8 +70,8 @@ module _ (folder : Folder) (before now : Output) (line : List ℕ) (result : Sta
   }
 
   -- its status is Words, or a fault of the output
-  pub words-or-out : (result ≡ Words) ⊎ (result ≡ WriteFault Out)
-  words-or-out = as-result before now line Words result prints _ (λ e w. inl e) (λ e rose cut full. inr e)
+  pub words_or_out : (result ≡ Words) ⊎ (result ≡ WriteFault Out)
+  words_or_out = as-result before now line Words result prints _ (λ e w. inl e) (λ e rose cut full. inr e)
 
 -- the way to the work of a command stopped
 module _ (command : CommandValue) (old new : Folder) (before now : Output) (stop : Stop) (result : Status) (reads : OnlyReads command old new) (stops : StopsBy command old new stop)

@@ -7,7 +7,7 @@ use Rattle.auction_model.specs.Place.{place_of, left_at}
 use Rattle.auction_model.specs.Market.{is_number_before, number_of}
 use Rattle.auction_model.specs.Menu.{fits_after}
 use Rattle.auction_model.specs.Book.{Book, bids_of, lots_of, net_of, menu_of, market_of}
-use Rattle.auction_model.proofs.PlaceLaws.{states-positive, left_at-whole, left_at-less, place-less-below}
+use Rattle.auction_model.proofs.PlaceLaws.{states-positive, left_at-whole, left_at-less, place-less_below}
 use Rattle.cert_form.specs.Certificate.{CertValue}
 use Rattle.cert_laws.specs.Tests.{NoEarlier, bidders_of, states, left_after}
 use Rattle.cert_laws.proofs.Bounds.{First, first_of_fitting}
@@ -54,7 +54,7 @@ module _ (book : Book) (choice : List ℕ) (value : ℤ) (length_is : length cho
       let first = left-first k rest bound inside so in
       subst (λ (n : ℕ). IsLeft book choice value n next (bound -ℤ net)) up
       (record {
-        place = subst (λ (n : ℕ). n < states book) (sym next_at) (place-less-below book.supply own rest so.place);
+        place = subst (λ (n : ℕ). n < states book) (sym next_at) (place-less_below book.supply own rest so.place);
         left = there ∙ ap (λ (l : List ℕ). less l own) so.left;
         fits = subst (λ (l : List ℕ). IsTrue (fits_after (menu_of book) (suc k) l (drop (suc k) choice))) (sym there) first.rest;
         bound_is = (let a = so.bound_is in omega (arith, ints, a, net_at));

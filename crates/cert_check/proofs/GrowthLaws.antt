@@ -7,7 +7,7 @@ use Rattle.std.proofs.lemmas.Nat.{div_below, mod_below, div-add-mod'}
 use Rattle.auction_model.specs.Package.{is_within, less}
 use Rattle.auction_model.specs.Place.{states_of, place_of, left_at}
 use Rattle.auction_model.specs.Book.{lots_of, net_of, bids_of}
-use Rattle.auction_model.proofs.PlaceLaws.{states-positive, place_of-left_at, left_at-less, place-less-below, within-within}
+use Rattle.auction_model.proofs.PlaceLaws.{states-positive, place_of-left_at, left_at-less, place-less_below, within-within}
 use Rattle.auction_model.proofs.PackageLaws.{less-empty}
 use Rattle.auction_model.proofs.DominatedLaws.{lowered-in_order, less-within}
 use Rattle.auction_model.proofs.PartReads.{read-part}
@@ -105,7 +105,7 @@ module _ (o : Offers) (j i : ℕ) (line below : List ℤ) (places : length line 
       let larger = lots_of o.book.now j i in
       let lots = lots_of o.book.now j h in
       let w : IsTrue (is_within (less left larger) (less left lots)) = less-within left larger lots smaller in
-      grows (place_of supply (less left larger)) (place_of supply (less left lots)) (place-less-below supply larger s low) (place-less-below supply lots s low)
+      grows (place_of supply (less left larger)) (place_of supply (less left lots)) (place-less_below supply larger s low) (place-less_below supply lots s low)
       (rw (left_at-less supply larger s low, left_at-less supply lots s low) w)
 
   needless-keeps : IsNeedless o j i → (k : ℕ) → i ≡ k + 1 → (s : ℕ) → KeepsSome o j line below k s → KeepsBid o j line below i s

@@ -10,7 +10,7 @@ use Rattle.auction_model.specs.Menu.{Menu, fits_after}
 use Rattle.auction_model.specs.Table.{entry_at}
 use Rattle.auction_model.proofs.PackageLaws.{less-empty}
 use Rattle.auction_model.proofs.MenuLaws.{fits-past_end, fits-cons}
-use Rattle.auction_model.proofs.PlaceLaws.{left_at-less, place-less-below}
+use Rattle.auction_model.proofs.PlaceLaws.{left_at-less, place-less_below}
 use Rattle.cert_laws.specs.Tests.{Obeys, NoEarlier, left_after, worth_before}
 
 -- the worth of a bid, and 0 for none
@@ -62,7 +62,7 @@ module _ (m : Menu) (worth : ℕ → ℕ → ℤ) (supply : List ℕ) (table : L
       let k_in = inside m k (left_at supply s) (suc i) c le t in
       let f = first_of_fitting m k (left_at supply s) (suc i) c t in
       let q = place_of supply (less (left_at supply s) (m.lots (suc k) (suc i))) in
-      let rest : sum_after (counted worth) (suc k) c ≤ℤ entry_at table (suc k) q = bounded c (suc k) q (omega (arith, k_in)) (place-less-below supply (m.lots (suc k) (suc i)) s lt) (subst (λ (l : List ℕ). IsTrue (fits_after m (suc k) l c)) (sym (left_at-less supply (m.lots (suc k) (suc i)) s lt)) f.rest) in
+      let rest : sum_after (counted worth) (suc k) c ≤ℤ entry_at table (suc k) q = bounded c (suc k) q (omega (arith, k_in)) (place-less_below supply (m.lots (suc k) (suc i)) s lt) (subst (λ (l : List ℕ). IsTrue (fits_after m (suc k) l c)) (sym (left_at-less supply (m.lots (suc k) (suc i)) s lt)) f.rest) in
       let step = (obeys k s le lt).bid k_in (suc i) (omega arith) f.known f.own in
       omega (arith, ints, rest, step)
 
@@ -89,7 +89,7 @@ module _ (m : Menu) (worth : ℕ → ℕ → ℤ) (supply : List ℕ) (table : L
         → IsTrue (is_number_before i (number_of choice (suc k))) → sum_after (counted worth) k (i ∷ c) <ℤ (value -ℤ worth_before worth choice k)
     differs i c k s k_in lt here f before =
         let q = place_of supply (less (left_at supply s) (m.lots (suc k) i)) in
-        let rest : sum_after (counted worth) (suc k) c ≤ℤ entry_at table (suc k) q = bounded c (suc k) q (omega (arith, k_in)) (place-less-below supply (m.lots (suc k) i) s lt) (subst (λ (l : List ℕ). IsTrue (fits_after m (suc k) l c)) (sym (left_at-less supply (m.lots (suc k) i) s lt)) f.rest) in
+        let rest : sum_after (counted worth) (suc k) c ≤ℤ entry_at table (suc k) q = bounded c (suc k) q (omega (arith, k_in)) (place-less_below supply (m.lots (suc k) i) s lt) (subst (λ (l : List ℕ). IsTrue (fits_after m (suc k) l c)) (sym (left_at-less supply (m.lots (suc k) i) s lt)) f.rest) in
         let t = tested k k_in i before f.known (subst (λ (l : List ℕ). IsTrue (is_within (m.lots (suc k) i) l)) here f.own) in
         let place : entry_at table (suc k) q ≡ entry_at table (suc k) (place_of supply (less (left_after m supply choice k) (m.lots (suc k) i))) = ap (λ (l : List ℕ). entry_at table (suc k) (place_of supply (less l (m.lots (suc k) i)))) here in
         let own = counted_any (suc k) i in
@@ -111,7 +111,7 @@ module _ (m : Menu) (worth : ℕ → ℕ → ℤ) (supply : List ℕ) (table : L
               let same : i ≡ number_of choice (suc k) = eqb-true i j both.0 ∙ number in
               let q = place_of supply (less (left_at supply s) (m.lots (suc k) i)) in
               let there : left_at supply q ≡ left_after m supply choice (suc k) = left_at-less supply (m.lots (suc k) i) s lt ∙ ap (λ (l : List ℕ). less l (m.lots (suc k) i)) here ∙ ap (λ (n : ℕ). less (left_after m supply choice k) (m.lots (suc k) n)) same in
-              let rest = earlier_is_less c d (suc k) q (ends_more choice k j d ends) (omega (arith, k_in)) (place-less-below supply (m.lots (suc k) i) s lt) there (subst (λ (l : List ℕ). IsTrue (fits_after m (suc k) l c)) (sym (left_at-less supply (m.lots (suc k) i) s lt)) f.rest) both.1 in
+              let rest = earlier_is_less c d (suc k) q (ends_more choice k j d ends) (omega (arith, k_in)) (place-less_below supply (m.lots (suc k) i) s lt) there (subst (λ (l : List ℕ). IsTrue (fits_after m (suc k) l c)) (sym (left_at-less supply (m.lots (suc k) i) s lt)) f.rest) both.1 in
               let own : counted worth (suc k) i ≡ worth (suc k) (number_of choice (suc k)) = counted_any (suc k) i ∙ ap (worth (suc k)) same in
               omega (arith, ints, rest, own))
         ]

@@ -13,7 +13,7 @@ use Rattle.auction_model.specs.Book.{Book, bids_of, net_of, menu_of, market_of, 
 use Rattle.auction_model.specs.Prices.{sum_over, everyone}
 use Rattle.auction_model.proofs.PackageLaws.{less-empty}
 use Rattle.auction_model.proofs.MenuLaws.{fits-cons, fits-at_end}
-use Rattle.auction_model.proofs.PlaceLaws.{left_at-less, place-less-below, left_at-whole}
+use Rattle.auction_model.proofs.PlaceLaws.{left_at-less, place-less_below, left_at-whole}
 use Rattle.auction_model.proofs.BookMarket.{fewer-known, fewer-taken}
 use Rattle.cert_form.specs.Certificate.{CertValue, part_of}
 use Rattle.cert_laws.specs.Tests.{Obeys, bidders_of, states, C2, C3, C4, C5, won, vickrey_of}
@@ -46,7 +46,7 @@ module _ (m : Menu) (worth : ℕ → ℕ → ℤ) (supply : List ℕ) (table : L
       let s = states_of supply - 1 in
       let below = full-below supply in
       let q = place_of supply (less (left_at supply s) (m.lots (suc k) i)) in
-      let in_place = place-less-below supply (m.lots (suc k) i) s below in
+      let in_place = place-less_below supply (m.lots (suc k) i) s below in
       let step = (rules k s (omega (arith, lt)) below).bid lt i some known (subst (λ (l : List ℕ). IsTrue (is_within (m.lots (suc k) i) l)) (sym (left_at-whole supply)) fits) in
       let rest = entry-least (m.bidders - suc k) (suc k) q (omega (arith, lt)) in_place in
       let top = entry-most k s (omega (arith, lt)) below in
@@ -78,7 +78,7 @@ module _ (m : Menu) (counts : ℕ → ℕ → ℤ) (supply : List ℕ) (table : 
         let b = with_bid k s s 0 k_in lt lt (omega arith) (subst (λ (l : List ℕ). IsTrue (is_within l (left_at supply s))) (sym (empty (suc k))) refl) whole in
         let z = none_counts (suc k) in
         omega (arith, ints, b, z);
-    bid = λ k_in i some known fits. with_bid k s (place_of supply (less (left_at supply s) (m.lots (suc k) i))) i k_in lt (place-less-below supply (m.lots (suc k) i) s lt) known fits (left_at-less supply (m.lots (suc k) i) s lt);
+    bid = λ k_in i some known fits. with_bid k s (place_of supply (less (left_at supply s) (m.lots (suc k) i))) i k_in lt (place-less_below supply (m.lots (suc k) i) s lt) known fits (left_at-less supply (m.lots (suc k) i) s lt);
   }
     where
       last : (k : ℕ) → k ≡ m.bidders → IsEntry m counts k (left_at supply s) (entry_at table k s) → pos 0 ≤ℤ entry_at table k s

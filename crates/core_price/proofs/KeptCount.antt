@@ -7,7 +7,7 @@ use Rattle.nearest_point.specs.Numbers.{AreBelow, is_zero, pairs_used}
 use Rattle.wide_num.specs.Sums.{nth}
 use Rattle.core_price.specs.Kept.{is_used, seconds, with_pairs}
 use Rattle.core_price.specs.declared.priced.PricedRow.{PricedRow}
-use Rattle.core_price.proofs.KeptSums.{AreLong, kept-each, kept_of, take-or-skip, unused-none, used-some}
+use Rattle.core_price.proofs.KeptSums.{AreLong, kept-each, kept_of, take_or_skip, unused-none, used-some}
 
 -- 1 for a pair that isn't 0, 0
 abbrev counted : ℤ → ℤ → ℕ
@@ -30,7 +30,7 @@ count-from_first (suc n) f s = let r = count-from_first n f s in omega (arith, r
 
 count-one : (x : PricedRow) (xs : List PricedRow) → length (filter is_used (x ∷ xs)) ≡ counted x.first x.second + length (filter is_used xs)
 count-one x xs =
-    elim (take-or-skip x xs) [
+    elim (take_or_skip x xs) [
       | inl t ↦ let l = ap (λ (k : List PricedRow). length k) t.1 in let c = counted-some x.first x.second (used-some x.first x.second t.0) in omega (arith, l, c)
       | inr t ↦ let l = ap (λ (k : List PricedRow). length k) t.1 in let c = counted-none x.first x.second (unused-none x.first x.second t.0) in omega (arith, l, c)
     ]

@@ -50,8 +50,8 @@ abbrev pub kept_of : List Row → List (List ℕ) → List ℤ → List ℤ → 
 kept_of rows choices first second = filter is_used (with_pairs rows choices first second)
 
 -- the first row is used and kept, or is neither
-pub take-or-skip : (x : PricedRow) (xs : List PricedRow) → ((is_used x ≡ true) × (filter is_used (x ∷ xs) ≡ x ∷ filter is_used xs)) ⊎ ((is_used x ≡ false) × (filter is_used (x ∷ xs) ≡ filter is_used xs))
-take-or-skip x xs = by (cases_Bool (is_used x))
+pub take_or_skip : (x : PricedRow) (xs : List PricedRow) → ((is_used x ≡ true) × (filter is_used (x ∷ xs) ≡ x ∷ filter is_used xs)) ⊎ ((is_used x ≡ false) × (filter is_used (x ∷ xs) ≡ filter is_used xs))
+take_or_skip x xs = by (cases_Bool (is_used x))
   where
     by : (is_used x ≡ true) ⊎ (is_used x ≡ false) → ((is_used x ≡ true) × (filter is_used (x ∷ xs) ≡ x ∷ filter is_used xs)) ⊎ ((is_used x ≡ false) × (filter is_used (x ∷ xs) ≡ filter is_used xs))
     by (inl e) = inl (e, rw e refl)
@@ -72,7 +72,7 @@ kept-among (row ∷ rows) (c ∷ choices) [] second h = absurd (let e = h.first_
 kept-among (row ∷ rows) (c ∷ choices) (f ∷ first) [] h = absurd (let e = h.second_long in omega arith)
 kept-among (row ∷ rows) (c ∷ choices) (f ∷ first) (s ∷ second) h =
     let rest = kept-among rows choices first second (record { choices_long = let e = h.choices_long in omega arith; first_long = let e = h.first_long in omega arith; second_long = let e = h.second_long in omega arith }) in
-    elim (take-or-skip (record { row = row; choice = c; first = f; second = s }) (with_pairs rows choices first second)) [
+    elim (take_or_skip (record { row = row; choice = c; first = f; second = s }) (with_pairs rows choices first second)) [
       | inl t ↦ subst (λ k. AreAmong (row ∷ rows) (c ∷ choices) k) (sym t.1) (among-take row c f s rows choices (kept_of rows choices first second) rest)
       | inr t ↦ subst (λ k. AreAmong (row ∷ rows) (c ∷ choices) k) (sym t.1) (among-skip row c rows choices (kept_of rows choices first second) rest)
     ]
@@ -86,7 +86,7 @@ kept-each Q (row ∷ rows) (c ∷ choices) [] second h q = absurd (let e = h.fir
 kept-each Q (row ∷ rows) (c ∷ choices) (f ∷ first) [] h q = absurd (let e = h.second_long in omega arith)
 kept-each Q (row ∷ rows) (c ∷ choices) (f ∷ first) (s ∷ second) h q =
     let rest = kept-each Q rows choices first second (record { choices_long = let e = h.choices_long in omega arith; first_long = let e = h.first_long in omega arith; second_long = let e = h.second_long in omega arith }) (λ i lt u. q (suc i) (omega arith) u) in
-    elim (take-or-skip (record { row = row; choice = c; first = f; second = s }) (with_pairs rows choices first second)) [
+    elim (take_or_skip (record { row = row; choice = c; first = f; second = s }) (with_pairs rows choices first second)) [
       | inl t ↦ subst (λ k. AllByRecursion Q k) (sym t.1) (q 0 (omega arith) t.0, rest)
       | inr t ↦ subst (λ k. AllByRecursion Q k) (sym t.1) rest
     ]
@@ -100,7 +100,7 @@ all-each Q (row ∷ rows) (c ∷ choices) [] second h k q i lt = absurd (let e =
 all-each Q (row ∷ rows) (c ∷ choices) (f ∷ first) [] h k q i lt = absurd (let e = h.second_long in omega arith)
 all-each Q (row ∷ rows) (c ∷ choices) (f ∷ first) (s ∷ second) h k q i lt =
     let rest = λ (kept : AllByRecursion Q (kept_of rows choices first second)). all-each Q rows choices first second (record { choices_long = let e = h.choices_long in omega arith; first_long = let e = h.first_long in omega arith; second_long = let e = h.second_long in omega arith }) kept (λ j lj u. q (suc j) (omega arith) u) in
-    elim (take-or-skip (record { row = row; choice = c; first = f; second = s }) (with_pairs rows choices first second)) [
+    elim (take_or_skip (record { row = row; choice = c; first = f; second = s }) (with_pairs rows choices first second)) [
       | inl t ↦ (let both = subst (λ l. AllByRecursion Q l) t.1 k in at i lt both.0 (rest both.1))
       | inr t ↦ at i lt (q 0 (omega arith) t.0) (rest (subst (λ l. AllByRecursion Q l) t.1 k))
     ]
@@ -123,7 +123,7 @@ kept-total F none (row ∷ rows) (c ∷ choices) (f ∷ first) [] h = absurd (le
 kept-total F none (row ∷ rows) (c ∷ choices) (f ∷ first) (s ∷ second) h =
     let rest = kept-total F none rows choices first second (record { choices_long = let e = h.choices_long in omega arith; first_long = let e = h.first_long in omega arith; second_long = let e = h.second_long in omega arith }) in
     let right = total-first (length rows) (λ i. F (entry (row ∷ rows) (c ∷ choices) (f ∷ first) (s ∷ second) i)) in
-    elim (take-or-skip (record { row = row; choice = c; first = f; second = s }) (with_pairs rows choices first second)) [
+    elim (take_or_skip (record { row = row; choice = c; first = f; second = s }) (with_pairs rows choices first second)) [
       | inl t ↦ (let a = ap (λ l. total (length l) (λ i. F (get_or l i no_row))) t.1 in
           let b = total-first (length (kept_of rows choices first second)) (λ i. F (get_or (record { row = row; choice = c; first = f; second = s } ∷ kept_of rows choices first second) i no_row)) in
           omega (arith, ints, a, b, rest, right))

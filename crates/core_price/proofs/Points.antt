@@ -17,7 +17,7 @@ use Rattle.row_laws.specs.Rows.{Meets}
 use Rattle.row_laws.specs.Surplus.{AsksWinnersOnly}
 use Rattle.row_laws.specs.Winners.{for_bidders, for_winners, winners_in}
 use Rattle.row_laws.proofs.Sums.{over-is}
-use Rattle.row_laws.proofs.Winners.{there-and-back, paid-zip, loser-zero, all-bidders}
+use Rattle.row_laws.proofs.Winners.{there_and_back, paid-zip, loser-zero, all-bidders}
 use Rattle.wide_num.specs.Sums.{nth, total}
 use Rattle.core_price.specs.Answers.{IsAnswer}
 use Rattle.core_price.specs.Turns.{point_of}
@@ -51,7 +51,7 @@ asks-winners m z len den at = record {
 module _ (m : Market) (z : List ℕ) (len : length z ≡ m.bidders) where
   -- a point that asks nothing of losers is the one made of its numbers for winners
   pub back-of : (q : Point) → AsksWinnersOnly m z q → for_bidders z (for_winners z q.at) ≡ q.at
-  back-of q asks = there-and-back z q.at (omega (arith, asks.bidders, len)) (λ k lt e. let b : suc k - 1 ≡ k = omega arith in let h = asks.losers (suc k) (omega arith) (omega (arith, len)) e in rw b at h)
+  back-of q asks = there_and_back z q.at (omega (arith, asks.bidders, len)) (λ k lt e. let b : suc k - 1 ≡ k = omega arith in let h = asks.losers (suc k) (omega arith) (omega (arith, len)) e in rw b at h)
 
   -- the payments of a point made of numbers for winners add up to the sum of these
   pub paid-own : (den : ℤ) (at : List ℤ) → paid m (point_of z den at) ≡ total (winners_in z) (nth at)

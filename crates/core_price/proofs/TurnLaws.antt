@@ -179,8 +179,8 @@ module _ (m : Market) (lawful : IsMarket m) (z : List ℕ) (win : IsWinning m z)
       (omega (arith, ints), omega (arith, ints))
 
   -- the turn with its block
-  point-of-turn : (b : Block) → IsBlock m z den (for_bidders z at) b → IsPointOfTurn z weights (record { den = den; at = at; block = Some b })
-  point-of-turn b block = record {
+  point_of-turn : (b : Block) → IsBlock m z den (for_bidders z at) b → IsPointOfTurn z weights (record { den = den; at = at; block = Some b })
+  point_of-turn b block = record {
     den_positive = den-positive;
     den_small = answer.small_den;
     den_of_ones = of-ones;
@@ -202,7 +202,7 @@ module _ (m : Market) (lawful : IsMarket m) (z : List ℕ) (win : IsWinning m z)
     row_bounds = record { not_negative = λ i lt. (limit i (inside i lt)).0; small = λ i lt. (limit i (inside i lt)).1 };
     below_value = λ i lt. (limit i (inside i lt)).2;
     singles = λ j lt. (let q = far.singles j lt in (q.0, let l = length-append rows (b.row ∷ []) in omega (arith, q.1), ap (λ (x : Row). x.members) (old q.0 q.1) ∙ q.2));
-    each = each-push (IsPointOfTurn z weights) past turn far.each (subst (IsPointOfTurn z weights) (sym is) (point-of-turn b block));
+    each = each-push (IsPointOfTurn z weights) past turn far.each (subst (IsPointOfTurn z weights) (sym is) (point_of-turn b block));
     run = λ v ps rest go. subst (λ l. GoOn m (weight_of weights) z v (single_rows v 0 z) l) (turns-more rest)
         (far.run v ps (turn_of z turn ∷ rest) (rw is (turn-point m z len rows weights can.weighing prices can.long den at first second answer v (priced v ps), (block.block, subst (λ l. GoOn m (weight_of weights) z v l rest) (map-append (row_in z) rows (b.row ∷ [])) go))));
   }

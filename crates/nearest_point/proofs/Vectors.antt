@@ -208,21 +208,21 @@ cut-above zero f k i le = refl
 cut-above (suc n) f k zero le = absurd (omega arith)
 cut-above (suc n) f k (suc i) le = cut-above n (λ i. f (suc i)) k i (omega arith)
 
-sum-cut-long : (k d : ℕ) (c a : ℕ → ℤ) → total (d + k) (λ i. cut k c (pos 0) i *ℤ a i) ≡ total k (λ i. c i *ℤ a i)
-sum-cut-long k zero c a =
+sum_cut-long : (k d : ℕ) (c a : ℕ → ℤ) → total (d + k) (λ i. cut k c (pos 0) i *ℤ a i) ≡ total k (λ i. c i *ℤ a i)
+sum_cut-long k zero c a =
     let e : zero + k ≡ k = omega arith in
     ap (λ (t : ℕ). total t (λ i. cut k c (pos 0) i *ℤ a i)) e ∙ total-same k (λ i. cut k c (pos 0) i *ℤ a i) (λ i. c i *ℤ a i) (λ i lt. ap (λ (z : ℤ). z *ℤ a i) (cut-below k c (pos 0) i lt))
-sum-cut-long k (suc d) c a =
+sum_cut-long k (suc d) c a =
     let e : suc d + k ≡ suc (d + k) = omega arith in
     ap (λ (t : ℕ). total t (λ i. cut k c (pos 0) i *ℤ a i)) e
-    ∙ (let p = sum-cut-long k d c a in
+    ∙ (let p = sum_cut-long k d c a in
     let z : cut k c (pos 0) (d + k) *ℤ a (d + k) ≡ pos 0 *ℤ a (d + k) = ap (λ (t : ℤ). t *ℤ a (d + k)) (cut-above k c (pos 0) (d + k) (omega arith)) in
     omega (arith, ints))
 
 -- the front of independent rows is independent
 pub independent_front : (m k d : ℕ) (a : ℕ → ℕ → ℤ) → Independent m (d + k) a → Independent m k a
 independent_front m k d a h = record {
-  only_zero = λ c z i lt. sym (cut-below k c (pos 0) i lt) ∙ h.only_zero (cut k c (pos 0)) (λ j lj. sum-cut-long k d c (λ i. a i j) ∙ z j lj) i (omega arith);
+  only_zero = λ c z i lt. sym (cut-below k c (pos 0) i lt) ∙ h.only_zero (cut k c (pos 0)) (λ j lj. sum_cut-long k d c (λ i. a i j) ∙ z j lj) i (omega arith);
 }
 
 -- independent rows are at most as many as coordinates

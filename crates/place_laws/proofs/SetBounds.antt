@@ -12,7 +12,7 @@ use Rattle.slot_places.specs.Board.{Board, nobody, joined, outside, menu_of, is_
 use Rattle.slot_places.specs.SetTable.{holds, counts_outside, sum_outside}
 use Rattle.slot_places.proofs.MarketLaws.{placed-number}
 use Rattle.slot_places.proofs.PlaceLaws.{next-which}
-use Rattle.slot_places.proofs.SameLaws.{IsSame, AsksBidders, outside-same, place-same, sum-outside-same}
+use Rattle.slot_places.proofs.SameLaws.{IsSame, AsksBidders, outside-same, place-same, sum_outside-same}
 use Rattle.slot_places.proofs.SetBits.{holds-joined, holds-everyone, joined-small, outside-positive, power-positive}
 use Rattle.slot_places.proofs.SetLaws.{outside-joined}
 use Rattle.slot_places.proofs.StepLaws.{sum-set}
@@ -76,7 +76,7 @@ module _ (b : Board) (asks : AsksBidders b) (idle : (s : ℕ → Bool) (j : ℕ)
         let rest : sum_outside (holds more) (counted worth) c ≤ℤ entry_at table 0 more =
         behind left more (joined-small b.bidders bits j below n.some n.low n.new) (omega (arith, some, fewer, count_more)) (sym (place-same b asks c left (joined j (holds bits)) (holds more) same) ∙ n.rest) in
         let sums = sum-next (holds bits) (counted worth) c j n.some (omega (arith, n.low, count)) n.new in
-        let moved = sum-outside-same (counted worth) (joined j (holds bits)) (holds more) same c in
+        let moved = sum_outside-same (counted worth) (joined j (holds bits)) (holds more) same c in
         let own = next bits j (number_of c j) below n.some n.low n.new (placed-number b idle c j known n.some n.low) n.may in
         omega (arith, ints, rest, sums, moved, own)
 

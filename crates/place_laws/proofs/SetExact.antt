@@ -5,7 +5,7 @@ use Rattle.std.proofs.lemmas.Int.{ints}
 use Rattle.auction_model.specs.Table.{entry_at}
 use Rattle.slot_places.specs.Board.{Board, joined}
 use Rattle.slot_places.specs.SetTable.{holds, fits_behind, IsSetTable}
-use Rattle.slot_places.proofs.SameLaws.{IsSame, AsksBidders, fits-same, sum-outside-same}
+use Rattle.slot_places.proofs.SameLaws.{IsSame, AsksBidders, fits-same, sum_outside-same}
 use Rattle.slot_places.proofs.SetBits.{holds-joined, holds-everyone, joined-small}
 use Rattle.slot_places.proofs.StepLaws.{fits-length, fits-with, sum-set}
 use Rattle.slot_places.proofs.WholeLaws.{none-fits, sum-full}
@@ -24,7 +24,7 @@ module _ (b : Board) (asks : AsksBidders b) (idle : (s : ℕ → Bool) (j : ℕ)
       let bound = (exact.exact bits below).bound (set d (j - 1) i) (fits-with b idle counts (holds bits) j some low new d i known may behind) in
       let count = fits-length b (joined j (holds bits)) d behind in
       let sums = sum-set (holds bits) counts 0 d (j - 1) i j (omega (arith, some)) (omega (arith, some, low, count)) new in
-      let moved = sum-outside-same counts (holds more) (joined j (holds bits)) same d in
+      let moved = sum_outside-same counts (holds more) (joined j (holds bits)) same d in
       omega (arith, ints, bound, sums, moved, rest.2)
 
   -- an exact table obeys the rules, where number 0 counts nothing

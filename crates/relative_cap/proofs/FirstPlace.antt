@@ -65,14 +65,14 @@ first-held history j lots inside =
     ∙ is_same-true (get_or (rounds_of j history) place no_round).held lots same
 
 -- what was held in a round has a first place
-first-inside-from : (rounds : List OwnRound) (k : ℕ) → k < length rounds → first_place rounds (get_or rounds k no_round).held < length rounds
-first-inside-from [] k inside = absurd (omega arith)
-first-inside-from (r ∷ rounds) zero inside =
+first_inside-from : (rounds : List OwnRound) (k : ℕ) → k < length rounds → first_place rounds (get_or rounds k no_round).held < length rounds
+first_inside-from [] k inside = absurd (omega arith)
+first_inside-from (r ∷ rounds) zero inside =
     let is : first_place (r ∷ rounds) r.held ≡ 0 = cond-true (is_same r.held r.held) 0 (suc (first_place rounds r.held)) (is_same-refl r.held) in
     omega (arith, is)
-first-inside-from (r ∷ rounds) (suc k) inside =
+first_inside-from (r ∷ rounds) (suc k) inside =
     let lots : List ℕ = (get_or rounds k no_round).held in
-    let rest : first_place rounds lots < length rounds = first-inside-from rounds k (omega arith) in
+    let rest : first_place rounds lots < length rounds = first_inside-from rounds k (omega arith) in
     elim (cases_Bool (is_same r.held lots)) [
       | inl same ↦ let is : first_place (r ∷ rounds) lots ≡ 0 = cond-true (is_same r.held lots) 0 (suc (first_place rounds lots)) same in omega (arith, is)
       | inr apart ↦ let is : first_place (r ∷ rounds) lots ≡ suc (first_place rounds lots) = cond-false (is_same r.held lots) 0 (suc (first_place rounds lots)) apart in omega (arith, is, rest)
@@ -84,7 +84,7 @@ first-inside history j r low high =
     let count : length (rounds_of j history) ≡ length history = length-map history (own_of j) in
     let is : first_place (rounds_of j history) (get_or (rounds_of j history) (r - 1) no_round).held ≡ first_place (rounds_of j history) (own_in history j r).held
     = ap (λ (o : OwnRound). first_place (rounds_of j history) o.held) (own-at j history r low high) in
-    omega (arith, is, count, first-inside-from (rounds_of j history) (r - 1) (omega (arith, count, low, high)))
+    omega (arith, is, count, first_inside-from (rounds_of j history) (r - 1) (omega (arith, count, low, high)))
 
 -- the place of the empty package, and of another one
 pub own-empty : (history : List Round) (j rounds : ℕ) (lots : List ℕ) → is_empty lots ≡ true → rounds ≡ length history → rounds ≡ own_place history j lots

@@ -94,8 +94,8 @@ pub level-high : (history : List Round) (j : ℕ) (peaks highs : List ℕ) (r : 
 level-high history j peaks highs r are low high = are.each_high (r - 1) (omega arith) (omega arith)
 
 -- what is highest for the package held in round r, by its place
-pub high-of-round : (history : List Round) (j : ℕ) (bids : List BookBid) (r high : ℕ) → 1 ≤ r → IsHigh history j bids (r - 1) high → high ≡ highest (rounds_of j history) bids (own_in history j r).held
-high-of-round history j bids r high low is =
+pub high_of-round : (history : List Round) (j : ℕ) (bids : List BookBid) (r high : ℕ) → 1 ≤ r → IsHigh history j bids (r - 1) high → high ≡ highest (rounds_of j history) bids (own_in history j r).held
+high_of-round history j bids r high low is =
     let next : r - 1 + 1 ≡ r = omega arith in
     is.0 ∙ ap (λ m. highest (rounds_of j history) bids (own_in history j m).held) next
 

@@ -130,9 +130,9 @@ own-apart history points j lots e tested inside apart meet =
           absurd cc
     ]
 
-own-not-empty : (history : List Round) (points : List ℕ) (j : ℕ) (lots : List ℕ) (e : TestedEntry) → IsTested history points j e → first_place (rounds_of j history) lots < length history
+own-not_empty : (history : List Round) (points : List ℕ) (j : ℕ) (lots : List ℕ) (e : TestedEntry) → IsTested history points j e → first_place (rounds_of j history) lots < length history
     → e.bid.«package» ≡ lots → is_empty lots ≡ true → first_place (rounds_of j history) lots ≡ e.terms.own → ⊥
-own-not-empty history points j lots e tested inside own empty meet =
+own-not_empty history points j lots e tested inside own empty meet =
     let past : own_place history j lots ≡ length history = cond-true (is_empty lots) (length history) _ empty in
     let is : e.terms.own ≡ own_place history j lots = tested.terms.own ∙ ap (own_place history j) own in
     omega (arith, past, is, meet, inside)
@@ -146,7 +146,7 @@ highs-more history points j bids highs e tested are = record {
     | inl same ↦
         let own : e.bid.«package» ≡ lots = is_same-true e.bid.«package» lots same in
         elim (cases_Bool (is_empty lots)) [
-          | inl empty ↦ raise-other history j bids highs lots e are (own-not-empty history points j lots e tested inside own empty)
+          | inl empty ↦ raise-other history j bids highs lots e are (own-not_empty history points j lots e tested inside own empty)
               (highest-none (rounds_of j history) bids (bids ++ tested_bid e ∷ []) lots empty) inside
           | inr some ↦ raise-own history points j bids highs lots e tested are own some inside
         ]

@@ -18,7 +18,7 @@ use Rattle.row_laws.specs.Rows.{row_in, HasWinners, IsGivenBy, Meets}
 use Rattle.row_laws.proofs.Excess.{offer-is, excess-is}
 use Rattle.row_laws.proofs.Rows.{excess-bound, bound-by_excess}
 use Rattle.row_laws.proofs.Bits.{row-sum}
-use Rattle.row_laws.proofs.Winners.{there-and-back}
+use Rattle.row_laws.proofs.Winners.{there_and_back}
 
 times_le : (d a b : ℤ) → pos 0 ≤ℤ d → a ≤ℤ b → (d *ℤ a) ≤ℤ (d *ℤ b)
 times_le d a b p h =
@@ -90,7 +90,7 @@ idle-outside m z f s idle j q le u = by (s j) (uses z j) (uses f j) (λ e. idle 
 
 -- the winners' numbers of a core point
 pub core-back : (m : Market) (z : List ℕ) → length z ≡ m.bidders → (q : Point) → IsCorePoint m z q → for_bidders z (for_winners z q.at) ≡ q.at
-core-back m z len q core = there-and-back z q.at (omega (arith, core.bidders, len)) (λ k lt e. let b : suc k - 1 ≡ k = omega arith in let h = core.losers (suc k) (omega arith) (omega (arith, len)) e in rw b at h)
+core-back m z len q core = there_and_back z q.at (omega (arith, core.bidders, len)) (λ k lt e. let b : suc k - 1 ≡ k = omega arith in let h = core.losers (suc k) (omega arith) (omega (arith, len)) e in rw b at h)
 
 -- a core point meets each row
 pub core-meets : (m : Market) → IsMarket m → (z : List ℕ) → length z ≡ m.bidders → (q : Point) → IsCorePoint m z q → (row : Row) (c : List ℕ) → IsGivenBy m z row c → Meets z row q.den (for_winners z q.at)

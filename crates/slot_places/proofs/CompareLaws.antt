@@ -6,15 +6,15 @@ use Rattle.std.proofs.lemmas.List.{drop_all}
 use Rattle.auction_model.specs.Market.{is_number_before, is_earlier}
 use Rattle.auction_model.proofs.OrderLaws.{before-self}
 
-false-or-true : (x y r : Bool) → x ≡ false → y ≡ true → x || (y && r) ≡ r
-false-or-true x y r p q = rw (p, q) refl
+false_or_true : (x y r : Bool) → x ≡ false → y ≡ true → x || (y && r) ≡ r
+false_or_true x y r p q = rw (p, q) refl
 
 or-false : (x y r : Bool) → y ≡ false → x || (y && r) ≡ x
 or-false true y r p = refl
 or-false false y r p = rw p refl
 
 same-number : (i j : ℕ) (r : Bool) → i ≡ j → is_number_before i j || ((i == j) && r) ≡ r
-same-number i j r e = false-or-true (is_number_before i j) (i == j) r (false_from_ne_true (is_number_before i j) (λ t. before-self j (rw e at t))) (eq-eqb i j e)
+same-number i j r e = false_or_true (is_number_before i j) (i == j) r (false_from_ne_true (is_number_before i j) (λ t. before-self j (rw e at t))) (eq-eqb i j e)
 
 module _ (c d : List ℕ) (k : ℕ) (inside : k < length c) (within : k < length d) where
   -- where two choices have the same number at a place, the numbers behind it decide which comes first

@@ -11,7 +11,7 @@ use Rattle.slot_places.specs.SetTable.{holds, fits_behind, sum_outside, IsSetBes
 use Rattle.slot_places.specs.Steps.{Next, IsBefore}
 use Rattle.slot_places.proofs.BestLaws.{before-trans}
 use Rattle.slot_places.proofs.SetBits.{holds-joined, holds-within}
-use Rattle.slot_places.proofs.SameLaws.{IsSame, AsksBidders, best-same, sum-outside-same, slots-ask}
+use Rattle.slot_places.proofs.SameLaws.{IsSame, AsksBidders, best-same, sum_outside-same, slots-ask}
 use Rattle.slot_places.proofs.StepLaws.{fits-length, fits-with, step-bound, sum-set}
 use Rattle.slot_places.proofs.SizeLaws.{own-size, whole-size}
 
@@ -39,7 +39,7 @@ module _ (b : Board) (asks : AsksBidders b) (idle : (s : ℕ → Bool) (j : ℕ)
   step-sum i =
       let count = step-length in
       sum-set (holds n) counts 0 d (j - 1) i j (omega (arith, some)) (omega (arith, some, low, count)) new
-      ∙ ap (λ (z : ℤ). counts j i +ℤ z) (sym (sum-outside-same counts (holds (n + 2 ^ (j - 1))) (joined j (holds n)) joined-is d))
+      ∙ ap (λ (z : ℤ). counts j i +ℤ z) (sym (sum_outside-same counts (holds (n + 2 ^ (j - 1))) (joined j (holds n)) joined-is d))
 
   -- the best choice with a number of the bidder is no worse than each in which the bidder is next with it
   pub step-best : (i : ℕ) (c : List ℕ) → IsTrue (fits_behind b (holds n) c) → Next b c (outside (joined j (holds n)) b.bidders) (holds n) j → number_of c j ≡ i → IsBefore (sum_outside (holds n) counts) (set d (j - 1) i) c

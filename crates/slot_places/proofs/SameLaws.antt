@@ -48,8 +48,8 @@ pub slots-ask : (slots : SlotList) (skip : ℕ) → AsksBidders (board_without s
 slots-ask slots skip s t j i same = ap (λ start. starts_at slots start j i) (start-same slots s t same)
 
 -- a choice counts the same outside the one as outside the other
-pub sum-outside-same : (counts : ℕ → ℕ → ℤ) (s t : ℕ → Bool) → IsSame s t → (d : List ℕ) → sum_outside s counts d ≡ sum_outside t counts d
-sum-outside-same counts s t same d = sum-same (counts_outside s counts) (counts_outside t counts) 0 d (λ j i some. ap (λ x. cond x (pos 0) (counts j i)) (same j some))
+pub sum_outside-same : (counts : ℕ → ℕ → ℤ) (s t : ℕ → Bool) → IsSame s t → (d : List ℕ) → sum_outside s counts d ≡ sum_outside t counts d
+sum_outside-same counts s t same d = sum-same (counts_outside s counts) (counts_outside t counts) 0 d (λ j i some. ap (λ x. cond x (pos 0) (counts j i)) (same j some))
 
 module _ (b : Board) (asks : AsksBidders b) where
   -- so many others can be placed behind the one just where they can behind the other
@@ -72,4 +72,4 @@ module _ (b : Board) (asks : AsksBidders b) where
   pub best-same : (counts : ℕ → ℕ → ℤ) (s t : ℕ → Bool) → IsSame s t → (c : List ℕ) → IsSetBest b counts s c → IsSetBest b counts t c
   best-same counts s t same c best =
       IsFirstGreatest-same (fits_behind b s) (fits_behind b t) (sum_outside s counts) (sum_outside t counts) c (fits-same s t same)
-      (λ d. sum-outside-same counts s t same d) best
+      (λ d. sum_outside-same counts s t same d) best

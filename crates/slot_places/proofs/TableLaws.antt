@@ -11,7 +11,7 @@ use Rattle.slot_places.specs.Steps.{searched, counted, IsBestOf, AreBests}
 use Rattle.slot_places.specs.declared.search.Search.{Search}
 use Rattle.slot_places.specs.declared.bests.Best.{Best}
 use Rattle.slot_places.proofs.SetBits.{power-positive, holds-nobody}
-use Rattle.slot_places.proofs.SameLaws.{slots-ask, best-same, sum-outside-same}
+use Rattle.slot_places.proofs.SameLaws.{slots-ask, best-same, sum_outside-same}
 use Rattle.slot_places.proofs.StepLaws.{sum-same}
 use Rattle.slot_places.proofs.WholeLaws.{best-whole}
 use Rattle.slot_places.proofs.NumberLaws.{idle-always}
@@ -64,7 +64,7 @@ first-placed l best is =
 -- the sum of the best behind nobody is what its whole choice counts
 pub first-sum : (l : Search) (best : Best) → IsBestOf l 0 best → best.sum ≡ sum_after (counted l) 0 best.numbers.items
 first-sum l best is =
-    is.sum ∙ (sum-outside-same (counted l) (holds 0) nobody (λ i some. holds-nobody i) best.numbers.items ∙ sum-same (λ j i. counted l j i) (counted l) 0 best.numbers.items (λ j i some. refl))
+    is.sum ∙ (sum_outside-same (counted l) (holds 0) nobody (λ i some. holds-nobody i) best.numbers.items ∙ sum-same (λ j i. counted l j i) (counted l) 0 best.numbers.items (λ j i some. refl))
 
 -- there is a best, that of nobody
 pub bests-some : (l : Search) (bests : List Best) → AreBests l 0 bests → 0 < length bests

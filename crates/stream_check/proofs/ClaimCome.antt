@@ -137,8 +137,8 @@ pub part-whole : (at : Moment) (c : CertValue) (is : IsAt at c) (j : ℕ) → 0 
 part-whole at c is = part-choice (bidders_of at.book.now) (states at.book.now) c is.kept
 
 -- in the words of the claim
-pub parts-of-claim : (at : Moment) (c : CertValue) (is : IsAt at c) (due : IsClaimed at.due) (a : Claim) → IsClaimOf at a → (j : ℕ) → 0 < j → j ≤ bidders_of a.book.now → IsTrue (uses a.choice.now j) → IsPart a.book.now j (part_of c.withouts j)
-parts-of-claim at c is due a claim =
+pub parts_of-claim : (at : Moment) (c : CertValue) (is : IsAt at c) (due : IsClaimed at.due) (a : Claim) → IsClaimOf at a → (j : ℕ) → 0 < j → j ≤ bidders_of a.book.now → IsTrue (uses a.choice.now j) → IsPart a.book.now j (part_of c.withouts j)
+parts_of-claim at c is due a claim =
     subst (λ (b : Book). (j : ℕ) → 0 < j → j ≤ bidders_of b → IsTrue (uses a.choice.now j) → IsPart b j (part_of c.withouts j)) (sym claim.book)
     (λ j some inside wins. (parts-hold at c is due j).part some inside (subst (λ (l : List ℕ). IsTrue (uses l j)) (sym (claim.each c is).choice_is) wins))
 

@@ -19,7 +19,7 @@ use Rattle.stream_check.specs.Lines.{IsNext}
 use Rattle.stream_check.specs.Moments.{IsAt}
 use Rattle.stream_check.specs.Totals.{AreTotals}
 use Rattle.stream_check.proofs.NextLaws.{at-due, next-due}
-use Rattle.stream_check.proofs.RowCome.{row-at-kept}
+use Rattle.stream_check.proofs.RowCome.{row_at-kept}
 
 -- members are small numbers
 pub members-most : (b before : ℕ) (js : List ℕ) → b ≤ 65535 → AreMembers b before js → AtMost 65535 js
@@ -38,7 +38,7 @@ module _ (at : Moment) (c : CertValue) (is : IsAt at c) (r : ℕ) where
 
   -- the row is one for the book's bidders
   pub row-whole : (at.due ≡ Multipliers r) ⊎ (at.due ≡ RowChoice r) → IsRow (bidders_of at.book.now) (row_at c r)
-  row-whole due = (let here = row-due due in row-at-kept (bidders_of at.book.now) c r is.kept.rows here.0 here.1)
+  row-whole due = (let here = row-due due in row_at-kept (bidders_of at.book.now) c r is.kept.rows here.0 here.1)
 
 -- the multipliers of the row that is read
 module _ (at : Moment) (c : CertValue) (is : IsAt at c) (r : ℕ) (due : at.due ≡ Multipliers r) where

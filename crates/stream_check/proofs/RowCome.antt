@@ -30,8 +30,8 @@ row-kept b (r ∷ rows) zero d are lt = are.0
 row-kept b (r ∷ rows) (suc k) d are lt = row-kept b rows k d are.1 (omega (arith, lt))
 
 -- the row of which r are to come with it is one for these bidders
-pub row-at-kept : (b : ℕ) (c : CertValue) (r : ℕ) → AreRows b c.rows → 0 < r → r ≤ length c.rows → IsRow b (row_at c r)
-row-at-kept b c r are some le = row-kept b c.rows (length c.rows - r) (record { members = []; first = pos 0; second = pos 0; choice = [] }) are (omega (arith, some, le))
+pub row_at-kept : (b : ℕ) (c : CertValue) (r : ℕ) → AreRows b c.rows → 0 < r → r ≤ length c.rows → IsRow b (row_at c r)
+row_at-kept b c r are some le = row-kept b c.rows (length c.rows - r) (record { members = []; first = pos 0; second = pos 0; choice = [] }) are (omega (arith, some, le))
 
 -- totals of as many rows
 as-many : (c : CertValue) (m n : ℕ) (t : RowTotals) → m ≡ n → AreTotals c m t → AreTotals c n t

@@ -11,10 +11,10 @@ use Rattle.auction_model.specs.Package.{is_within, less, IsNothingFrom}
 use Rattle.auction_model.specs.Place.{states_of, place_of, left_at}
 use Rattle.auction_model.specs.Steps.{raised}
 use Rattle.auction_model.specs.Table.{IsLine}
-use Rattle.auction_model.proofs.DominatedLaws.{less-within-self, fits-more}
+use Rattle.auction_model.proofs.DominatedLaws.{less-within_self, fits-more}
 use Rattle.auction_model.proofs.LineLaws.{IsLineUpTo, int_max-left}
 use Rattle.auction_model.proofs.PackageLaws.{less-empty}
-use Rattle.auction_model.proofs.PlaceLaws.{states-positive, length-left_at, left_at-within, left_at-whole, left_at-less, place_of-left_at, place-less, place-less-below, place-below, within-within}
+use Rattle.auction_model.proofs.PlaceLaws.{states-positive, length-left_at, left_at-within, left_at-whole, left_at-less, place_of-left_at, place-less, place-less_below, place-below, within-within}
 use Rattle.auction_model.proofs.TableLaws.{fits_up_to, parts, from_parts}
 use Rattle.auction_model.proofs.TrimLaws.{trim-place, trim-within}
 use Rattle.value_table.specs.Growing.{Grows, HasCorners}
@@ -34,13 +34,13 @@ module _ (supply p : List ℕ) (s : ℕ) (low : s < states_of supply) where
   low-within fits =
       let l = left_at supply s in
       let t = place_of supply (less l p) in
-      let t_low : t < states_of supply = place-less-below supply p s low in
+      let t_low : t < states_of supply = place-less_below supply p s low in
       let t_is : left_at supply t ≡ less l p = left_at-less supply p s low in
-      let inside : IsTrue (is_within (left_at supply t) l) = subst (λ (k : List ℕ). IsTrue (is_within k l)) (sym t_is) (less-within-self l p) in
+      let inside : IsTrue (is_within (left_at supply t) l) = subst (λ (k : List ℕ). IsTrue (is_within k l)) (sym t_is) (less-within_self l p) in
       let back : place_of supply (less l (left_at supply t)) + place_of supply (left_at supply t) ≡ s = place-less supply (left_at supply t) s low inside in
       let same : place_of supply (less l (left_at supply t)) ≡ place_of supply p = omega (arith, place-less supply p s low fits, back, place_of-left_at supply t t_low) in
       subst (λ (k : ℕ). IsTrue (is_within (left_at supply k) l)) same
-      (subst (λ (k : List ℕ). IsTrue (is_within k l)) (sym (left_at-less supply (left_at supply t) s low)) (less-within-self l (left_at supply t)))
+      (subst (λ (k : List ℕ). IsTrue (is_within k l)) (sym (left_at-less supply (left_at supply t) s low)) (less-within_self l (left_at supply t)))
 
   -- the highest place that a package leaves has no less than is left at s
   high-within : IsTrue (is_within p supply) → IsTrue (is_within (left_at supply (place_of supply (less (left_at supply s) p))) (left_at supply (states_of supply - 1 - place_of supply p)))
@@ -71,7 +71,7 @@ corner-none supply p first line below worth c test s low =
           let lowest : IsTrue (is_within (left_at supply first) (left_at supply s)) = rw c.place (low-within supply p s low here) in
           let highest : IsTrue (is_within (left_at supply from) (left_at supply last)) = rw c.place (high-within supply p s low c.fits) in
           let own : get_or line first (pos 0) ≤ℤ old = c.line_grows first s first_low low lowest in
-          let most : rest ≤ℤ get_or below last (pos 0) = c.below_grows from last (place-less-below supply p s low) last_low highest in
+          let most : rest ≤ℤ get_or below last (pos 0) = c.below_grows from last (place-less_below supply p s low) last_low highest in
           let enough : (worth +ℤ rest) ≤ℤ old = omega (arith, ints, own, most, test) in
           sym (cond-true (is_within p (left_at supply s)) (int_max old (worth +ℤ rest)) old here ∙ int_max-left old (worth +ℤ rest) enough)
       | inr misses ↦ sym (cond-false (is_within p (left_at supply s)) (int_max old (worth +ℤ rest)) old misses)

@@ -11,7 +11,7 @@ use Rattle.auction_model.specs.Table.{IsEntry}
 use Rattle.auction_model.proofs.ChoiceLaws.{known-length}
 use Rattle.auction_model.proofs.DominatedLaws.{less-within}
 use Rattle.auction_model.proofs.PackageLaws.{within-together}
-use Rattle.auction_model.proofs.PlaceLaws.{states-positive, left_at-within, place_of-left_at, place_of-less, left_at-less, place-less-below, last-place, left_at-whole, within-within}
+use Rattle.auction_model.proofs.PlaceLaws.{states-positive, left_at-within, place_of-left_at, place_of-less, left_at-less, place-less_below, last-place, left_at-whole, within-within}
 use Rattle.value_table.specs.SideValues.{IsGreatestPair}
 use Rattle.value_table.specs.Turned.{in_order, worths_in_order}
 use Rattle.value_table.proofs.TurnLaws.{onto, Parted, parted, sum-parts, known-parts, taken-parts, turned-length}
@@ -94,7 +94,7 @@ module _ (m : Menu) (counts : ℕ → ℕ → ℤ) (supply : List ℕ) (k : ℕ)
       let left = less supply P in
       let r = place_of supply left in
       let last : S - 1 < S = omega (arith, states-positive supply) in
-      let below : r < S = rw left_at-whole at (place-less-below supply P (S - 1) last) in
+      let below : r < S = rw left_at-whole at (place-less_below supply P (S - 1) last) in
       let left_is : left_at supply r ≡ left = rw left_at-whole at (left_at-less supply P (S - 1) last) in
       let back_again : S - 1 - (S - 1 - r) ≡ r = omega (arith, below) in
       let twice : left_at supply (S - 1 - r) ≡ less supply left = left_at-other supply r below ∙ ap (less supply) left_is in

@@ -2,7 +2,7 @@ use Rattle.std.proofs.Common.{Option, map, string_bytes, subst}
 use Rattle.cca_inputs.specs.Command.{CommandValue}
 use Rattle.cca_run.specs.Works.{RunEnds}
 use Rattle.cca_run.proofs.Rooms.{run-roomy}
-use Rattle.cca_run.proofs.RunHeadline.{run-accepted, run-audit, run-award, run-awarded, run-complete, run-hands-on}
+use Rattle.cca_run.proofs.RunHeadline.{run-accepted, run-audit, run-award, run-awarded, run-complete, run-hands_on}
 use Rattle.cca_run.proofs.top.run.Goals as goal
 
 pub returns-in-Some-clause-front : goal.returns-in-Some-clause-front
@@ -86,4 +86,4 @@ returns-in-Some-clause-handed_on g c =
     let old = g.F.Files.folder c.args.files.now in
     let new = g.F.Files.folder c.run_command.new.files in
     let ends = subst (λ (x : Option CommandValue). RunEnds x old new (g.O.Sink.output c.args.out.now) (g.O.Sink.output c.run_command.new.out) c.run_command.result) c.in-Some.ensures.command c.run_command.ensures.ends in
-    run-hands-on c.headline.ensures.award (map string_bytes c.args.words.now) old new _ _ c.run_command.result ends
+    run-hands_on c.headline.ensures.award (map string_bytes c.args.words.now) old new _ _ c.run_command.result ends

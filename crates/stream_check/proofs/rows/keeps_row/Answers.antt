@@ -4,7 +4,7 @@ use Rattle.auction_model.specs.Book.{Book}
 use Rattle.cert_form.specs.CertText.{AllInRange, AreMembers}
 use Rattle.cert_laws.specs.Tests.{IsTightRow, bidders_of}
 use Rattle.cert_pieces.specs.LinesLeft.{row_at}
-use Rattle.stream_check.proofs.RowCome.{row-at-kept}
+use Rattle.stream_check.proofs.RowCome.{row_at-kept}
 use Rattle.stream_check.proofs.RowTests.{row-some, row-inside, row-pay, row-choice}
 use Rattle.stream_check.proofs.rows.keeps_row.Goals as goal
 
@@ -14,7 +14,7 @@ put_choice-requires-clause-choice c =
     let is = c.requires.some.1 in (
       (row_at cert c.args.left).choice,
       row-choice c.args.at.now cert is c.args.left c.requires.due,
-      (row-at-kept (bidders_of c.args.at.now.book.now) cert c.args.left is.kept.rows (row-some c.args.at.now cert is c.args.left c.requires.due) (row-inside c.args.at.now cert is c.args.left c.requires.due)).choice,
+      (row_at-kept (bidders_of c.args.at.now.book.now) cert c.args.left is.kept.rows (row-some c.args.at.now cert is c.args.left c.requires.due) (row-inside c.args.at.now cert is c.args.left c.requires.due)).choice,
     )
 
 pub put_members-count-requires-clause-due : goal.put_members-count-requires-clause-due
@@ -32,7 +32,7 @@ pub row_holds-requires-clause-members : goal.row_holds-requires-clause-members
 row_holds-requires-clause-members c =
     let cert = c.requires.some.0 in
     let is = c.requires.some.1 in
-    let kept = row-at-kept (bidders_of c.args.at.now.book.now) cert c.args.left is.kept.rows (row-some c.args.at.now cert is c.args.left c.requires.due) (row-inside c.args.at.now cert is c.args.left c.requires.due) in
+    let kept = row_at-kept (bidders_of c.args.at.now.book.now) cert c.args.left is.kept.rows (row-some c.args.at.now cert is c.args.left c.requires.due) (row-inside c.args.at.now cert is c.args.left c.requires.due) in
     subst (λ (b : Book). AreMembers (bidders_of b) 0 (take c.put_members-count.result c.put_members-count.new.to)) (sym c.requires.claim.book)
     (subst (AreMembers (bidders_of c.args.at.now.book.now) 0) (sym (c.put_members-count.ensures.members cert is)) kept.members)
 
@@ -40,7 +40,7 @@ pub row_holds-requires-clause-choice : goal.row_holds-requires-clause-choice
 row_holds-requires-clause-choice c =
     let cert = c.requires.some.0 in
     let is = c.requires.some.1 in
-    let kept = row-at-kept (bidders_of c.args.at.now.book.now) cert c.args.left is.kept.rows (row-some c.args.at.now cert is c.args.left c.requires.due) (row-inside c.args.at.now cert is c.args.left c.requires.due) in
+    let kept = row_at-kept (bidders_of c.args.at.now.book.now) cert c.args.left is.kept.rows (row-some c.args.at.now cert is c.args.left c.requires.due) (row-inside c.args.at.now cert is c.args.left c.requires.due) in
     let choice_is = ap (λ (n : ℕ). take n c.put_choice.new.to) c.bidders-bidders.ensures.bidders ∙ c.put_choice.ensures.choice (row_at cert c.args.left).choice (row-choice c.args.at.now cert is c.args.left c.requires.due) in
     ap (λ (l : List ℕ). length l) choice_is ∙ kept.choice.0 ∙ ap bidders_of (sym c.requires.claim.book)
 

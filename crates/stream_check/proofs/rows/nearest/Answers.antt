@@ -9,7 +9,7 @@ use Rattle.cert_check.specs.Fields.{AreValuesWithout}
 use Rattle.cert_check.specs.Places.{IsFirstFailing}
 use Rattle.cert_check.proofs.HeadLaws.{values-range}
 use Rattle.cert_check.proofs.VerdictLaws.{asks-C8}
-use Rattle.stream_check.proofs.ClaimCome.{ends-claimed, parts-of-claim, pay-known}
+use Rattle.stream_check.proofs.ClaimCome.{ends-claimed, parts_of-claim, pay-known}
 use Rattle.stream_check.proofs.TotalsTests.{firsts-are, seconds-are, second-sums}
 use Rattle.stream_check.proofs.rows.nearest.Goals as goal
 
@@ -39,7 +39,7 @@ second_test-requires-clause-values c =
     let of = c.requires.claim.each cert is in
     let values = subst (λ (b : Book). AreValuesWithout b c.args.claim.now.choice.now cert.withouts c.put_part_values.new.values) (sym c.requires.claim.book) (subst (λ (l : List ℕ). AreValuesWithout c.args.at.now.book.now l cert.withouts c.put_part_values.new.values) of.choice_is (c.put_part_values.ensures.values cert is)) in
     values-range c.args.claim.now (subst IsBidBook (sym c.requires.claim.book) c.kept.ensures) cert.withouts c.put_part_values.new.values
-    (parts-of-claim c.args.at.now cert is (ends-claimed c.args.at.now.due c.requires.rows.line) c.args.claim.now c.requires.claim)
+    (parts_of-claim c.args.at.now cert is (ends-claimed c.args.at.now.due c.requires.rows.line) c.args.claim.now c.requires.claim)
     values
 
 pub second_test-requires-clause-weights : goal.second_test-requires-clause-weights

@@ -1,7 +1,7 @@
 use Rattle.std.proofs.Common.{ℕ, ◌+◌, ◌-◌, ◌*◌, ◌<◌, length, get_or, arith, subst, sym, ap, ◌∙◌}
 use Rattle.std.proofs.lemmas.Bool.Decides.{nat_tests}
 use Rattle.std.proofs.lemmas.List.{take_all}
-use Rattle.wide_num.proofs.Decimal.{as_numeral, digit_at, read_on, read_on-take-le, read_on_more, digits_more, decimal_numeral, IsDigit, AreDigits, IsNumeral}
+use Rattle.wide_num.proofs.Decimal.{as_numeral, digit_at, read_on, read_on-take_le, read_on_more, digits_more, decimal_numeral, IsDigit, AreDigits, IsNumeral}
 use Rattle.wide_num.proofs.decimals.read_natural.Goals as goal
 
 pub returns-in-empty-clause-none : goal.returns-in-empty-clause-none
@@ -19,7 +19,7 @@ pub returns-then-n-ge-EDGE-clause-none : goal.returns-then-n-ge-EDGE-clause-none
 returns-then-n-ge-EDGE-clause-none c = λ n small is.
     let value = (as_numeral c.args.text.now n small is).value in
     let more = read_on_more c.args.text.now c.loop-byte.byte-index (omega arith) in
-    let le = read_on-take-le 0 (c.loop-byte.byte-index + 1) c.args.text.now in
+    let le = read_on-take_le 0 (c.loop-byte.byte-index + 1) c.args.text.now in
     absurd (omega (arith, value, more, le))
 
 pub loop-byte-preserved : goal.loop-byte-preserved
