@@ -15,6 +15,3 @@ pub use laws::book_of_award;
 pub use limits::LimitKind;
 pub use read::{AwardStop, read_award};
 pub use steps::StepTable;
-
-#[cfg(test)]
-mod tests;

@@ -31,6 +31,3 @@ pub enum BookStop {
     /// There was no memory.
     Memory,
 }
-
-#[cfg(test)]
-mod tests;

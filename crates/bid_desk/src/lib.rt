@@ -7,8 +7,6 @@ mod difference;
 mod lists;
 mod slots;
 mod testers;
-#[cfg(test)]
-mod tests;
 
 pub use auction_rules::{Event, Reply, Stage};
 pub use desk::{Desk, DeskStop};

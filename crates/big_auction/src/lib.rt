@@ -10,6 +10,3 @@ mod prices;
 mod values;
 
 pub use made::{Made, make};
-
-#[cfg(test)]
-mod tests;

@@ -1,4 +1,3 @@
 mod Parts
 mod Sizes
 mod Taking
-mod OneOfTwo

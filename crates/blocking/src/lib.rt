@@ -6,7 +6,5 @@
 mod look;
 mod row;
 mod surplus;
-#[cfg(test)]
-mod tests;
 
 pub use look::{Block, Looked, find_block};

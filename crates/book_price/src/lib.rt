@@ -10,8 +10,6 @@ mod laws;
 mod lines;
 mod parts;
 mod pricing;
-#[cfg(test)]
-mod tests;
 
 pub use laws::books_can_be_priced;
 pub use pricing::{PricedBook, price_book};

@@ -10,8 +10,6 @@ mod next;
 mod reader;
 mod room;
 mod stop;
-#[cfg(test)]
-mod tests;
 
 pub use due::{Due, Table};
 pub use reader::{Progress, Reader};

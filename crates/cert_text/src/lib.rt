@@ -9,8 +9,6 @@ mod certificate;
 mod lists;
 mod read;
 mod stop;
-#[cfg(test)]
-mod tests;
 mod version;
 mod write;
 

@@ -146,6 +146,3 @@ pub fn add_number_line(text: &mut Text, word: &[u8], numbers: &[u16]) -> Result<
     text.push(b'\n')?;
     Ok(())
 }
-
-#[cfg(test)]
-mod tests;

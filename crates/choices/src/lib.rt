@@ -7,8 +7,6 @@ mod grid;
 mod judging;
 mod listing;
 mod numbers;
-#[cfg(test)]
-mod tests;
 
 pub use choice::Choice;
 pub use chooser::{Chooser, Found, Single};

@@ -7,8 +7,6 @@ mod closes;
 mod demand;
 mod rounds;
 mod steps;
-#[cfg(test)]
-mod tests;
 
 pub use auction_rules::{Event, Reply, Stage};
 pub use bids::reply_to_package;

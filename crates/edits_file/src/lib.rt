@@ -10,8 +10,6 @@ mod laws;
 mod line;
 mod read;
 mod stop;
-#[cfg(test)]
-mod tests;
 
 pub use edits::Edits;
 pub use laws::{edit_counts, one_edits};

@@ -36,6 +36,3 @@ pub struct Row {
     /// The least sum of the members.
     pub bound: i128,
 }
-
-#[cfg(test)]
-mod tests;

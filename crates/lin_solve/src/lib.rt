@@ -17,8 +17,6 @@ mod pivots;
 mod rows;
 mod solved;
 mod square;
-#[cfg(test)]
-mod tests;
 
 pub use rows::quotients;
 pub use solved::{Solved, solve};

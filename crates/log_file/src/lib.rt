@@ -10,8 +10,6 @@ mod laws;
 mod read;
 mod record;
 mod reply;
-#[cfg(test)]
-mod tests;
 
 pub use auction_rules::{Event, Reply};
 pub use events::Events;

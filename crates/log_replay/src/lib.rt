@@ -9,6 +9,3 @@ pub use auction_rules::Event;
 pub use log_file::Events;
 pub use replaying::replay;
 pub use results::{Replay, ReplayStop};
-
-#[cfg(test)]
-mod oracle;

@@ -8,8 +8,6 @@ mod counts;
 mod package;
 mod places;
 mod supply;
-#[cfg(test)]
-mod tests;
 
 pub use counts::used_categories;
 pub use package::{Bid, Package};

@@ -10,8 +10,6 @@ mod certificate;
 mod laws;
 mod lists;
 mod read;
-#[cfg(test)]
-mod tests;
 mod write;
 
 pub use cert_text::CertStop;

@@ -10,8 +10,6 @@ mod offers;
 mod parts;
 mod sums;
 mod tables;
-#[cfg(test)]
-mod tests;
 
 pub use cert_check::Verdict;
 pub use checking::check_places;

@@ -9,8 +9,6 @@ mod bidder_rows;
 mod certificate;
 mod placing;
 mod pricing;
-#[cfg(test)]
-mod tests;
 
 pub use place_cert::{
     CertStop, PlaceCertificate, PlaceRow, PlaceRows, PlaceWithout, PlaceWithouts, read_places,

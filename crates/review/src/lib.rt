@@ -5,8 +5,6 @@ mod edit;
 mod lines;
 mod replies;
 mod review;
-#[cfg(test)]
-mod tests;
 mod tracing;
 
 pub use edit::{Edit, EditReply};

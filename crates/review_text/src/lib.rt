@@ -3,8 +3,6 @@
 
 mod laws;
 mod lines;
-#[cfg(test)]
-mod tests;
 mod text;
 
 pub use laws::one_review_text;

@@ -12,8 +12,6 @@ pub mod sets;
 mod slot_chooser;
 mod slots;
 mod stop;
-#[cfg(test)]
-mod tests;
 
 pub use laws::{one_slots, slot_market, slot_orders};
 pub use limits::{LimitKind, MOST_PLACED};

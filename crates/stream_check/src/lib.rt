@@ -18,7 +18,5 @@ mod row_totals;
 mod rows;
 mod rules;
 mod tables;
-#[cfg(test)]
-mod tests;
 
 pub use check::StreamCheck;

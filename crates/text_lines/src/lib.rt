@@ -7,8 +7,6 @@
 mod fields;
 mod line;
 mod numbers;
-#[cfg(test)]
-mod tests;
 mod write;
 
 pub use fields::{field_len, read_at_most};

@@ -10,8 +10,6 @@ mod runs;
 mod side_lines;
 mod sides;
 mod table;
-#[cfg(test)]
-mod tests;
 mod tracing;
 
 pub use book_chooser::BookChooser;

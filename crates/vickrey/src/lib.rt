@@ -3,8 +3,6 @@
 
 mod pricing;
 mod source;
-#[cfg(test)]
-mod tests;
 mod winners;
 
 pub use pricing::{vickrey, vickrey_from};

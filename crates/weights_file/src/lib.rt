@@ -7,8 +7,6 @@ ghost use Rattle.weights_file.specs.declared.WeightStop.TheVariants.{Memory};
 mod laws;
 mod line;
 mod read;
-#[cfg(test)]
-mod tests;
 mod weights;
 
 pub use laws::{one_text, one_weighing};

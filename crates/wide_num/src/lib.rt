@@ -33,6 +33,3 @@ pub struct Wide {
     /// The right operand.
     pub right: i128,
 }
-
-#[cfg(test)]
-mod tests;

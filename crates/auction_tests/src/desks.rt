@@ -1,0 +1,187 @@
+// Worked auctions: the replies of a desk to the lines of a log, and the book that it gives.
+ghost use Rattle.std.specs.Prelude.{◌≡◌, IsTrue, length};
+ghost use Rattle.auction_rules.specs.Lawful.{HasCategories};
+ghost use Rattle.auction_rules.specs.Terms.{Terms};
+
+use award_file::read_award;
+use bid_book::write_book;
+use bid_desk::{Desk, DeskStop, Event, Reply};
+use log_file::read_log;
+use std::alloc::Global;
+use std::process::Abort;
+use std::test::Fail;
+
+/// Whether a package of the line has so many categories.
+fn has_categories(event: &Event, categories: usize) -> bool
+    ensures { IsTrue result → (terms : Terms) → length terms.supply ≡ categories → HasCategories terms event.now }
+{
+    match event {
+        Event::Bid { package, .. } => package.categories() == categories,
+        Event::Draft { package, .. } => package.categories() == categories,
+        Event::Drop { package, .. } => package.categories() == categories,
+        Event::Submit { .. } => true,
+        Event::Close => true,
+    }
+}
+
+/// The reply to a line that is handed in once.
+fn take_once(rt: &impl Abort, alloc: Global, desk: &mut Desk, event: &Event) -> Reply {
+    let categories = desk.award().supply().categories();
+    assert!(rt; has_categories(event, categories));
+    desk.take(alloc, event)
+}
+
+/// The reply to a line. One that is answered with want of memory is handed in once more, so the replies are those of a desk that never had to
+/// refuse it.
+fn take(rt: &impl Abort, alloc: Global, desk: &mut Desk, event: &Event) -> Reply {
+    let reply = take_once(rt, alloc, desk, event);
+    if reply == Reply::Memory {
+        return take_once(rt, alloc, desk, event);
+    }
+    reply
+}
+
+/// The replies to the lines of a log, and after each close the stage, the round and the prices; then the book, where there is one.
+pub fn replay(rt: &impl Abort, alloc: Global, award: &str, log: &str) -> Result<String, Fail> {
+    let Ok(award) = read_award(alloc, award.as_bytes()) else {
+        panic!(rt; "this is an award");
+    };
+    let Ok(events) = read_log(alloc, log.as_bytes(), &award) else {
+        panic!(rt; "this is a log");
+    };
+    let mut desk = Desk::new(alloc, award)?;
+    let mut text = String::new(alloc);
+    for event in events.items() {
+        let reply = take(rt, alloc, &mut desk, event);
+        text.push_str(&format!(in alloc; "{reply:?}")?)?;
+        if matches!(event, Event::Close) {
+            add_place(&mut text, alloc, &desk)?;
+        }
+        text.push_str("\n")?;
+    }
+    add_book(rt, &mut text, alloc, &desk)?;
+    Ok(text)
+}
+
+/// Where the desk is: its stage, its round and its prices.
+fn add_place(text: &mut String, alloc: Global, desk: &Desk) -> Result<(), Fail> {
+    let stage = desk.stage();
+    let place = format!(in alloc; " {stage:?} {} {:?}", desk.round(), desk.prices())?;
+    text.push_str(&place)?;
+    Ok(())
+}
+
+/// The book of a desk whose sealed round is closed.
+fn add_book(rt: &impl Abort, text: &mut String, alloc: Global, desk: &Desk) -> Result<(), Fail> {
+    match desk.book(alloc) {
+        Ok(book) => {
+            let written = write_book(alloc, &book)?;
+            let Ok(lines) = str::from_utf8(written.items()) else {
+                panic!(rt; "a book is a text");
+            };
+            text.push_str(lines)?;
+        }
+        Err(DeskStop::NotClosed) => text.push_str("no book\n")?,
+        Err(DeskStop::Memory) => text.push_str("no memory\n")?,
+    }
+    Ok(())
+}
+
+/// One category of three lots for two bidders.
+const LOTS: &str =
+    "version = 1\ntick = 1\ncategory = [{ name = \"lot\", supply = 3, points = 1, reserve = 10 }]\nbidder = [{ name = \"east\", eligibility = 3 }, { name = \"west\", eligibility = 2 }]\nstep = [{ excess = 1, permille = 200 }]\n";
+
+/// The same with a spectrum cap.
+const CAPPED: &str =
+    "version = 1\ntick = 1\ncategory = [{ name = \"lot\", supply = 3, points = 1, reserve = 10 }]\nbidder = [{ name = \"east\", eligibility = 3 }, { name = \"west\", eligibility = 2 }]\nstep = [{ excess = 1, permille = 200 }]\ncap = [{ weight = [1], limit = 2 }]\n";
+
+/// Two categories for two bidders, with prices that double.
+const DOUBLING: &str =
+    "version = 1\ntick = 1\ncategory = [{ name = \"a\", supply = 2, points = 1, reserve = 10 }, { name = \"c\", supply = 3, points = 1, reserve = 10 }]\nbidder = [{ name = \"east\", eligibility = 3 }, { name = \"west\", eligibility = 1 }]\nstep = [{ excess = 1, permille = 1000 }]\n";
+
+/// The same with a final cap.
+const FINAL: &str =
+    "version = 2\ntick = 1\ncategory = [{ name = \"a\", supply = 2, points = 1, reserve = 10 }, { name = \"c\", supply = 3, points = 1, reserve = 10 }]\nbidder = [{ name = \"east\", eligibility = 3 }, { name = \"west\", eligibility = 1 }]\nstep = [{ excess = 1, permille = 1000 }]\n";
+
+/// An award, a log and what is replayed of it.
+const REPLAYS: &[(&str, &str, &str)] = &[
+    // A list above its cap, and then at it.
+    (
+        LOTS,
+        "bid,east,3,\nbid,west,2,\nclose,,,\nbid,east,1,\nbid,west,2,\nclose,,,\ndraft,east,1,20\ndraft,east,3,45\nsubmit,east,,\ndraft,east,3,44\nsubmit,east,,\nclose,,,\nclose,,,\n",
+        "Ok\nOk\nOk Clock 2 [12]\nOk\nOk\nOk Sealed 2 [12]\nOk\nOk\nRelativeCap { entry: 2, limit: 44 }\nOk\nOk\nOk Closed 2 [12]\nStage Closed 2 [12]\nbook 1\nsupply 3\nreserve 10\nbidder east\nbid 1 20\nbid 3 44\nbidder west\nbid 2 24\nend\n",
+    ),
+    // The list without the entry that is above.
+    (
+        LOTS,
+        "bid,east,3,\nbid,west,2,\nclose,,,\nbid,east,1,\nbid,west,2,\nclose,,,\ndraft,east,1,20\ndraft,east,3,45\nsubmit,east,,\ndrop,east,3,\nsubmit,east,,\nclose,,,\n",
+        "Ok\nOk\nOk Clock 2 [12]\nOk\nOk\nOk Sealed 2 [12]\nOk\nOk\nRelativeCap { entry: 2, limit: 44 }\nOk\nOk\nOk Closed 2 [12]\nbook 1\nsupply 3\nreserve 10\nbidder east\nbid 1 20\nbid 3 30\nbidder west\nbid 2 24\nend\n",
+    ),
+    // Two bidders who draft first.
+    (
+        LOTS,
+        "bid,east,3,\nbid,west,2,\nclose,,,\nbid,east,1,\nbid,west,2,\nclose,,,\ndraft,east,1,20\ndraft,west,2,30\nsubmit,east,,\nsubmit,west,,\nclose,,,\n",
+        "Ok\nOk\nOk Clock 2 [12]\nOk\nOk\nOk Sealed 2 [12]\nOk\nOk\nOk\nOk\nOk Closed 2 [12]\nbook 1\nsupply 3\nreserve 10\nbidder east\nbid 1 20\nbid 3 30\nbidder west\nbid 2 30\nend\n",
+    ),
+    // Two bidders one after the other.
+    (
+        LOTS,
+        "bid,east,3,\nbid,west,2,\nclose,,,\nbid,east,1,\nbid,west,2,\nclose,,,\ndraft,east,1,20\nsubmit,east,,\ndraft,west,2,30\nsubmit,west,,\nclose,,,\n",
+        "Ok\nOk\nOk Clock 2 [12]\nOk\nOk\nOk Sealed 2 [12]\nOk\nOk\nOk\nOk\nOk Closed 2 [12]\nbook 1\nsupply 3\nreserve 10\nbidder east\nbid 1 20\nbid 3 30\nbidder west\nbid 2 30\nend\n",
+    ),
+    // A bid that is replaced in its round.
+    (
+        LOTS,
+        "bid,east,2,\nbid,east,3,\nbid,west,2,\nclose,,,\nbid,east,1,\nbid,west,2,\nclose,,,\ndraft,east,1,20\ndraft,east,3,45\nsubmit,east,,\ndraft,east,3,44\nsubmit,east,,\nclose,,,\n",
+        "Ok\nOk\nOk\nOk Clock 2 [12]\nOk\nOk\nOk Sealed 2 [12]\nOk\nOk\nRelativeCap { entry: 2, limit: 44 }\nOk\nOk\nOk Closed 2 [12]\nbook 1\nsupply 3\nreserve 10\nbidder east\nbid 1 20\nbid 3 44\nbidder west\nbid 2 24\nend\n",
+    ),
+    // Lists that differ in a few entries from the one that was tested last.
+    (
+        LOTS,
+        "bid,east,3,\nbid,west,2,\nclose,,,\nbid,east,1,\nbid,west,2,\nclose,,,\ndraft,east,1,20\ndraft,east,3,45\nsubmit,east,,\ndraft,east,2,33\nsubmit,east,,\ndraft,east,1,21\nsubmit,east,,\ndrop,east,1,\nsubmit,east,,\ndraft,east,1,21\nsubmit,east,,\ndraft,east,1,20\nsubmit,east,,\nclose,,,\n",
+        "Ok\nOk\nOk Clock 2 [12]\nOk\nOk\nOk Sealed 2 [12]\nOk\nOk\nRelativeCap { entry: 2, limit: 44 }\nOk\nRelativeCap { entry: 2, limit: 32 }\nOk\nOk\nOk\nRelativeCap { entry: 1, limit: 24 }\nOk\nOk\nOk\nRelativeCap { entry: 2, limit: 32 }\nOk Closed 2 [12]\nbook 1\nsupply 3\nreserve 10\nbidder east\nbid 1 21\nbid 2 33\nbid 3 45\nbidder west\nbid 2 24\nend\n",
+    ),
+    // A package that was held in two rounds counts with the greater of its prices.
+    (
+        DOUBLING,
+        "bid,east,2 0,\nbid,west,1 0,\nclose,,,\nbid,east,2 0,\nbid,west,1 0,\nclose,,,\nbid,east,0 1,\nbid,west,1 0,\nclose,,,\ndraft,east,0 3,51\nsubmit,east,,\ndraft,east,2 0,45\ndraft,east,0 3,55\nsubmit,east,,\ndraft,east,0 3,56\nsubmit,east,,\ndrop,east,2 0,\nsubmit,east,,\nclose,,,\n",
+        "Ok\nOk\nOk Clock 2 [20, 10]\nOk\nOk\nOk Clock 3 [40, 10]\nOk\nOk\nOk Sealed 3 [40, 10]\nOk\nRelativeCap { entry: 1, limit: 50 }\nOk\nOk\nOk\nOk\nRelativeCap { entry: 1, limit: 55 }\nOk\nRelativeCap { entry: 1, limit: 50 }\nOk Closed 3 [40, 10]\nbook 1\nsupply 2 3\nreserve 10 10\nbidder east\nbid 0 1 10\nbid 0 3 55\nbid 2 0 45\nbidder west\nbid 1 0 40\nend\n",
+    ),
+    // Lines that are refused in the first round.
+    (
+        LOTS,
+        "bid,north,1,\nbid,east,4,\nbid,west,3,\ndraft,east,1,20\ndrop,east,1,\nsubmit,east,,\n",
+        "Unknown\nSupply(1)\nPoints(2)\nStage\nStage\nStage\nno book\n",
+    ),
+    (
+        CAPPED,
+        "bid,east,3,\n",
+        "SpectrumCap { number: 1, limit: 2 }\nno book\n",
+    ),
+    // Lines that are refused in the sealed round.
+    (
+        LOTS,
+        "bid,east,3,\nbid,west,2,\nclose,,,\nbid,east,1,\nbid,west,2,\nclose,,,\nbid,east,1,\ndraft,north,1,20\ndrop,north,1,\nsubmit,north,,\ndraft,east,4,20\ndraft,west,3,20\ndraft,east,0,5\ndraft,east,1,9\ndraft,east,1,11\ndrop,east,2,\ndraft,east,1,4398046511105\ndraft,east,1,4398046511104\n",
+        "Ok\nOk\nOk Clock 2 [12]\nOk\nOk\nOk Sealed 2 [12]\nStage\nUnknown\nUnknown\nUnknown\nSupply(1)\nPoints(2)\nEmpty\nBelowReserve(10)\nBelowClock(12)\nNoDraft\nAmountTop(4398046511104)\nOk\nno book\n",
+    ),
+    // An entry below the cap of its constraining round and above the final cap.
+    (
+        DOUBLING,
+        "bid,east,2 0,\nbid,west,1 0,\nclose,,,\nbid,east,0 1,\nbid,west,1 0,\nclose,,,\ndraft,east,0 1,12\ndraft,east,2 0,42\ndraft,east,0 3,33\nsubmit,east,,\n",
+        "Ok\nOk\nOk Clock 2 [20, 10]\nOk\nOk\nOk Sealed 2 [20, 10]\nOk\nOk\nOk\nOk\nno book\n",
+    ),
+    (
+        FINAL,
+        "bid,east,2 0,\nbid,west,1 0,\nclose,,,\nbid,east,0 1,\nbid,west,1 0,\nclose,,,\ndraft,east,0 1,12\ndraft,east,2 0,42\ndraft,east,0 3,33\nsubmit,east,,\n",
+        "Ok\nOk\nOk Clock 2 [20, 10]\nOk\nOk\nOk Sealed 2 [20, 10]\nOk\nOk\nOk\nRelativeCap { entry: 2, limit: 32 }\nno book\n",
+    ),
+];
+
+#[test]
+fn replays_are_as_worked_out(rt: HostRuntime) -> Result<(), Fail> {
+    for (award, log, wanted) in REPLAYS {
+        let got = replay(&rt, rt.alloc(), award, log)?;
+        assert_eq!(rt; got.as_str(), *wanted);
+    }
+    Ok(())
+}

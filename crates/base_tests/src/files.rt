@@ -1,0 +1,221 @@
+// Calls with ample memory, with answers found by hand.
+use cca_base::{
+    CleanFiles, CleanSink, Files, MemFiles, MemSink, ReadStop, RealFiles, RealSink, Sink,
+    WriteStop, read_all, write_file, write_sink,
+};
+use std::test::Fail;
+use std::{env, fs, process};
+
+#[test]
+fn reads_a_file_piece_by_piece(rt: HostRuntime) -> Result<(), Fail> {
+    let alloc = rt.alloc();
+    let names = [String::from_str(alloc, "book")?];
+    let mut files = MemFiles::new(alloc, &names, 3)?;
+    files.set("book", b"abcdefgh")?;
+    let bytes = read_all(alloc, &mut files, "book", 8)?;
+    assert_eq!(rt; bytes.as_slice(), b"abcdefgh".as_slice());
+    assert_eq!(rt; files.loads, 4);
+    assert!(rt;
+        matches!(
+            read_all(alloc, &mut files, "book", 7),
+            Err(ReadStop::TooLong)
+        )
+    );
+    assert_eq!(rt; files.load_faults("book"), 0);
+    Ok(())
+}
+
+#[test]
+fn stops_at_a_load_that_fails(rt: HostRuntime) -> Result<(), Fail> {
+    let alloc = rt.alloc();
+    let names = [
+        String::from_str(alloc, "book")?,
+        String::from_str(alloc, "log")?,
+    ];
+    let mut files = MemFiles::new(alloc, &names, 3)?;
+    assert!(rt; matches!(read_all(alloc, &mut files, "log", 8), Err(ReadStop::Fault)));
+    files.set("book", b"abcdefgh")?;
+    files.fail_loads.push(3)?;
+    assert!(rt; matches!(read_all(alloc, &mut files, "book", 8), Err(ReadStop::Fault)));
+    assert_eq!(rt; files.loads, 3);
+    assert_eq!(rt; files.load_faults("log"), 1);
+    assert_eq!(rt; files.load_faults("book"), 1);
+    assert_eq!(rt; files.append_faults("book"), 0);
+    Ok(())
+}
+
+#[test]
+fn makes_a_missing_file(rt: HostRuntime) -> Result<(), Fail> {
+    let alloc = rt.alloc();
+    let names = [
+        String::from_str(alloc, "cert")?,
+        String::from_str(alloc, "cert")?,
+    ];
+    let mut files = MemFiles::new(alloc, &names, 3)?;
+    assert_eq!(rt; files.files.len(), 1);
+    assert!(rt; files.bytes("cert").is_none());
+    files.fail_appends.push(2)?;
+    assert_eq!(rt; files.append("cert", b"hello")?, 3);
+    assert!(rt; files.append("cert", b"lo").is_err());
+    assert_eq!(rt; files.append("cert", b"lo")?, 2);
+    let bytes = files.bytes("cert").ok_or("missing")?;
+    assert_eq!(rt; bytes, b"hello".as_slice());
+    assert_eq!(rt; files.append_faults("cert"), 1);
+    Ok(())
+}
+
+#[test]
+fn writes_a_prefix(rt: HostRuntime) -> Result<(), Fail> {
+    let alloc = rt.alloc();
+    let mut out = MemSink::new(alloc, 3);
+    out.fail_puts.push(3)?;
+    assert_eq!(rt;
+        write_sink(&mut out, b"abcdefgh"),
+        Err(WriteStop::Fault { written: 6 })
+    );
+    assert_eq!(rt; out.bytes.as_slice(), b"abcdef".as_slice());
+    assert_eq!(rt; out.faults(), 1);
+    write_sink(&mut out, b"ghij")?;
+    assert_eq!(rt; out.bytes.as_slice(), b"abcdefghij".as_slice());
+    assert_eq!(rt; out.puts, 5);
+    Ok(())
+}
+
+#[test]
+fn writes_a_prefix_to_a_file(rt: HostRuntime) -> Result<(), Fail> {
+    let alloc = rt.alloc();
+    let names = [
+        String::from_str(alloc, "cert")?,
+        String::from_str(alloc, "log")?,
+    ];
+    let mut files = MemFiles::new(alloc, &names, 100)?;
+    files.fail_appends.push(3)?;
+    let text = vec![in alloc; b'x'; 350]?;
+    assert_eq!(rt;
+        write_file(&mut files, "cert", &text),
+        Err(WriteStop::Fault { written: 200 })
+    );
+    let part = files.bytes("cert").ok_or("missing")?;
+    assert_eq!(rt; part, &text[..200]);
+    assert_eq!(rt; files.append_faults("cert"), 1);
+    assert!(rt; files.bytes("log").is_none());
+    Ok(())
+}
+
+#[test]
+fn writes_behind_what_a_file_holds(rt: HostRuntime) -> Result<(), Fail> {
+    let alloc = rt.alloc();
+    let names = [String::from_str(alloc, "cert")?];
+    let mut files = MemFiles::new(alloc, &names, 3)?;
+    write_file(&mut files, "cert", b"")?;
+    assert!(rt; files.bytes("cert").is_none());
+    write_file(&mut files, "cert", b"abcdefgh")?;
+    write_file(&mut files, "cert", b"ij")?;
+    let bytes = files.bytes("cert").ok_or("missing")?;
+    assert_eq!(rt; bytes, b"abcdefghij".as_slice());
+    assert_eq!(rt; files.appends, 4);
+    Ok(())
+}
+
+#[test]
+fn prints(rt: HostRuntime) -> Result<(), Fail> {
+    let mut out = RealSink::new(&rt);
+    write_sink(&mut out, b"printed by a test\n")?;
+    assert_eq!(rt; out.faults(), 0);
+    Ok(())
+}
+
+#[test]
+fn reads_and_appends_real_files(rt: HostRuntime) -> Result<(), Fail> {
+    let alloc = rt.alloc();
+    let folder = env::temp_dir(&rt)?;
+    let number = process::id(rt.process());
+    let text = format!(in alloc; "{}/cca_base_{number}", folder.to_string_lossy())?;
+    let name = text.as_str();
+    let names = [String::from_str(alloc, name)?];
+    let mut files = RealFiles::new(alloc, &rt, &names)?;
+    assert!(rt; matches!(read_all(alloc, &mut files, name, 8), Err(ReadStop::Fault)));
+    assert_eq!(rt; files.load_faults(name), 1);
+    assert_eq!(rt; files.append(name, b"ab")?, 2);
+    assert_eq!(rt; files.append(name, b"cd")?, 2);
+    let bytes = read_all(alloc, &mut files, name, 4)?;
+    assert_eq!(rt; bytes.as_slice(), b"abcd".as_slice());
+    assert_eq!(rt; files.append_faults(name), 0);
+    fs::remove_file(&rt, name)?;
+    Ok(())
+}
+
+#[test]
+fn loads_from_two_real_files_in_turn(rt: HostRuntime) -> Result<(), Fail> {
+    let alloc = rt.alloc();
+    let folder = env::temp_dir(&rt)?;
+    let number = process::id(rt.process());
+    let one = format!(in alloc; "{}/cca_base_one_{number}", folder.to_string_lossy())?;
+    let two = format!(in alloc; "{}/cca_base_two_{number}", folder.to_string_lossy())?;
+    fs::write(&rt, one.as_str(), b"abc")?;
+    fs::write(&rt, two.as_str(), b"xyz")?;
+    let names = [
+        String::from_str(alloc, one.as_str())?,
+        String::from_str(alloc, two.as_str())?,
+    ];
+    let mut files = RealFiles::new(alloc, &rt, &names)?;
+    let mut piece = [0u8; 2];
+    assert_eq!(rt; files.load(one.as_str(), 0, &mut piece)?, 2);
+    assert_eq!(rt; files.load(two.as_str(), 1, &mut piece)?, 2);
+    assert_eq!(rt; piece, *b"yz");
+    assert_eq!(rt; files.load(one.as_str(), 2, &mut piece)?, 1);
+    assert_eq!(rt; piece[0], b'c');
+    fs::remove_file(&rt, one.as_str())?;
+    fs::remove_file(&rt, two.as_str())?;
+    Ok(())
+}
+
+#[test]
+fn reads_a_real_file_of_several_pieces(rt: HostRuntime) -> Result<(), Fail> {
+    let alloc = rt.alloc();
+    let folder = env::temp_dir(&rt)?;
+    let number = process::id(rt.process());
+    let text = format!(in alloc; "{}/cca_base_pieces_{number}", folder.to_string_lossy())?;
+    let name = text.as_str();
+    let names = [String::from_str(alloc, name)?];
+    let mut files = RealFiles::new(alloc, &rt, &names)?;
+    let mut whole = vec![in alloc; b'a'; 65_536]?;
+    whole.extend_from_slice(&vec![in alloc; b'b'; 65_536]?)?;
+    whole.extend_from_slice(b"the last piece")?;
+    write_file(&mut files, name, &whole)?;
+    let bytes = read_all(alloc, &mut files, name, 200_000)?;
+    assert_eq!(rt; bytes.as_slice(), whole.as_slice());
+    fs::remove_file(&rt, name)?;
+    Ok(())
+}
+
+#[test]
+fn fills_a_room_and_no_more(rt: HostRuntime) -> Result<(), Fail> {
+    let alloc = rt.alloc();
+    let names = [String::from_str(alloc, "cert")?];
+    let mut files = CleanFiles::new(alloc, &names, 5)?;
+    assert_eq!(rt; files.append("cert", b"abc")?, 3);
+    assert!(rt; files.append("cert", b"def").is_err());
+    assert_eq!(rt; files.append("cert", b"de")?, 2);
+    assert_eq!(rt; files.bytes("cert"), b"abcde".as_slice());
+    assert_eq!(rt; files.append_faults("cert"), 1);
+    let bytes = read_all(alloc, &mut files, "cert", 5)?;
+    assert_eq!(rt; bytes.as_slice(), b"abcde".as_slice());
+    assert_eq!(rt; files.load_faults("cert"), 0);
+    Ok(())
+}
+
+#[test]
+fn takes_what_has_room(rt: HostRuntime) -> Result<(), Fail> {
+    let alloc = rt.alloc();
+    let mut out = CleanSink::new(alloc, 4)?;
+    write_sink(&mut out, b"abc")?;
+    assert_eq!(rt;
+        write_sink(&mut out, b"de"),
+        Err(WriteStop::Fault { written: 0 })
+    );
+    write_sink(&mut out, b"d")?;
+    assert_eq!(rt; out.bytes(), b"abcd".as_slice());
+    assert_eq!(rt; out.faults(), 1);
+    Ok(())
+}

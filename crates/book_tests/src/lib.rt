@@ -1,0 +1,23 @@
+//! Tests of books, choices, tables of greatest value, values without a winner, blocking coalitions, slots, weights and edits.
+#![tactic(auto)]
+
+#[cfg(test)]
+mod books;
+#[cfg(test)]
+mod choosing;
+#[cfg(test)]
+mod coalitions;
+#[cfg(test)]
+mod edits;
+#[cfg(test)]
+mod printed_edits;
+#[cfg(test)]
+mod reviews;
+#[cfg(test)]
+mod slots;
+#[cfg(test)]
+mod tables;
+#[cfg(test)]
+mod values_without;
+#[cfg(test)]
+mod weights;

@@ -1,0 +1,159 @@
+ghost use Rattle.std.specs.Prelude.{IsTrue, pos};
+ghost use Rattle.auction_model.specs.Book.{market_of};
+ghost use Rattle.choices.specs.Lowering.{CanLower};
+ghost use Rattle.value_table.specs.SideValues.{AreSidesOf};
+
+use bid_book::{BidBook, read_book};
+use choices::{Chooser, Found, first_by_listing, value};
+use std::alloc::{AllocError, Global};
+use value_table::{BookChooser, Sides, ValueTable, win};
+
+/// One lot of each of two categories; b1 and b2 win it.
+const BOOK: &str =
+    "book 1\nsupply 1 1\nreserve 0 0\nbidder b1\nbid 1 0 28\nbidder b2\nbid 0 1 20\nbidder b3\nbid 1 1 32\nbidder b4\nbid 1 0 14\nbidder b5\nbid 0 1 12\nend\n";
+
+/// One lot of each of two categories; a and b win it, and c bids for both.
+const TWO_OR_ONE: &str =
+    "book 1\nsupply 1 1\nreserve 0 0\nbidder a\nbid 1 0 10\nbidder b\nbid 0 1 10\nbidder c\nbid 1 1 12\nend\n";
+
+// Whether these can be the surpluses of a search: one for each bidder, 0 for losers, and no sum leaves the range.
+fn are_surpluses(chooser: &BookChooser, surplus: &[i128]) -> bool
+    ensures { IsTrue result → CanLower (market_of chooser.now.book.now) chooser.now.winners (pos 1) surplus.now }
+{
+    let all = value(chooser.book, &chooser.winners);
+    if surplus.len() != chooser.members() || all < 0 || all > 1_000_000 {
+        return false;
+    }
+    for k in 0..surplus.len() {
+        let lost = chooser.winners.number(k as u16 + 1) == 0;
+        if surplus[k].unsigned_abs() > 1_000_000 || lost && surplus[k] != 0 {
+            return false;
+        }
+    }
+    true
+}
+
+// What the search at these surpluses finds, where they are surpluses.
+fn search(
+    alloc: Global,
+    chooser: &BookChooser,
+    surplus: &[i128],
+) -> Result<Option<Found<ValueTable>>, AllocError> {
+    if !are_surpluses(chooser, surplus) {
+        return Ok(None);
+    }
+    let found = chooser.best_lowered(alloc, 1, surplus)?;
+    Ok(Some(found))
+}
+
+#[test]
+fn a_chooser_searches_at_surpluses(rt: HostRuntime) -> Result<(), AllocError> {
+    let Ok(book) = read_book(rt.alloc(), BOOK.as_bytes()) else {
+        panic!(rt; "this is a book");
+    };
+    let chooser = BookChooser::new(&book, win(rt.alloc(), &book)?);
+    assert!(rt; chooser.winners().numbers() == [1, 1, 0, 0, 0].as_slice());
+    assert_eq!(rt; chooser.winner_value(1), 28);
+    assert_eq!(rt; chooser.winner_value(3), 0);
+    let surplus = [14i128, 8, 0, 0, 0];
+    let Some(found) = search(rt.alloc(), &chooser, &surplus)? else {
+        panic!(rt; "these are surpluses");
+    };
+    assert_eq!(rt; found.sum, 32);
+    assert!(rt; found.choice.numbers() == [0, 0, 1, 0, 0].as_slice());
+    Ok(())
+}
+
+// Where a pays 15 for its bid of 10, its surplus is -5, and b's is 9 where it pays 1. So a and b together count 15 and 1, and
+// c alone counts 12 beside the 5 of a that isn't used.
+#[test]
+fn a_bidder_that_pays_more_than_its_bid_counts_where_it_is_not_used(
+    rt: HostRuntime,
+) -> Result<(), AllocError> {
+    let Ok(book) = read_book(rt.alloc(), TWO_OR_ONE.as_bytes()) else {
+        panic!(rt; "this is a book");
+    };
+    let chooser = BookChooser::new(&book, win(rt.alloc(), &book)?);
+    assert!(rt; chooser.winners().numbers() == [1, 1, 0].as_slice());
+    let Some(found) = search(rt.alloc(), &chooser, &[-5, 9, 0])? else {
+        panic!(rt; "these are surpluses");
+    };
+    assert_eq!(rt; found.sum, 17);
+    assert!(rt; found.choice.numbers() == [0, 0, 1].as_slice());
+    let grid = found.table.grid();
+    if grid.lines() < 2 {
+        panic!(rt; "a table has a line for each bidder");
+    }
+    assert!(rt; grid.line(0) == [5i128, 6, 15, 17].as_slice());
+    assert!(rt; grid.line(1) == [0i128, 1, 0, 12].as_slice());
+    Ok(())
+}
+
+/// The greatest value without each bidder of the book: without b1, b2 and b4 win, without b2, b1 and b5.
+const WITHOUT_ONE: &[i128] = &[34, 40, 48, 48, 48];
+
+// Whether these are the values without each bidder.
+fn are_values_without(book: &BidBook, sides: &Sides, values: &[i128]) -> bool
+    requires { AreSidesOf book.now sides.now }
+{
+    if values.len() != book.bidders() {
+        return false;
+    }
+    for k in 0..values.len() {
+        if sides.without(k as u16 + 1) != values[k] {
+            return false;
+        }
+    }
+    true
+}
+
+#[test]
+fn sides_give_the_values_without_each_bidder(rt: HostRuntime) -> Result<(), AllocError> {
+    let Ok(book) = read_book(rt.alloc(), BOOK.as_bytes()) else {
+        panic!(rt; "this is a book");
+    };
+    let sides = Sides::build(rt.alloc(), &book)?;
+    assert!(rt; are_values_without(&book, &sides, WITHOUT_ONE));
+    if book.bidders() < 2 || book.supply().states() != 4 {
+        panic!(rt; "there are five bidders, and one lot of each of two categories");
+    }
+    assert_eq!(rt; sides.left(2, 3), 48);
+    assert_eq!(rt; sides.right(2, 3), 32);
+    let table = sides.table_without(rt.alloc(), &book, 1)?;
+    assert_eq!(rt; table.most(&book), 34);
+    Ok(())
+}
+
+/// Two lots of one category with a reserve of 1, and one lot of another.
+const THREE: &str =
+    "book 1\nsupply 2 1\nreserve 1 0\nbidder a\nbid 1 0 10\nbid 2 0 16\nbidder b\nbid 0 1 5\nbid 1 1 12\nbidder c\nbid 1 0 5\nbid 1 1 9\nend\n";
+
+/// The same book without a, without b and without c.
+const TWO_OF_THREE: &[&str] = &[
+    "book 1\nsupply 2 1\nreserve 1 0\nbidder b\nbid 0 1 5\nbid 1 1 12\nbidder c\nbid 1 0 5\nbid 1 1 9\nend\n",
+    "book 1\nsupply 2 1\nreserve 1 0\nbidder a\nbid 1 0 10\nbid 2 0 16\nbidder c\nbid 1 0 5\nbid 1 1 9\nend\n",
+    "book 1\nsupply 2 1\nreserve 1 0\nbidder a\nbid 1 0 10\nbid 2 0 16\nbidder b\nbid 0 1 5\nbid 1 1 12\nend\n",
+];
+
+// The value of the winning choice of each book, by going through all choices.
+fn listed_values(alloc: Global, texts: &[&str]) -> Result<Vec<i128>, AllocError> {
+    let mut values = Vec::new(alloc);
+    for text in texts {
+        if let Ok(book) = read_book(alloc, text.as_bytes()) {
+            let winners = first_by_listing(alloc, &book)?;
+            values.push(value(&book, &winners))?;
+        }
+    }
+    Ok(values)
+}
+
+#[test]
+fn sides_agree_with_a_listing(rt: HostRuntime) -> Result<(), AllocError> {
+    let Ok(book) = read_book(rt.alloc(), THREE.as_bytes()) else {
+        panic!(rt; "this is a book");
+    };
+    let sides = Sides::build(rt.alloc(), &book)?;
+    let values = listed_values(rt.alloc(), TWO_OF_THREE)?;
+    assert!(rt; are_values_without(&book, &sides, &values));
+    Ok(())
+}

@@ -1,0 +1,34 @@
+use bid_book::read_book;
+use std::alloc::AllocError;
+use value_table::win;
+use vickrey::vickrey;
+
+/// One lot of each of two categories; b1 and b2 win it.
+const BOOK: &str =
+    "book 1\nsupply 1 1\nreserve 0 0\nbidder b1\nbid 1 0 28\nbidder b2\nbid 0 1 20\nbidder b3\nbid 1 1 32\nbidder b4\nbid 1 0 14\nbidder b5\nbid 0 1 12\nend\n";
+
+#[test]
+fn winners_pay_what_the_others_lose_by_them(rt: HostRuntime) -> Result<(), AllocError> {
+    let Ok(book) = read_book(rt.alloc(), BOOK.as_bytes()) else {
+        panic!(rt; "this is a book");
+    };
+    let winners = win(rt.alloc(), &book)?;
+    let alone = vickrey(rt.alloc(), &book, &winners)?;
+    if alone.count() != 2 || alone.singles().len() != 2 {
+        panic!(rt; "there are two winners");
+    }
+    let first = alone.single(0);
+    assert_eq!(rt; first.winner, 1);
+    assert_eq!(rt; first.price, 14);
+    assert!(rt; first.choice.numbers() == [0, 1, 0, 1, 0].as_slice());
+    let table = alone.table(0);
+    if table.lines() == 0 {
+        panic!(rt; "a table has lines");
+    }
+    assert!(rt; table.line(0) == [0i128, 20, 14, 34].as_slice());
+    let second = alone.single(1);
+    assert_eq!(rt; second.winner, 2);
+    assert_eq!(rt; second.price, 12);
+    assert!(rt; second.choice.numbers() == [1, 0, 0, 0, 1].as_slice());
+    Ok(())
+}

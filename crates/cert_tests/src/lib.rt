@@ -1,0 +1,19 @@
+//! Tests of certificates, of books and of placements: their texts, their checkers, and the prices that they state.
+#![tactic(auto)]
+
+#[cfg(test)]
+mod pieces;
+#[cfg(test)]
+mod place_checks;
+#[cfg(test)]
+mod place_prices;
+#[cfg(test)]
+mod place_texts;
+#[cfg(test)]
+mod prices;
+#[cfg(test)]
+mod read_texts;
+#[cfg(test)]
+mod streams;
+#[cfg(test)]
+mod written_texts;

@@ -1,0 +1,103 @@
+use place_cert::read_places;
+use place_check::{Verdict, check_places};
+use slot_places::read_slots;
+use std::alloc::{AllocError, Global};
+use std::process::Abort;
+use std::test::Fail;
+
+/// The bids of x and y fit together, and that of z with neither.
+const SLOTS: &str =
+    "slots 1\nband 4\nbidder x 2\nplace 1 10\nbidder y 1\nplace 4 8\nbidder z 1\nplace 2 12\nend\n";
+
+/// A certificate of them, of 287 bytes: x and y win, and pay together what z bids.
+const CERT: &str =
+    "pcert 1\nden 1\nvalue 18\norder 1 3 2\nchoice 1 1 0\ntable\nt 18 8 12 0 8 8 0 0\n\
+    without 1\norder 2 3 1\nchoice 0 0 1\ntable\nt 12 8 12 0 8 8 0 0\n\
+    without 2\norder 2 3 1\nchoice 0 0 1\ntable\nt 12 0 12 0 0 0 0 0\n\
+    pay 7 5 0\nrows 1\nrow 1 2\nmult 1 3\norder 2 3 1\nchoice 0 0 1\nlowered\nt 12 5 12 0 5 5 0 0\nend\n";
+
+// The text of the certificate with other bytes in place of those from the one place up to the other.
+fn edited(alloc: Global, from: usize, to: usize, other: &str) -> Result<Vec<u8>, AllocError> {
+    let bytes = CERT.as_bytes();
+    let mut text = Vec::new(alloc);
+    if from <= to && to <= bytes.len() {
+        text.extend_from_slice(&bytes[..from])?;
+        text.extend_from_slice(other.as_bytes())?;
+        text.extend_from_slice(&bytes[to..])?;
+    }
+    Ok(text)
+}
+
+// The verdict on a text for the slots.
+fn verdict_of(rt: &impl Abort, alloc: Global, text: &[u8]) -> Verdict {
+    let Ok(slots) = read_slots(alloc, SLOTS.as_bytes()) else {
+        panic!(rt; "these are slots");
+    };
+    let Ok(cert) = read_places(alloc, text, 3) else {
+        panic!(rt; "this is a certificate");
+    };
+    assert_eq!(rt; slots.bidders(), 3);
+    check_places(&slots, &cert)
+}
+
+// Asserts which test and place fail first of each of these edited texts.
+fn fails_at(
+    rt: &impl Abort,
+    alloc: Global,
+    faulty: &[(usize, usize, &str, u8, u64)],
+) -> Result<(), AllocError> {
+    for (from, to, other, test, place) in faulty {
+        let text = edited(alloc, *from, *to, other)?;
+        assert_eq!(rt;
+            verdict_of(rt, alloc, text.as_slice()),
+            Verdict::No {
+                test: *test,
+                place: *place
+            },
+            "{from} {other}"
+        );
+    }
+    Ok(())
+}
+
+#[test]
+fn accepts_a_right_certificate(rt: HostRuntime) {
+    assert_eq!(rt; verdict_of(&rt, rt.alloc(), CERT.as_bytes()), Verdict::Yes);
+}
+
+// The verdicts of these tests were found by testing the certificates with another program, from the tests' definitions alone.
+#[test]
+fn names_the_first_test_of_the_choices_that_fails(rt: HostRuntime) -> Result<(), Fail> {
+    let faulty = [
+        (8, 13, "den 0", 1, 1),
+        (14, 22, "value -1", 1, 2),
+        (35, 48, "choice 1 2 0\n", 2, 2),
+        (23, 34, "order 1 2 3", 2, 4),
+        (14, 22, "value 17", 2, 5),
+        (54, 73, "t 18 8 12 0 8 8 0 -1", 3, 7),
+        (54, 73, "t 18 7 12 0 8 8 0 0", 3, 1),
+        (54, 73, "t 19 8 12 0 8 8 0 0", 3, 8),
+        (115, 134, "t 13 8 12 0 8 8 0 0", 4, 1),
+        (176, 195, "t 12 0 11 0 0 0 0 0", 4, 2),
+    ];
+    fails_at(&rt, rt.alloc(), &faulty)?;
+    Ok(())
+}
+
+#[test]
+fn names_the_first_test_of_the_payments_that_fails(rt: HostRuntime) -> Result<(), Fail> {
+    let faulty = [
+        (196, 205, "pay 7 9 0", 5, 2),
+        (196, 205, "pay 7 5 1", 5, 3),
+        (213, 220, "row 1 3", 6, 1),
+        (196, 205, "pay 7 4 0", 6, 1),
+        (221, 229, "mult -1 3", 7, 1),
+        (221, 229, "mult 2 3", 7, 2),
+        (221, 229, "mult 1 2", 8, 2),
+        (196, 205, "pay 8 4 0", 8, 2),
+        (263, 282, "t 12 4 12 0 5 5 0 0", 9, 1),
+        (263, 282, "t 13 5 12 0 5 5 0 0", 9, 8),
+    ];
+    fails_at(&rt, rt.alloc(), &faulty)?;
+    Ok(())
+}

@@ -1,0 +1,151 @@
+use place_cert::{CertStop, PlaceCertificate, PlaceRow, PlaceWithout, read_places, write_places};
+use std::alloc::{AllocError, Global};
+use std::process::Abort;
+use std::test::Fail;
+
+/// A certificate for three bidders in a band of four: the first has two slots and 10 for slot 1, the second one slot and 8 for slot
+/// 4, the third one slot and 12 for slot 2. The first two win. It has 287 bytes.
+const SAMPLE: &str =
+    "pcert 1\nden 1\nvalue 18\norder 1 3 2\nchoice 1 1 0\ntable\nt 18 8 12 0 8 8 0 0\n\
+    without 1\norder 2 3 1\nchoice 0 0 1\ntable\nt 12 8 12 0 8 8 0 0\n\
+    without 2\norder 2 3 1\nchoice 0 0 1\ntable\nt 12 0 12 0 0 0 0 0\n\
+    pay 7 5 0\nrows 1\nrow 1 2\nmult 1 3\norder 2 3 1\nchoice 0 0 1\nlowered\nt 12 5 12 0 5 5 0 0\nend\n";
+
+// The text of the sample with other lines in place of the bytes from the one place up to the other.
+fn edited(alloc: Global, from: usize, to: usize, lines: &str) -> Result<Vec<u8>, AllocError> {
+    let bytes = SAMPLE.as_bytes();
+    let mut text = Vec::new(alloc);
+    if from <= to && to <= bytes.len() {
+        text.extend_from_slice(&bytes[..from])?;
+        text.extend_from_slice(lines.as_bytes())?;
+        text.extend_from_slice(&bytes[to..])?;
+    }
+    Ok(text)
+}
+
+// Asserts that the reader stops so at each of these edited texts.
+fn stops_at(
+    rt: &impl Abort,
+    alloc: Global,
+    faulty: &[(usize, usize, &str, CertStop)],
+) -> Result<(), AllocError> {
+    for (from, to, lines, stop) in faulty {
+        let text = edited(alloc, *from, *to, lines)?;
+        assert_eq!(rt;
+            read_places(alloc, text.as_slice(), 3).err(),
+            Some(*stop),
+            "{from} {lines}"
+        );
+    }
+    Ok(())
+}
+
+// The certificate of the sample.
+fn sample(rt: &impl Abort, alloc: Global) -> PlaceCertificate {
+    let Ok(cert) = read_places(alloc, SAMPLE.as_bytes(), 3) else {
+        panic!(rt; "this is a certificate");
+    };
+    cert
+}
+
+// Asserts what a part without a winner holds.
+fn part_is(rt: &impl Abort, part: &PlaceWithout, winner: u16, entries: &[i128]) {
+    assert_eq!(rt; part.winner, winner);
+    assert!(rt; part.choice.numbers() == [0, 0, 1].as_slice());
+    assert!(rt; part.order.items() == [2, 3, 1].as_slice());
+    assert_eq!(rt; part.table.lines(), 1);
+    if part.table.lines() > 0 {
+        assert!(rt; part.table.line(0) == entries);
+    }
+}
+
+// Asserts what the row of the sample holds.
+fn row_is(rt: &impl Abort, row: &PlaceRow) {
+    assert!(rt; row.members.items() == [1, 2].as_slice());
+    assert_eq!(rt; (row.first, row.second), (1, 3));
+    assert!(rt; row.order.items() == [2, 3, 1].as_slice());
+    assert!(rt; row.choice.numbers() == [0, 0, 1].as_slice());
+}
+
+#[test]
+fn tells_what_a_certificate_holds(rt: HostRuntime) {
+    assert_eq!(rt; SAMPLE.len(), 287);
+    let cert = sample(&rt, rt.alloc());
+    assert_eq!(rt; (cert.den, cert.value), (1, 18));
+    assert!(rt; cert.order.items() == [1, 3, 2].as_slice());
+    assert!(rt; cert.choice.numbers() == [1, 1, 0].as_slice());
+    assert!(rt; cert.pay.items() == [7i128, 5, 0].as_slice());
+    let [first, second] = cert.withouts.items() else {
+        panic!(rt; "two win");
+    };
+    part_is(&rt, first, 1, &[12, 8, 12, 0, 8, 8, 0, 0]);
+    part_is(&rt, second, 2, &[12, 0, 12, 0, 0, 0, 0, 0]);
+    let [row] = cert.rows.items() else {
+        panic!(rt; "there is one row");
+    };
+    row_is(&rt, row);
+}
+
+#[test]
+fn writes_back_what_was_read(rt: HostRuntime) -> Result<(), Fail> {
+    let cert = sample(&rt, rt.alloc());
+    let written = write_places(rt.alloc(), &cert)?;
+    assert!(rt; written.items() == SAMPLE.as_bytes());
+    Ok(())
+}
+
+#[test]
+fn names_the_first_faulty_line(rt: HostRuntime) -> Result<(), Fail> {
+    let faulty = [
+        (0, 8, "cert 1\n", CertStop::Form(0)),
+        (0, 8, "pcert 2\n", CertStop::Form(0)),
+        (23, 35, "", CertStop::Form(23)),
+        (23, 35, "order 1 3\n", CertStop::Form(23)),
+        (23, 35, "order 1 3 2 4\n", CertStop::Form(23)),
+        (23, 35, "order 1 3 65536\n", CertStop::Form(23)),
+        (23, 35, "order 65535 0 0\nplace\n", CertStop::Form(39)),
+        (54, 74, "t 18 8 12 0 8 8 0\n", CertStop::Form(54)),
+        (74, 74, "t 18 8 12 0 8 8 0 0\n", CertStop::Form(74)),
+        (84, 96, "", CertStop::Form(84)),
+        (145, 157, "order 2 3\n", CertStop::Form(145)),
+        (206, 213, "rows 2\n", CertStop::Form(255)),
+        (230, 242, "", CertStop::Form(230)),
+        (283, 287, "t 0 0 0 0 0 0 0 0\nend\n", CertStop::Form(283)),
+        (287, 287, "end\n", CertStop::Form(287)),
+        (283, 287, "end", CertStop::Form(283)),
+    ];
+    stops_at(&rt, rt.alloc(), &faulty)?;
+    Ok(())
+}
+
+#[test]
+fn names_the_first_line_out_of_range(rt: HostRuntime) -> Result<(), Fail> {
+    let faulty = [
+        (
+            14,
+            23,
+            "value 1329227995784915872903807060280344576\n",
+            CertStop::Range(14),
+        ),
+        (
+            54,
+            74,
+            "t 18 8 12 0 8 8 0 -1329227995784915872903807060280344576\n",
+            CertStop::Range(54),
+        ),
+        (
+            54,
+            74,
+            "t 18 8 12 0 8 8 1329227995784915872903807060280344576\n",
+            CertStop::Form(54),
+        ),
+        (
+            263,
+            283,
+            "t 12 5 12 0 5 5 0 1329227995784915872903807060280344576\n",
+            CertStop::Range(263),
+        ),
+    ];
+    stops_at(&rt, rt.alloc(), &faulty)?;
+    Ok(())
+}

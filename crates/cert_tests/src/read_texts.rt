@@ -1,0 +1,368 @@
+use cert_text::{CertRow, CertStop, Certificate, Shape, read_cert, write_cert};
+use std::alloc::{AllocError, Global};
+use std::process::Abort;
+use std::test::Fail;
+
+/// A certificate for five bidders and four states: 476 bytes, of which the last line has 4.
+const SAMPLE: &str = "cert 1\nden 1\nvalue 48\nchoice 1 1 0 0 0\ntable\n\
+    t 0 20 28 48\nt 0 20 14 34\nt 0 12 14 32\nt 0 12 14 26\nt 0 12 0 12\nt 0 0 0 0\n\
+    without 1\nchoice 0 1 0 1 0\ntable\n\
+    t 0 20 14 34\nt 0 20 14 34\nt 0 12 14 32\nt 0 12 14 26\nt 0 12 0 12\nt 0 0 0 0\n\
+    without 2\nchoice 1 0 0 0 1\ntable\n\
+    t 0 12 28 40\nt 0 12 14 32\nt 0 12 14 32\nt 0 12 14 26\nt 0 12 0 12\nt 0 0 0 0\n\
+    pay 17 15 0 0 0\nrows 1\nrow 1 2\nmult 1 3\nchoice 0 0 1 0 0\nlowered\n\
+    t 0 15 17 32\nt 0 15 14 32\nt 0 12 14 32\nt 0 12 14 26\nt 0 12 0 12\nt 0 0 0 0\nend\n";
+
+/// How many bidders and states the sample is for.
+const SAMPLE_SHAPE: Shape = Shape {
+    bidders: 5,
+    states: 4,
+};
+
+/// No bidder, one state.
+const NOBODY: Shape = Shape {
+    bidders: 0,
+    states: 1,
+};
+
+/// Two bidders, one state.
+const TWO: Shape = Shape {
+    bidders: 2,
+    states: 1,
+};
+
+/// The head of a certificate for two bidders and one state, of which the first wins: 50 bytes.
+const HEAD: &str = "cert 1\nden 1\nvalue 0\nchoice 1 0\ntable\nt 0\nt 0\nt 0\n";
+
+/// The same head, and the part without the first bidder: 89 bytes.
+const PARTS: &str = "cert 1\nden 1\nvalue 0\nchoice 1 0\ntable\nt 0\nt 0\nt 0\n\
+    without 1\nchoice 0 0\ntable\nt 0\nt 0\nt 0\n";
+
+/// The same up to the count of one row: 104 bytes.
+const COUNT: &str = "cert 1\nden 1\nvalue 0\nchoice 1 0\ntable\nt 0\nt 0\nt 0\n\
+    without 1\nchoice 0 0\ntable\nt 0\nt 0\nt 0\npay 0 0\nrows 1\n";
+
+/// A certificate for thirteen bidders, of whom nobody wins, and one state.
+const SECOND: &str =
+    "cert 2\nlimits 16 16384\nden 1\nvalue 0\nchoice 0 0 0 0 0 0 0 0 0 0 0 0 0\ntable\n\
+    t 0\nt 0\nt 0\nt 0\nt 0\nt 0\nt 0\nt 0\nt 0\nt 0\nt 0\nt 0\nt 0\nt 0\n\
+    pay 0 0 0 0 0 0 0 0 0 0 0 0 0\nrows 0\nlowered\n\
+    t 0\nt 0\nt 0\nt 0\nt 0\nt 0\nt 0\nt 0\nt 0\nt 0\nt 0\nt 0\nt 0\nt 0\nend\n";
+
+/// A certificate for four bidders and eight states, over the denominator 3.
+const THIRDS: &str = "cert 1\nden 3\nvalue 30\nchoice 1 1 1 0\ntable\nt 0 10 10 20 10 20 20 30\n\
+    t 0 10 10 20 0 10 10 20\nt 0 10 0 10 0 10 0 11\nt 0 0 0 0 0 0 0 11\nt 0 0 0 0 0 0 0 0\n\
+    without 1\nchoice 0 1 1 0\ntable\nt 0 10 10 20 0 10 10 20\nt 0 10 10 20 0 10 10 20\n\
+    t 0 10 0 10 0 10 0 11\nt 0 0 0 0 0 0 0 11\nt 0 0 0 0 0 0 0 0\nwithout 2\nchoice 1 0 1 0\n\
+    table\nt 0 10 0 10 10 20 10 20\nt 0 10 0 10 0 10 0 11\nt 0 10 0 10 0 10 0 11\n\
+    t 0 0 0 0 0 0 0 11\nt 0 0 0 0 0 0 0 0\nwithout 3\nchoice 1 1 0 0\ntable\n\
+    t 0 0 10 10 10 10 20 20\nt 0 0 10 10 0 0 10 11\nt 0 0 0 0 0 0 0 11\nt 0 0 0 0 0 0 0 11\n\
+    t 0 0 0 0 0 0 0 0\npay 11 11 11 0\nrows 1\nrow 1 2 3\nmult 3 11\nchoice 0 0 0 1\nlowered\n\
+    t 0 11 11 22 11 22 22 33\nt 0 11 11 22 0 11 11 33\nt 0 11 0 11 0 11 0 33\n\
+    t 0 0 0 0 0 0 0 33\nt 0 0 0 0 0 0 0 0\nend\n";
+
+/// A certificate for five bidders and eight states. It has three rows, and a second multiplier below 0.
+const THREE_ROWS: &str =
+    "cert 1\nden 1\nvalue 30\nchoice 1 1 1 0 0\ntable\nt 0 10 10 20 10 20 20 30\n\
+    t 0 10 10 20 0 10 10 20\nt 0 10 0 10 0 10 8 18\nt 0 0 0 8 0 0 8 8\nt 0 0 0 8 0 0 0 8\n\
+    t 0 0 0 0 0 0 0 0\nwithout 1\nchoice 0 1 1 0 0\ntable\nt 0 10 10 20 0 10 10 20\n\
+    t 0 10 10 20 0 10 10 20\nt 0 10 0 10 0 10 8 18\nt 0 0 0 8 0 0 8 8\nt 0 0 0 8 0 0 0 8\n\
+    t 0 0 0 0 0 0 0 0\nwithout 2\nchoice 1 0 1 0 0\ntable\nt 0 10 0 10 10 20 10 20\n\
+    t 0 10 0 10 0 10 8 18\nt 0 10 0 10 0 10 8 18\nt 0 0 0 8 0 0 8 8\nt 0 0 0 8 0 0 0 8\n\
+    t 0 0 0 0 0 0 0 0\nwithout 3\nchoice 1 1 0 0 0\ntable\nt 0 0 10 10 10 10 20 20\n\
+    t 0 0 10 10 0 0 10 10\nt 0 0 0 8 0 0 8 8\nt 0 0 0 8 0 0 8 8\nt 0 0 0 8 0 0 0 8\n\
+    t 0 0 0 0 0 0 0 0\npay 0 8 0 0 0\n\
+    rows 3\nrow 1 2\nmult 1 0\nchoice 0 0 1 1 0\nrow 2 3\nmult 0 8\nchoice 1 0 0 0 1\n\
+    row 3\nmult 1 -8\nchoice 1 1 0 0 0\n\
+    lowered\nt 0 0 8 8 0 0 8 8\nt 0 0 8 8 0 0 8 8\nt 0 0 0 8 0 0 8 8\nt 0 0 0 8 0 0 8 8\n\
+    t 0 0 0 8 0 0 0 8\nt 0 0 0 0 0 0 0 0\nend\n";
+
+// Where the reader stops at the text of both parts, if it stops.
+fn stop_at(
+    alloc: Global,
+    shape: Shape,
+    front: &str,
+    rest: &str,
+) -> Result<Option<CertStop>, AllocError> {
+    let text = format!(in alloc; "{front}{rest}")?;
+    Ok(read_cert(alloc, text.as_bytes(), shape).err())
+}
+
+// Asserts that a row is of these members, multipliers and choice.
+fn row_is(
+    rt: &impl Abort,
+    row: &CertRow,
+    members: &[u16],
+    multipliers: (i128, i128),
+    choice: &[u16],
+) {
+    assert!(rt; row.members.items() == members);
+    assert_eq!(rt; (row.first, row.second), multipliers);
+    assert!(rt; row.choice.numbers() == choice);
+}
+
+// The certificate of a text, whose value has this text again.
+fn certificate_of(
+    rt: &impl Abort,
+    alloc: Global,
+    text: &str,
+    shape: Shape,
+) -> Result<Certificate, AllocError> {
+    let Ok(cert) = read_cert(alloc, text.as_bytes(), shape) else {
+        panic!(rt; "this is a certificate");
+    };
+    let written = write_cert(alloc, &cert)?;
+    assert!(rt; written.items() == text.as_bytes());
+    Ok(cert)
+}
+
+#[test]
+fn tells_what_a_certificate_holds(rt: HostRuntime) {
+    assert_eq!(rt; SAMPLE.len(), 476);
+    let Ok(cert) = read_cert(rt.alloc(), SAMPLE.as_bytes(), SAMPLE_SHAPE) else {
+        panic!(rt; "this is a certificate");
+    };
+    assert_eq!(rt; cert.den, 1);
+    assert_eq!(rt; cert.value, 48);
+    assert!(rt; cert.choice.numbers() == [1, 1, 0, 0, 0].as_slice());
+    assert_eq!(rt; cert.withouts.items().len(), 2);
+    assert!(rt; cert.pay.items() == [17i128, 15, 0, 0, 0].as_slice());
+    assert_eq!(rt; cert.lowered.lines(), 6);
+    assert!(rt; cert.lowered.line(0) == [0i128, 15, 17, 32].as_slice());
+    let [row] = cert.rows.items() else {
+        panic!(rt; "there is one row");
+    };
+    row_is(&rt, row, &[1, 2], (1, 3), &[0, 0, 1, 0, 0]);
+}
+
+#[test]
+fn writes_back_what_was_read(rt: HostRuntime) -> Result<(), Fail> {
+    certificate_of(&rt, rt.alloc(), SAMPLE, SAMPLE_SHAPE)?;
+    Ok(())
+}
+
+#[test]
+fn names_the_last_line_where_it_is_cut(rt: HostRuntime) {
+    let bytes = SAMPLE.as_bytes();
+    assert_eq!(rt; bytes.len(), 476);
+    let stop = read_cert(rt.alloc(), &bytes[..474], SAMPLE_SHAPE).err();
+    assert_eq!(rt; stop, Some(CertStop::Form(472)));
+}
+
+#[test]
+fn names_the_first_faulty_line_of_the_head(rt: HostRuntime) -> Result<(), Fail> {
+    let faulty = [
+        ("", CertStop::Form(0)),
+        ("cert 1", CertStop::Form(0)),
+        ("cert 2\nden 1\n", CertStop::Form(0)),
+        ("cert 1\nden 01\n", CertStop::Form(7)),
+        ("cert 1\nden -0\n", CertStop::Form(7)),
+        ("cert 1\nden  1\n", CertStop::Form(7)),
+        ("cert 1\nden 1 \n", CertStop::Form(7)),
+        (
+            "cert 1\nden 1329227995784915872903807060280344576\n",
+            CertStop::Range(7),
+        ),
+        (
+            "cert 1\nden -1329227995784915872903807060280344576\n",
+            CertStop::Range(7),
+        ),
+        (
+            "cert 1\nden 1329227995784915872903807060280344576 1\n",
+            CertStop::Form(7),
+        ),
+        (
+            "cert 1\nden -1329227995784915872903807060280344575\n",
+            CertStop::Form(50),
+        ),
+        ("cert 1\nden 1\nvalue 0\nchoice 0\n", CertStop::Form(21)),
+    ];
+    for (text, stop) in faulty {
+        assert_eq!(rt;
+            stop_at(rt.alloc(), NOBODY, text, "")?,
+            Some(stop),
+            "{text}"
+        );
+    }
+    Ok(())
+}
+
+#[test]
+fn reads_a_certificate_of_nobody(rt: HostRuntime) -> Result<(), Fail> {
+    let pay = "cert 1\nden 1\nvalue 0\nchoice\ntable\nt 0\npay\n";
+    let rest = "rows 0\nlowered\nt 0\nend\n";
+    assert_eq!(rt; stop_at(rt.alloc(), NOBODY, pay, rest)?, None);
+    let faulty = [
+        ("rows 1\n", 42),
+        ("rows 11\n", 42),
+        ("rows 0\nlowered\nt 0\nend", 61),
+        ("rows 0\nlowered\nt 0\nend\n\n", 65),
+        ("rows 0\nlowered\nt 0\nend\nx", 65),
+    ];
+    for (rest, place) in faulty {
+        assert_eq!(rt;
+            stop_at(rt.alloc(), NOBODY, pay, rest)?,
+            Some(CertStop::Form(place)),
+            "{rest}"
+        );
+    }
+    Ok(())
+}
+
+// Asserts that the reader stops so at each of these texts, in two parts, of a certificate for two bidders and one state.
+fn stops_at(
+    rt: &impl Abort,
+    alloc: Global,
+    faulty: &[(&str, &str, CertStop)],
+) -> Result<(), AllocError> {
+    for (front, rest, stop) in faulty {
+        assert_eq!(rt; stop_at(alloc, TWO, front, rest)?, Some(*stop), "{rest}");
+    }
+    Ok(())
+}
+
+#[test]
+fn names_the_first_faulty_line_behind_the_head(rt: HostRuntime) -> Result<(), Fail> {
+    let faulty = [
+        (HEAD, "t 0\n", CertStop::Form(50)),
+        (HEAD, "without 2\n", CertStop::Form(50)),
+        (HEAD, "pay 0 0\n", CertStop::Form(50)),
+        (PARTS, "without 2\n", CertStop::Form(89)),
+        (PARTS, "pay 0\n", CertStop::Form(89)),
+        (PARTS, "pay 0 0\nrows 11\n", CertStop::Form(97)),
+        (PARTS, "pay 0 0\nrows 10\n", CertStop::Form(105)),
+        (
+            PARTS,
+            "pay 0 0\nrows 1329227995784915872903807060280344576\n",
+            CertStop::Form(97),
+        ),
+    ];
+    stops_at(&rt, rt.alloc(), &faulty)?;
+    Ok(())
+}
+
+#[test]
+fn names_the_faulty_line_of_a_row(rt: HostRuntime) -> Result<(), Fail> {
+    let faulty = [
+        (COUNT, "row\n", CertStop::Form(104)),
+        (COUNT, "row 0\n", CertStop::Form(104)),
+        (COUNT, "row 3\n", CertStop::Form(104)),
+        (COUNT, "row 1 1\n", CertStop::Form(104)),
+        (COUNT, "row 2 1\n", CertStop::Form(104)),
+        (
+            COUNT,
+            "row 1329227995784915872903807060280344576\n",
+            CertStop::Form(104),
+        ),
+        (COUNT, "row 1 2\nmult 1\n", CertStop::Form(112)),
+        (
+            COUNT,
+            "row 1 2\nmult 1 1329227995784915872903807060280344576\n",
+            CertStop::Range(112),
+        ),
+    ];
+    stops_at(&rt, rt.alloc(), &faulty)?;
+    Ok(())
+}
+
+#[test]
+fn names_the_faulty_choice_of_a_row(rt: HostRuntime) -> Result<(), Fail> {
+    let faulty = [
+        (
+            COUNT,
+            "row 1 2\nmult 1 3\nchoice 1329227995784915872903807060280344576 0\n",
+            CertStop::Form(121),
+        ),
+        (
+            COUNT,
+            "row 1 2\nmult 1 3\nchoice 65536 0\n",
+            CertStop::Form(121),
+        ),
+        (
+            COUNT,
+            "row 1 2\nmult 1 3\nchoice 65535 0\n",
+            CertStop::Form(136),
+        ),
+    ];
+    stops_at(&rt, rt.alloc(), &faulty)?;
+    Ok(())
+}
+
+#[test]
+fn tells_the_version_by_the_shape(rt: HostRuntime) -> Result<(), Fail> {
+    let front = "cert 2\nlimits 16 16384\nden 1\nvalue 0\n";
+    // Which texts are read as far as to a choice that is missing, and at which line the others are refused.
+    let cases = [
+        (12, 4096, "cert 1\nden 1\nvalue 0\n", 21),
+        (12, 4096, front, 0),
+        (13, 4096, front, 37),
+        (12, 4097, front, 37),
+        (16, 16384, front, 37),
+        (16, 16384, "cert 1\nden 1\nvalue 0\n", 0),
+        (16, 16384, "cert 2\nden 1\nvalue 0\n", 7),
+        (16, 16384, "cert 2\nlimits 16 16385\n", 7),
+        (16, 16384, "cert 2\nlimits 12 4096\n", 7),
+        (16, 16384, "cert 2\n", 7),
+        (16, 16384, "cert 3\nlimits 16 16384\n", 0),
+    ];
+    for (bidders, states, text, place) in cases {
+        let shape = Shape { bidders, states };
+        assert_eq!(rt;
+            stop_at(rt.alloc(), shape, text, "")?,
+            Some(CertStop::Form(place)),
+            "{bidders} bidders, {states} states: {text}"
+        );
+    }
+    Ok(())
+}
+
+#[test]
+fn writes_back_a_text_of_the_second_version(rt: HostRuntime) -> Result<(), Fail> {
+    assert_eq!(rt; SECOND.len(), 237);
+    let shape = Shape {
+        bidders: 13,
+        states: 1,
+    };
+    certificate_of(&rt, rt.alloc(), SECOND, shape)?;
+    Ok(())
+}
+
+#[test]
+fn reads_and_writes_payments_over_3(rt: HostRuntime) -> Result<(), Fail> {
+    let shape = Shape {
+        bidders: 4,
+        states: 8,
+    };
+    let cert = certificate_of(&rt, rt.alloc(), THIRDS, shape)?;
+    assert_eq!(rt; cert.den, 3);
+    assert_eq!(rt; cert.value, 30);
+    assert!(rt; cert.pay.items() == [11i128, 11, 11, 0].as_slice());
+    let [row] = cert.rows.items() else {
+        panic!(rt; "there is one row");
+    };
+    row_is(&rt, row, &[1, 2, 3], (3, 11), &[0, 0, 0, 1]);
+    let [_, _, last] = cert.withouts.items() else {
+        panic!(rt; "three win");
+    };
+    assert_eq!(rt; last.winner, 3);
+    assert!(rt; last.choice.numbers() == [1, 1, 0, 0].as_slice());
+    Ok(())
+}
+
+#[test]
+fn reads_and_writes_three_rows(rt: HostRuntime) -> Result<(), Fail> {
+    let shape = Shape {
+        bidders: 5,
+        states: 8,
+    };
+    let cert = certificate_of(&rt, rt.alloc(), THREE_ROWS, shape)?;
+    assert_eq!(rt; cert.den, 1);
+    assert!(rt; cert.pay.items() == [0i128, 8, 0, 0, 0].as_slice());
+    let [both, others, last] = cert.rows.items() else {
+        panic!(rt; "there are three rows");
+    };
+    row_is(&rt, both, &[1, 2], (1, 0), &[0, 0, 1, 1, 0]);
+    row_is(&rt, others, &[2, 3], (0, 8), &[1, 0, 0, 0, 1]);
+    row_is(&rt, last, &[3], (1, -8), &[1, 1, 0, 0, 0]);
+    Ok(())
+}

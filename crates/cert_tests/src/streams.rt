@@ -1,0 +1,134 @@
+ghost use Rattle.std.specs.Prelude.{◌≡◌, ℕ, List, length};
+ghost use Rattle.auction_model.specs.Prices.{AreWeights};
+ghost use Rattle.cert_laws.specs.Tests.{bidders_of, states};
+ghost use Rattle.cert_pieces.specs.Rooms.{room_size};
+ghost use Rattle.stream_check.specs.Standing.{StandsFor};
+
+use bid_book::{BidBook, read_book};
+use cert_check::Verdict;
+use cert_facts::CertFacts;
+use cert_pieces::TextStop;
+use choices::Single;
+use limits::CERT_BYTES;
+use std::alloc::{AllocError, Global};
+use std::process::Abort;
+use std::test::Fail;
+use stream_check::StreamCheck;
+
+mod edits;
+
+/// Bids of five bidders for two lots. Those of the first two win.
+pub(crate) const BOOK: &str =
+    "book 1\nsupply 1 1\nreserve 0 0\nbidder b1\nbid 1 0 28\nbidder b2\nbid 0 1 20\n\
+    bidder b3\nbid 1 1 32\nbidder b4\nbid 1 0 14\nbidder b5\nbid 0 1 12\nend\n";
+
+/// The certificate of these bids, of 476 bytes.
+pub(crate) const CERT: &str = "cert 1\nden 1\nvalue 48\nchoice 1 1 0 0 0\ntable\n\
+    t 0 20 28 48\nt 0 20 14 34\nt 0 12 14 32\nt 0 12 14 26\nt 0 12 0 12\nt 0 0 0 0\n\
+    without 1\nchoice 0 1 0 1 0\ntable\n\
+    t 0 20 14 34\nt 0 20 14 34\nt 0 12 14 32\nt 0 12 14 26\nt 0 12 0 12\nt 0 0 0 0\n\
+    without 2\nchoice 1 0 0 0 1\ntable\n\
+    t 0 12 28 40\nt 0 12 14 32\nt 0 12 14 32\nt 0 12 14 26\nt 0 12 0 12\nt 0 0 0 0\n\
+    pay 17 15 0 0 0\nrows 1\nrow 1 2\nmult 1 3\nchoice 0 0 1 0 0\nlowered\n\
+    t 0 15 17 32\nt 0 15 14 32\nt 0 12 14 32\nt 0 12 14 26\nt 0 12 0 12\nt 0 0 0 0\nend\n";
+
+// A checker to which a text was fed of which each piece has so many bytes behind its first, as far as a file may go.
+fn fed<'a>(
+    book: &'a BidBook,
+    weights: &'a [u32],
+    room: &mut [i128],
+    text: &[u8],
+    more: u16,
+) -> StreamCheck<'a>
+    requires room { length room.old ≡ room_size (bidders_of book.now) (states book.now) }
+    requires weights { AreWeights (bidders_of book.now) weights.now }
+    ensures stands { (front : List ℕ) × StandsFor result room.new front }
+    ensures book { result.book.now ≡ book.now }
+    ensures room { length room.new ≡ length room.old }
+{
+    let mut checker = StreamCheck::start(book, room, weights);
+    let most = text.len().min(CERT_BYTES as usize);
+    let mut at = 0;
+    while at < most {
+        let end = most.min(at + 1 + more as usize);
+        checker.feed(room, &text[at..end]);
+        at = end;
+    }
+    checker
+}
+
+/// What a checker says of a text in such pieces, where all bidders weigh 1.
+pub(crate) fn verdict_of(
+    alloc: Global,
+    book: &BidBook,
+    text: &[u8],
+    more: u16,
+) -> Result<Result<Verdict, TextStop>, AllocError> {
+    let weights = vec![in alloc; 1u32; book.bidders()]?;
+    let mut room = vec![in alloc; 0i128; StreamCheck::room(book)]?;
+    let checker = fed(book, &weights, &mut room, text, more);
+    Ok(checker.finish(&room))
+}
+
+// The facts that it tells, where it says yes.
+fn facts_of(
+    alloc: Global,
+    book: &BidBook,
+    text: &[u8],
+    more: u16,
+) -> Result<Option<CertFacts>, AllocError> {
+    let weights = vec![in alloc; 1u32; book.bidders()]?;
+    let mut room = vec![in alloc; 0i128; StreamCheck::room(book)]?;
+    let checker = fed(book, &weights, &mut room, text, more);
+    told(alloc, &checker, &room)
+}
+
+fn told(
+    alloc: Global,
+    checker: &StreamCheck<'_>,
+    room: &[i128],
+) -> Result<Option<CertFacts>, AllocError>
+    requires room { length room.now ≡ room_size (bidders_of checker.now.book.now) (states checker.now.book.now) }
+    requires stands { (text : List ℕ) × StandsFor checker.now room.now text }
+{
+    match checker.finish(room) {
+        Ok(Verdict::Yes) => Ok(Some(checker.read_facts(alloc, room)?)),
+        _ => Ok(None),
+    }
+}
+
+// Asserts who wins, at which Vickrey price, and what is chosen without it.
+fn is_single(rt: &impl Abort, single: &Single, winner: u16, price: i128, choice: &[u16]) {
+    assert_eq!(rt; single.winner, winner);
+    assert_eq!(rt; single.price, price);
+    assert!(rt; single.choice.numbers() == choice);
+}
+
+// Asserts that the certificate in such pieces has these facts.
+fn tells_them(rt: &impl Abort, alloc: Global, more: u16) -> Result<(), AllocError> {
+    let Ok(book) = read_book(alloc, BOOK.as_bytes()) else {
+        panic!(rt; "this is a book");
+    };
+    let Some(facts) = facts_of(alloc, &book, CERT.as_bytes(), more)? else {
+        panic!(rt; "its tests hold");
+    };
+    assert_eq!(rt; facts.den, 1);
+    assert_eq!(rt; facts.value, 48);
+    assert!(rt; facts.choice.numbers() == [1, 1, 0, 0, 0].as_slice());
+    assert!(rt; facts.pay.items() == [17i128, 15, 0, 0, 0].as_slice());
+    let singles = facts.singles.items();
+    if singles.len() != 2 {
+        panic!(rt; "two win");
+    }
+    is_single(rt, &singles[0], 1, 14, &[0, 1, 0, 1, 0]);
+    is_single(rt, &singles[1], 2, 12, &[1, 0, 0, 0, 1]);
+    Ok(())
+}
+
+#[test]
+fn tells_the_facts_of_a_certificate(rt: HostRuntime) -> Result<(), Fail> {
+    for more in [0u16, 6, 475] {
+        tells_them(&rt, rt.alloc(), more)?;
+    }
+    Ok(())
+}
