@@ -1,8 +1,8 @@
 // The texts of an award, of its log, and of what the log leads to.
 use super::past::{Past, past_of};
 use super::terms::{Entrant, Line, Pair, SpectrumCap, Step, Terms};
-use crate::ReplayStop;
 use auction_rules::{Reply, Stage};
+use log_replay::ReplayStop;
 use std::alloc::{AllocError, Global};
 
 /// What has to come of a log.
