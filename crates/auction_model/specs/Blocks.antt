@@ -19,7 +19,8 @@ excess_of m z p members f =
 
 -- no choice has a greater excess over any such set
 abbrev pub IsGreatestExcess : Market → List ℕ → Point → ℤ → Type 0
-IsGreatestExcess m z p excess = (members : ℕ → Bool) (f : List ℕ) → IsTrue (m.allowed f) → IsIdleSet m z f members → excess_of m z p members f ≤ℤ excess
+IsGreatestExcess m z p excess = (members : ℕ → Bool) (f : List ℕ) → IsTrue (m.allowed f) → IsIdleSet m z f members
+    → excess_of m z p members f ≤ℤ excess
 
 -- the block that a turn takes: the first choice that reaches the greatest excess, and the largest set with which it does
 pub record IsTakenBlock (m : Market) (z : List ℕ) (p : Point) (f : List ℕ) (members : ℕ → Bool) (excess : ℤ) : Type 0 where
@@ -27,5 +28,7 @@ pub record IsTakenBlock (m : Market) (z : List ℕ) (p : Point) (f : List ℕ) (
   pub allowed : IsTrue (m.allowed f)
   pub idle : IsIdleSet m z f members
   pub reached : excess_of m z p members f ≡ excess
-  pub first : (g : List ℕ) (others : ℕ → Bool) → IsTrue (m.allowed g) → IsIdleSet m z g others → IsTrue (is_earlier g f) → excess_of m z p others g <ℤ excess
-  pub largest : (others : ℕ → Bool) → IsIdleSet m z f others → excess_of m z p others f ≡ excess → (j : ℕ) → 0 < j → j ≤ m.bidders → IsTrue (others j) → IsTrue (members j)
+  pub first : (g : List ℕ) (others : ℕ → Bool) → IsTrue (m.allowed g) → IsIdleSet m z g others
+      → IsTrue (is_earlier g f) → excess_of m z p others g <ℤ excess
+  pub largest : (others : ℕ → Bool) → IsIdleSet m z f others → excess_of m z p others f ≡ excess → (j : ℕ) → 0 < j
+      → j ≤ m.bidders → IsTrue (others j) → IsTrue (members j)

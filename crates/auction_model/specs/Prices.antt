@@ -46,7 +46,8 @@ IsUnblocked m z p = (k : ℕ → Bool) (f : List ℕ) → IsTrue (m.allowed f) �
 pub record IsCorePoint (m : Market) (z : List ℕ) (p : Point) : Type 0 where
   pub den_positive : pos 1 ≤ℤ p.den
   pub bidders : length p.at ≡ m.bidders
-  pub winners : (j : ℕ) → 0 < j → j ≤ m.bidders → IsTrue (uses z j) → (pos 0 ≤ℤ of_bidder p.at j) × (of_bidder p.at j ≤ℤ (p.den *ℤ worth_in m z j))
+  pub winners : (j : ℕ) → 0 < j → j ≤ m.bidders → IsTrue (uses z j)
+      → (pos 0 ≤ℤ of_bidder p.at j) × (of_bidder p.at j ≤ℤ (p.den *ℤ worth_in m z j))
   pub losers : (j : ℕ) → 0 < j → j ≤ m.bidders → IsFalse (uses z j) → of_bidder p.at j ≡ pos 0
   pub unblocked : IsUnblocked m z p
 
@@ -57,7 +58,8 @@ allowed_without m j c = m.allowed c && not (uses c j)
 -- v is the Vickrey price of bidder j: the greatest value without j, less what the others win with. It is 0 for a loser.
 abbrev pub IsVickreyPrice : Market → List ℕ → ℕ → ℤ → Type 0
 IsVickreyPrice m z j v =
-    (IsTrue (uses z j) → IsGreatestValue (allowed_without m j) (value_of m) ((v +ℤ value_of m z) -ℤ worth_in m z j)) × (IsFalse (uses z j) → v ≡ pos 0)
+    (IsTrue (uses z j) → IsGreatestValue (allowed_without m j) (value_of m) ((v +ℤ value_of m z) -ℤ worth_in m z j))
+    × (IsFalse (uses z j) → v ≡ pos 0)
 
 abbrev pub AreVickreyPrices : Market → List ℕ → (ℕ → ℤ) → Type 0
 AreVickreyPrices m z v = (j : ℕ) → 0 < j → j ≤ m.bidders → IsVickreyPrice m z j (v j)
@@ -96,7 +98,8 @@ square_distance m w v p = sum_over everyone (λ j. let off = of_bidder p.at j -�
 -- of these points every other one of the same sum is farther from the prices v
 abbrev pub IsNearestTo : Market → (ℕ → ℕ) → (ℕ → ℤ) → (Point → Type 0) → Point → Type 0
 IsNearestTo m w v Among p =
-    (q : Point) → Among q → q.den *ℤ paid m p ≡ p.den *ℤ paid m q → (SamePoint m p q → ⊥) → ((q.den *ℤ q.den) *ℤ square_distance m w v p) <ℤ ((p.den *ℤ p.den) *ℤ square_distance m w v q)
+    (q : Point) → Among q → q.den *ℤ paid m p ≡ p.den *ℤ paid m q → (SamePoint m p q → ⊥)
+    → ((q.den *ℤ q.den) *ℤ square_distance m w v p) <ℤ ((p.den *ℤ p.den) *ℤ square_distance m w v q)
 
 -- no core point has a smaller sum
 abbrev pub IsLeastSum : Market → List ℕ → Point → Type 0

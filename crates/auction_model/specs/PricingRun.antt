@@ -58,7 +58,8 @@ abbrev pub GoOn : Market → (ℕ → ℕ) → List ℕ → (ℕ → ℤ) → Li
 GoOn m w z v rows [] = ⊥
 GoOn m w z v rows (t ∷ turns) =
     IsTurnPoint m w z v rows t.point
-    × MatchOption t.block ((turns ≡ []) × IsGreatestExcess m z t.point (pos 0)) (λ b. IsBlockOf m z t.point b × GoOn m w z v (rows ++ b.row ∷ []) turns)
+    × MatchOption t.block ((turns ≡ []) × IsGreatestExcess m z t.point (pos 0)) (λ b. IsBlockOf m z t.point b
+    × GoOn m w z v (rows ++ b.row ∷ []) turns)
 
 -- the turns of pricing the winning choice z with these weights, from the rows of each winner alone with its Vickrey price
 pub record IsPricingRun (m : Market) (w : ℕ → ℕ) (z : List ℕ) (turns : List Turn) : Type 0 where

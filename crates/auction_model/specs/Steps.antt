@@ -19,4 +19,5 @@ sum_with m counts supply j s below i = counts j i +ℤ slice_index_or below (pla
 pub record IsFirstNumber (m : Menu) (counts : ℕ → ℕ → ℤ) (supply : List ℕ) (j s : ℕ) (here : ℤ) (below : List ℤ) (i : ℕ) : Type 0 where
   pub fits : IsTrue (is_within (m.lots j i) (left_at supply s))
   pub reaches : here ≡ sum_with m counts supply j s below i
-  pub first : (h : ℕ) → IsTrue (is_number_before h i) → h ≤ m.bids j → IsTrue (is_within (m.lots j h) (left_at supply s)) → sum_with m counts supply j s below h <ℤ here
+  pub first : (h : ℕ) → IsTrue (is_number_before h i) → h ≤ m.bids j
+      → IsTrue (is_within (m.lots j h) (left_at supply s)) → sum_with m counts supply j s below h <ℤ here

@@ -25,4 +25,5 @@ pub record IsExactTable (m : Menu) (counts : ℕ → ℕ → ℤ) (supply : List
 -- the lines from line k to the one before line `last`
 abbrev pub AreLinesTo : Menu → (ℕ → ℕ → ℤ) → List ℕ → ℕ → ℕ → List (List ℤ) → Type 0
 AreLinesTo m counts supply last k [] = k ≡ last
-AreLinesTo m counts supply last k (line ∷ lines) = IsLine m counts supply k line × AreLinesTo m counts supply last (suc k) lines
+AreLinesTo m counts supply last k (line ∷ lines) = IsLine m counts supply k line
+    × AreLinesTo m counts supply last (suc k) lines

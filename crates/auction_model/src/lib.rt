@@ -20,7 +20,8 @@ pub fn winning_choice()
 /// At every choice of a market each bidder has one Vickrey price.
 pub fn vickrey_prices()
     ensures exist { (m : Market) (z : List ℕ) → IsMarket m → (v : ℕ → ℤ) × AreVickreyPrices m z v }
-    ensures one { (m : Market) (z : List ℕ) (v w : ℕ → ℤ) → AreVickreyPrices m z v → AreVickreyPrices m z w → (j : ℕ) → 0 < j → j ≤ m.bidders → v j ≡ w j }
+    ensures one { (m : Market) (z : List ℕ) (v w : ℕ → ℤ) → AreVickreyPrices m z v → AreVickreyPrices m z w → (j : ℕ)
+        → 0 < j → j ≤ m.bidders → v j ≡ w j }
 {}
 
 /// At the winning choice of a market some point is in the core.
@@ -30,8 +31,10 @@ pub fn core_points()
 
 /// All core outcomes of a choice with the same weights are the same point. The weights of the bidders alone count.
 pub fn core_outcome()
-    ensures one { (m : Market) (w : ℕ → ℕ) (z : List ℕ) (p q : Point) → IsMarket m → IsCoreOutcome m w z p → IsCoreOutcome m w z q → SamePoint m p q }
-    ensures weights { (m : Market) (w y : ℕ → ℕ) (z : List ℕ) (p : Point) → ((j : ℕ) → 0 < j → j ≤ m.bidders → w j ≡ y j) → IsCoreOutcome m w z p → IsCoreOutcome m y z p }
+    ensures one { (m : Market) (w : ℕ → ℕ) (z : List ℕ) (p q : Point) → IsMarket m → IsCoreOutcome m w z p
+        → IsCoreOutcome m w z q → SamePoint m p q }
+    ensures weights { (m : Market) (w y : ℕ → ℕ) (z : List ℕ) (p : Point)
+        → ((j : ℕ) → 0 < j → j ≤ m.bidders → w j ≡ y j) → IsCoreOutcome m w z p → IsCoreOutcome m y z p }
 {}
 
 /// A share times its weight is the same number for all weights of 1 to 20, so squares count by what is divided by the weight.
@@ -39,16 +42,22 @@ pub fn core_outcome()
 pub fn weighted_distance()
     ensures share { (n : ℕ) → 1 ≤ n → n ≤ 20 → share n *ℤ pos n ≡ pos 232792560 }
     ensures plain { (m : Market) (v : ℕ → ℤ) (p : Point)
-        → square_distance m alike v p ≡ pos 232792560 *ℤ sum_over everyone (λ j. (of_bidder p.at j -ℤ (p.den *ℤ v j)) *ℤ (of_bidder p.at j -ℤ (p.den *ℤ v j))) m.bidders }
+        → square_distance m alike v p
+        ≡ pos 232792560
+        *ℤ sum_over everyone
+        (λ j. (of_bidder p.at j -ℤ (p.den *ℤ v j)) *ℤ (of_bidder p.at j -ℤ (p.den *ℤ v j))) m.bidders }
 {}
 
 /// A point is unblocked exactly where no coalition blocks it with any choice.
 pub fn blocking_coalitions()
-    ensures free { (m : Market) (z : List ℕ) (p : Point) → IsUnblocked m z p → (k : ℕ → Bool) (f : List ℕ) → IsBlocking m z p k f → ⊥ }
-    ensures none { (m : Market) (z : List ℕ) (p : Point) → ((k : ℕ → Bool) (f : List ℕ) → IsBlocking m z p k f → ⊥) → IsUnblocked m z p }
+    ensures free { (m : Market) (z : List ℕ) (p : Point) → IsUnblocked m z p → (k : ℕ → Bool) (f : List ℕ)
+        → IsBlocking m z p k f → ⊥ }
+    ensures none { (m : Market) (z : List ℕ) (p : Point) → ((k : ℕ → Bool) (f : List ℕ) → IsBlocking m z p k f → ⊥)
+        → IsUnblocked m z p }
 {}
 
 /// A book is a market where its net amounts aren't negative.
 pub fn book_market()
-    ensures { (book : Book) → length book.bidders < 2 ^ 16 → ((j i : ℕ) → i ≤ length (bids_of book j) → pos 0 ≤ℤ net_of book j i) → IsMarket (market_of book) }
+    ensures { (book : Book) → length book.bidders < 2 ^ 16
+        → ((j i : ℕ) → i ≤ length (bids_of book j) → pos 0 ≤ℤ net_of book j i) → IsMarket (market_of book) }
 {}

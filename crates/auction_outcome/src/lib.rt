@@ -27,10 +27,13 @@ pub fn plain_outcome()
 /// Where each bidder weighs 1, the point of a turn of a pricing run is the one that the plain distance asks for: of the points of least sum
 /// that meet the rows, the nearest to the prices.
 pub fn plain_turns()
-    ensures plain { (m : Market) (w : ℕ → ℕ) (z : List ℕ) (v : ℕ → ℤ) (rows : List Row) (p : Point) → ((j : ℕ) → 0 < j → j ≤ m.bidders → w j ≡ 1)
+    ensures plain { (m : Market) (w : ℕ → ℕ) (z : List ℕ) (v : ℕ → ℤ) (rows : List Row) (p : Point)
+        → ((j : ℕ) → 0 < j → j ≤ m.bidders → w j ≡ 1)
         → IsTurnPoint m w z v rows p → IsPlainNearest m v (MeetsRows m z rows) p }
-    ensures weighed { (m : Market) (w : ℕ → ℕ) (z : List ℕ) (v : ℕ → ℤ) (rows : List Row) (p : Point) → ((j : ℕ) → 0 < j → j ≤ m.bidders → w j ≡ 1)
-        → MeetsRows m z rows p → HasLeastSum m (MeetsRows m z rows) p → IsPlainNearest m v (MeetsRows m z rows) p → IsTurnPoint m w z v rows p }
+    ensures weighed { (m : Market) (w : ℕ → ℕ) (z : List ℕ) (v : ℕ → ℤ) (rows : List Row) (p : Point)
+        → ((j : ℕ) → 0 < j → j ≤ m.bidders → w j ≡ 1)
+        → MeetsRows m z rows p → HasLeastSum m (MeetsRows m z rows) p → IsPlainNearest m v (MeetsRows m z rows) p
+        → IsTurnPoint m w z v rows p }
 {
     weighted_distance();
 }

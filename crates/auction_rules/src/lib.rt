@@ -111,8 +111,10 @@ pub fn package_tests()
     ensures is_same { (p : List ℕ) → is_same p p ≡ true }
     ensures before { (p q : List ℕ) → length p ≡ length q → is_before p q ≡ true → ComesBefore p q }
     ensures comes { (p q : List ℕ) → ComesBefore p q → is_before p q ≡ true }
-    ensures within { (category : ℕ) (lots supply : List ℕ) → is_within lots supply ≡ true → first_over category lots supply ≡ None }
-    ensures none_over { (category : ℕ) (lots supply : List ℕ) → first_over category lots supply ≡ None → is_within lots supply ≡ true }
+    ensures within { (category : ℕ) (lots supply : List ℕ) → is_within lots supply ≡ true
+        → first_over category lots supply ≡ None }
+    ensures none_over { (category : ℕ) (lots supply : List ℕ) → first_over category lots supply ≡ None
+        → is_within lots supply ≡ true }
 {}
 
 /// A price rises by the permille of the greatest threshold that the excess reaches, where the thresholds rise and the excess
@@ -125,30 +127,37 @@ pub fn greatest_threshold()
 /// A raise is the least multiple of the tick that is at least the tick and at least so many thousandths of the price, and there
 /// is no other.
 pub fn raise_is_least()
-    ensures least { (tick price permille : ℕ) → 1 ≤ tick → IsRaise tick price permille (ticks_of tick price permille * tick) }
-    ensures one { (tick price permille u v : ℕ) → IsRaise tick price permille u → IsRaise tick price permille v → u ≡ v }
+    ensures least { (tick price permille : ℕ) → 1 ≤ tick
+        → IsRaise tick price permille (ticks_of tick price permille * tick) }
+    ensures one { (tick price permille u v : ℕ) → IsRaise tick price permille u → IsRaise tick price permille v
+        → u ≡ v }
 {}
 
 /// The price of a package never falls from round to round, whatever is held.
 pub fn prices_never_fall()
-    ensures { (terms : Terms) (held : ℕ → ℕ → List ℕ) (n : ℕ) (lots : List ℕ) → cost_of (prices_after terms held n) lots ≤ cost_of (prices_after terms held (suc n)) lots }
+    ensures { (terms : Terms) (held : ℕ → ℕ → List ℕ) (n : ℕ) (lots : List ℕ)
+        → cost_of (prices_after terms held n) lots ≤ cost_of (prices_after terms held (suc n)) lots }
 {}
 
 /// The constraining round for some points is the round of its number. Where the bidder's eligibility was enough for them in some
 /// round, it was so in this one, and in no later one.
 pub fn constraining_round()
-    ensures last { (points : ℕ) (rounds : List OwnRound) (k : ℕ) → 1 ≤ k → k ≤ length rounds → points ≤ (round_at rounds k).eligibility
+    ensures last { (points : ℕ) (rounds : List OwnRound) (k : ℕ) → 1 ≤ k → k ≤ length rounds
+        → points ≤ (round_at rounds k).eligibility
         → IsLastEnough points rounds (constraining_number points rounds) }
-    ensures number { (points : ℕ) (rounds : List OwnRound) → constraining points rounds ≡ round_at rounds (constraining_number points rounds) }
+    ensures number { (points : ℕ) (rounds : List OwnRound)
+        → constraining points rounds ≡ round_at rounds (constraining_number points rounds) }
 {}
 
 /// After any log a bidder is eligible for the package that it holds, and its submitted list is valid: each amount in it, but
 /// that for the package of the final round, is at most its cap over that list.
 pub fn sound_standings()
     ensures eligible { (terms : Terms) (log : List Event) (j : ℕ)
-        → cost_of terms.points (standing terms (admitted terms log) j).held ≤ (standing terms (admitted terms log) j).eligibility }
+        → cost_of terms.points (standing terms (admitted terms log) j).held
+        ≤ (standing terms (admitted terms log) j).eligibility }
     ensures valid { (terms : Terms) (log : List Event) (j : ℕ)
-        → list_fault (final_cap terms) terms.points (standing terms (admitted terms log) j).rounds (standing terms (admitted terms log) j).submitted ≡ None }
+        → list_fault (final_cap terms) terms.points (standing terms (admitted terms log) j).rounds
+        (standing terms (admitted terms log) j).submitted ≡ None }
 {}
 
 /// What a bidder's rounds and lists keep after any log, on which relative caps rest: there are no more closed rounds than there may be; the
@@ -157,13 +166,17 @@ pub fn sound_standings()
 /// number of categories, the draft list and the submitted list have no more entries than they may, in the order of their
 /// packages, each package once, and each of them the bidder may draft.
 pub fn kept_standings()
-    ensures rounds { (terms : Terms) (log : List Event) (j : ℕ) → length (standing terms (admitted terms log) j).rounds ≤ MOST_ROUNDS }
-    ensures some { (terms : Terms) (log : List Event) (j : ℕ) → is_clock (standing terms (admitted terms log) j).stage ≡ false
+    ensures rounds { (terms : Terms) (log : List Event) (j : ℕ)
+        → length (standing terms (admitted terms log) j).rounds ≤ MOST_ROUNDS }
+    ensures some { (terms : Terms) (log : List Event) (j : ℕ)
+        → is_clock (standing terms (admitted terms log) j).stage ≡ false
         → 1 ≤ length (standing terms (admitted terms log) j).rounds }
-    ensures first { (terms : Terms) (log : List Event) (j : ℕ) → 1 ≤ length (standing terms (admitted terms log) j).rounds
+    ensures first { (terms : Terms) (log : List Event) (j : ℕ)
+        → 1 ≤ length (standing terms (admitted terms log) j).rounds
         → (round_at (standing terms (admitted terms log) j).rounds 1).eligibility ≡ (entrant terms j).eligibility }
     ensures eligibility { (terms : Terms) (log : List Event) (j : ℕ)
-        → NeverRises (entrant terms j).eligibility (standing terms (admitted terms log) j).rounds (standing terms (admitted terms log) j).eligibility }
+        → NeverRises (entrant terms j).eligibility (standing terms (admitted terms log) j).rounds
+        (standing terms (admitted terms log) j).eligibility }
     ensures drafts { (terms : Terms) (log : List Event) (j : ℕ) → AllByRecursion (HasCategories terms) log
         → AreDrafts terms j (standing terms (admitted terms log) j).drafts }
     ensures submitted { (terms : Terms) (log : List Event) (j : ℕ) → AllByRecursion (HasCategories terms) log
@@ -185,8 +198,10 @@ pub fn interleaving()
 /// A state is enough for a desk. From the state after a log, the reply to a line is that of the rules, which look through the
 /// whole log; and what the line makes of the state is the state after the log with the line.
 pub fn desk_step()
-    ensures reply { (terms : Terms) (log : List Event) (line : Event) → reply_in (state_of terms log) line ≡ reply_to terms log line }
-    ensures state { (terms : Terms) (log : List Event) (line : Event) → state_with (state_of terms log) line ≡ state_of terms (line ∷ log) }
+    ensures reply { (terms : Terms) (log : List Event) (line : Event)
+        → reply_in (state_of terms log) line ≡ reply_to terms log line }
+    ensures state { (terms : Terms) (log : List Event) (line : Event)
+        → state_with (state_of terms log) line ≡ state_of terms (line ∷ log) }
 {}
 
 /// The state after a log is enough for the book of the log.
@@ -206,10 +221,12 @@ pub fn bidders_of_book()
 /// is for the empty package, and there are no more than a book allows.
 pub fn bids_of_book()
     ensures packages { (terms : Terms) (log : List Event) (j : ℕ) (lots : List ℕ)
-        → has_entry lots (bids_in_book terms log j) ≡ (not (is_empty lots) && has_entry lots (pairs_of (standing terms (admitted terms log) j))) }
+        → has_entry lots (bids_in_book terms log j)
+        ≡ (not (is_empty lots) && has_entry lots (pairs_of (standing terms (admitted terms log) j))) }
     ensures amounts { (terms : Terms) (log : List Event) (j : ℕ)
         → AllByRecursion (IsGreatestFor (pairs_of (standing terms (admitted terms log) j))) (bids_in_book terms log j) }
-    ensures some { (terms : Terms) (log : List Event) (j : ℕ) → AllByRecursion (λ b. is_empty b.lots ≡ false) (bids_in_book terms log j) }
+    ensures some { (terms : Terms) (log : List Event) (j : ℕ)
+        → AllByRecursion (λ b. is_empty b.lots ≡ false) (bids_in_book terms log j) }
     ensures few { (terms : Terms) (log : List Event) (j : ℕ) → length (bids_in_book terms log j) ≤ MOST_BIDS }
 {}
 
@@ -229,5 +246,6 @@ pub fn lawful_bids()
 /// at most its cap over the book's own bids.
 pub fn book_within_caps()
     ensures { (terms : Terms) (log : List Event) (j : ℕ)
-        → list_fault (final_cap terms) terms.points (standing terms (admitted terms log) j).rounds (bids_in_book terms log j) ≡ None }
+        → list_fault (final_cap terms) terms.points (standing terms (admitted terms log) j).rounds
+        (bids_in_book terms log j) ≡ None }
 {}

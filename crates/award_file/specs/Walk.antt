@@ -26,7 +26,8 @@ abbrev pub entry_behind : ℕ → ℕ
 entry_behind done = min (done + 1) (2 ^ 32 - 1)
 
 -- the first fault of tables, each judged after what those before it state
-abbrev pub tables_fault : {A : Type 0} → (List A → Members → Option Fault) → (Members → A) → List A → List Members → Option Fault
+abbrev pub tables_fault : {A : Type 0} → (List A → Members → Option Fault) → (Members → A) → List A → List Members
+    → Option Fault
 tables_fault fault stated before [] = None
 tables_fault fault stated before (t ∷ ts) = option_or (fault before t) (tables_fault fault stated (before ++ stated t ∷ []) ts)
 

@@ -46,7 +46,8 @@ impl Award {
         bidders: Entrants,
         caps: Vec<SpectrumCap>,
     ) -> Award
-        requires { IsAward (terms_with version supply points.items reserves.items steps bidders (cap_values caps.items)) }
+        requires { IsAward
+            (terms_with version supply points.items reserves.items steps bidders (cap_values caps.items)) }
         ensures { result ≡ terms_with version supply points.items reserves.items steps bidders (cap_values caps.items) }
     {
         Award {
@@ -138,7 +139,8 @@ impl Award {
         ensures number { result ≡ number_of self.now name.now }
         ensures most { result ≤ length self.now.bidders }
         ensures found { 0 < result → (entrant self.now result).name ≡ name.now }
-        ensures only { (j : ℕ) → 1 ≤ j → j ≤ length self.now.bidders → (entrant self.now j).name ≡ name.now → result ≡ j }
+        ensures only { (j : ℕ) → 1 ≤ j → j ≤ length self.now.bidders → (entrant self.now j).name ≡ name.now
+            → result ≡ j }
     {
         self.bidders.number_of(name)
     }

@@ -51,7 +51,10 @@ impl Entrants {
         holding: Vec<u16>,
     ) -> Result<bool, AllocError>
         ensures stranger { IfOk result (λ is_new. is_new ≡ is_stranger (string_bytes name) (names_of self.old)) }
-        ensures pushed { IfOk result (λ is_new. self.new ≡ (if is_new then self.old ++ entrant_with (string_bytes name) eligibility holding.items ∷ [] else self.old)) }
+        ensures pushed { IfOk result
+            (λ is_new. self.new
+            ≡ (if is_new then self.old ++ entrant_with (string_bytes name) eligibility holding.items
+            ∷ [] else self.old)) }
         ensures unchanged { OnErr result (self.new ≡ self.old) }
         ensures apart { AreNamedApart self.new }
     {

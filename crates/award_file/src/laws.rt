@@ -13,7 +13,8 @@ use auction_rules::{bids_of_book, book_in_order, lawful_bids, package_tests};
 /// The book of a log on an award keeps all rules and all limits of a book, where the packages of the log have the award's number
 /// of categories.
 pub fn book_of_award()
-    ensures { (terms : Terms) (log : List Event) → IsAward terms → AllByRecursion (HasCategories terms) log → IsBookWithinLimits (book_of_log terms log) }
+    ensures { (terms : Terms) (log : List Event) → IsAward terms → AllByRecursion (HasCategories terms) log
+        → IsBookWithinLimits (book_of_log terms log) }
 {
     bids_of_book();
     book_in_order();

@@ -134,7 +134,9 @@ fn read_table(alloc: Global, table: &Table) -> Result<Award, AwardStop>
 
 /// Reads the parts of an award, or finds the first broken rule.
 fn read_parts(alloc: Global, table: &Table) -> Result<Parts, AwardStop>
-    ensures ok { IfOk result (λ parts. (award_fault (table_view table.now) ≡ None) × (terms_of (table_view table.now) ≡ terms_value parts)) }
+    ensures ok { IfOk result
+        (λ parts. (award_fault (table_view table.now) ≡ None)
+        × (terms_of (table_view table.now) ≡ terms_value parts)) }
     ensures err { IfErr result (IsFault (award_fault (table_view table.now))) }
 {
     let Some(version) = number_at(table, "version", FIRST_VERSION, LAST_VERSION) else {
@@ -188,7 +190,9 @@ fn make_award(alloc: Global, parts: Parts) -> Result<Award, AwardStop>
 /// The supply of the categories, or the first limit that it exceeds.
 fn make_supply(alloc: Global, categories: &[Category]) -> Result<Supply, AwardStop>
     requires { IsOffer (counts categories.now) }
-    ensures ok { IfOk result (λ supply. (supply ≡ counts categories.now) × IsSupply supply × (supply_excess (counts categories.now) ≡ None)) }
+    ensures ok { IfOk result
+        (λ supply. (supply ≡ counts categories.now) × IsSupply supply
+        × (supply_excess (counts categories.now) ≡ None)) }
     ensures err { IfErr result (IsLimit (supply_excess (counts categories.now))) }
 {
     let counts = counts_of(alloc, categories)?;

@@ -23,7 +23,8 @@ BeatsAmong bids entry h = 0 < h → Beats bids entry h
 
 -- what stands with each entry as better comes before it
 abbrev pub AreBetter : List Entry → Type 0
-AreBetter bids = (i : ℕ) (d : Entry) → i < length bids → 0 < (slice_index_or bids i d).better → ((slice_index_or bids i d).better ≤ i) × Beats bids (slice_index_or bids i d) (slice_index_or bids i d).better
+AreBetter bids = (i : ℕ) (d : Entry) → i < length bids → 0 < (slice_index_or bids i d).better
+    → ((slice_index_or bids i d).better ≤ i) × Beats bids (slice_index_or bids i d) (slice_index_or bids i d).better
 
 abbrev pub BettersAreKept : Inside → Type 0
 BettersAreKept b = All (λ x. AreBetter x.bids.items) b.bidders.items

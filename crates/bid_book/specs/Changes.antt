@@ -22,7 +22,8 @@ without_bid book j i = with_bids book j (remove (bids_of book j) (i - 1))
 
 -- the package of each bid comes before those of all later ones
 abbrev pub InPackageOrder : List BookBid → Type 0
-InPackageOrder bids = (k i : ℕ) → k < i → i < length bids → is_before (slice_index_or bids k no_bid).lots (slice_index_or bids i no_bid).lots ≡ true
+InPackageOrder bids = (k i : ℕ) → k < i → i < length bids
+    → is_before (slice_index_or bids k no_bid).lots (slice_index_or bids i no_bid).lots ≡ true
 
 -- the bids before this place are those whose packages come before these lots
 pub record IsPlaceIn (bids : List BookBid) (lots : List ℕ) (place : ℕ) : Type 0 where

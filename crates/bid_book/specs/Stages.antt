@@ -59,7 +59,8 @@ abbrev pub Step : Stage → List ℕ → Stage → Type 0
 Step Start line next = (line ≡ codes "book 1") × (next ≡ Headed)
 Step Headed line next = (supply : List ℕ) × (line ≡ (supply_line supply).0) × IsOffer supply × (next ≡ Supplied supply)
 Step (Supplied supply) line next =
-    (reserves : List ℕ) × (line ≡ (reserve_line reserves).0) × AreReserves supply reserves × (next ≡ Listing (opened supply reserves))
+    (reserves : List ℕ) × (line ≡ (reserve_line reserves).0) × AreReserves supply reserves
+    × (next ≡ Listing (opened supply reserves))
 Step (Listing book) line next = ((line ≡ codes "end") × (next ≡ Ended book)) ⊎ ((new : Book) × Adds book new line × (next ≡ Listing new))
 Step (Ended book) line next = ⊥
 

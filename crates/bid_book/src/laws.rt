@@ -9,16 +9,20 @@ ghost use Rattle.bid_book.specs.Changes.{CanPut, with_put};
 /// Bytes say one thing of a book: a book, where the first faulty line begins, or what exceeds its limit first. So each
 /// answer of `read_book` comes exactly where the bytes say so.
 pub fn one_book()
-    ensures { (bytes : List ℕ) (x y : Said Book Excess) → Says IsBook lines bytes x → Says IsBook lines bytes y → x ≡ y }
+    ensures { (bytes : List ℕ) (x y : Said Book Excess) → Says IsBook lines bytes x → Says IsBook lines bytes y
+        → x ≡ y }
 {}
 
 /// A book within the limits has one text, and a text states one book.
 pub fn one_text()
-    ensures text { (bytes other : List ℕ) (book : Book) → Says IsBook lines bytes (stated book) → Says IsBook lines other (stated book) → bytes ≡ other }
-    ensures book { (bytes : List ℕ) (book other : Book) → Says IsBook lines bytes (stated book) → Says IsBook lines bytes (stated other) → book ≡ other }
+    ensures text { (bytes other : List ℕ) (book : Book) → Says IsBook lines bytes (stated book)
+        → Says IsBook lines other (stated book) → bytes ≡ other }
+    ensures book { (bytes : List ℕ) (book other : Book) → Says IsBook lines bytes (stated book)
+        → Says IsBook lines bytes (stated other) → book ≡ other }
 {}
 
 /// The rules of a book go on to hold where a bid that keeps them is put in.
 pub fn rules_with_bid()
-    ensures { (book : Book) (j : ℕ) (bid : BookBid) → IsBookWithinLimits book → CanPut book j bid → IsBookWithinLimits (with_put book j bid) }
+    ensures { (book : Book) (j : ℕ) (bid : BookBid) → IsBookWithinLimits book → CanPut book j bid
+        → IsBookWithinLimits (with_put book j bid) }
 {}

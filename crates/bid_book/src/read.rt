@@ -38,7 +38,8 @@ pub enum Stage {
 pub fn read_book(alloc: Global, bytes: &[u8]) -> Result<BidBook, BookStop>
     ensures text { IfOk result (λ book. Says IsBook lines bytes.now (stated book)) }
     ensures form { (place : ℕ) → result ≡ Err (BookStop.Form place) → Says IsBook lines bytes.now (faulty place) }
-    ensures limit { (kind : LimitKind) (count : ℕ) → result ≡ Err (BookStop.Limit kind count) → Says IsBook lines bytes.now (beyond (kind, count)) }
+    ensures limit { (kind : LimitKind) (count : ℕ) → result ≡ Err (BookStop.Limit kind count)
+        → Says IsBook lines bytes.now (beyond (kind, count)) }
 {
     let mut stage = Stage::Start;
     let mut rivals = Rivals::new(alloc);
@@ -68,7 +69,8 @@ fn take_line(
 ) -> Result<Stage, LineStop>
     ensures ok { IfOk result (λ next. Step stage line.now next × (excess next ≡ None)) }
     ensures form { result ≡ Err LineStop.Form → (t : Stage) → Step stage line.now t → ⊥ }
-    ensures limit { (kind : LimitKind) (count : ℕ) → result ≡ Err (LineStop.Limit kind count) → (t : Stage) × Step stage line.now t × (excess t ≡ Some (kind, count)) }
+    ensures limit { (kind : LimitKind) (count : ℕ) → result ≡ Err (LineStop.Limit kind count)
+        → (t : Stage) × Step stage line.now t × (excess t ≡ Some (kind, count)) }
 {
     match stage {
         Stage::Start => take_first(line),
@@ -88,7 +90,8 @@ fn take_listed(
 ) -> Result<Stage, LineStop>
     ensures ok { IfOk result (λ next. Step (Stage.Listing book) line.now next × (excess next ≡ None)) }
     ensures form { result ≡ Err LineStop.Form → (t : Stage) → Step (Stage.Listing book) line.now t → ⊥ }
-    ensures limit { (kind : LimitKind) (count : ℕ) → result ≡ Err (LineStop.Limit kind count) → (t : Stage) × Step (Stage.Listing book) line.now t × (excess t ≡ Some (kind, count)) }
+    ensures limit { (kind : LimitKind) (count : ℕ) → result ≡ Err (LineStop.Limit kind count)
+        → (t : Stage) × Step (Stage.Listing book) line.now t × (excess t ≡ Some (kind, count)) }
 {
     if line == b"end".as_slice() {
         return Ok(Stage::Ended(book));

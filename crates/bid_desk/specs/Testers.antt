@@ -11,7 +11,8 @@ IsKeptFor rounds points j None = Unit {0}
 IsKeptFor rounds points j (Some t) = IsTester rounds points j t
 
 abbrev pub AreFor : List Round → List ℕ → List (Option Tester) → Type 0
-AreFor rounds points testers = (k : ℕ) (d : Option Tester) → k < length testers → IsKeptFor rounds points (k + 1) (slice_index_or testers k d)
+AreFor rounds points testers = (k : ℕ) (d : Option Tester) → k < length testers
+    → IsKeptFor rounds points (k + 1) (slice_index_or testers k d)
 
 -- the tester that was kept, or one that is right for all points
 abbrev pub IsTesterOrNew : List Round → ℕ → Option Tester → Tester → Type 0
@@ -25,4 +26,5 @@ IsKeptIn terms clock j (Some t) = (clock.running ≡ false) × IsTester clock.ro
 
 pub record AreTesters (terms : Terms) (clock : ClockState) (testers : List (Option Tester)) : Type 0 where
   pub count : length testers ≡ length terms.bidders
-  pub each : (k : ℕ) (d : Option Tester) → k < length testers → IsKeptIn terms clock (k + 1) (slice_index_or testers k d)
+  pub each : (k : ℕ) (d : Option Tester) → k < length testers
+      → IsKeptIn terms clock (k + 1) (slice_index_or testers k d)

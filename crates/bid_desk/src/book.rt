@@ -28,7 +28,8 @@ fn put_most(
     amount: u64,
 ) -> Result<(), AllocError>
     requires { IsKept (length «package».now) (map bid_value list.old.items) }
-    ensures { OnOk result (map bid_value list.new.items ≡ with_greater «package».now amount (map bid_value list.old.items)) }
+    ensures { OnOk result
+        (map bid_value list.new.items ≡ with_greater «package».now amount (map bid_value list.old.items)) }
 {
     let most = amount.max(amount_listed(list, package));
     put_entry(alloc, list, package, most)?;
@@ -47,7 +48,9 @@ fn put_clock_bid(
     requires bidder { IsBidderOf history.now j }
     requires round { (1 ≤ r) × (r ≤ length history.now) }
     requires kept { IsKept (categories_in history.now) (map bid_value list.old.items) }
-    ensures bids { OnOk result (map bid_value list.new.items ≡ with_most (clock_bid (own_in history.now j r)) (map bid_value list.old.items)) }
+    ensures bids { OnOk result
+        (map bid_value list.new.items
+        ≡ with_most (clock_bid (own_in history.now j r)) (map bid_value list.old.items)) }
     ensures kept { OnOk result (IsKept (categories_in history.now) (map bid_value list.new.items)) }
 {
     let held = history.package(r, j);
@@ -79,7 +82,8 @@ fn bids_of(
 ) -> Result<BidList, AllocError>
     requires bidder { IsBidderOf history.now j }
     requires submitted { IsBooked (categories_in history.now) (map bid_value submitted.now) }
-    ensures { IfOk result (λ list. list ≡ best_bids (map clock_bid (rounds_of j history.now) ++ map bid_value submitted.now)) }
+    ensures { IfOk result
+        (λ list. list ≡ best_bids (map clock_bid (rounds_of j history.now) ++ map bid_value submitted.now)) }
 {
     let mut bids = copied_entries(alloc, submitted)?;
     for r in (0..history.rounds()).rev() {
@@ -101,7 +105,8 @@ fn bidder_of(
     requires bidder { IsBidderOf history.now j }
     requires submitted { IsBooked (categories_in history.now) (map bid_value submitted.now) }
     ensures name { IfOk result (λ b. b.name ≡ (entrant award.now j).name) }
-    ensures bids { IfOk result (λ b. b.bids ≡ best_bids (map clock_bid (rounds_of j history.now) ++ map bid_value submitted.now)) }
+    ensures bids { IfOk result
+        (λ b. b.bids ≡ best_bids (map clock_bid (rounds_of j history.now) ++ map bid_value submitted.now)) }
 {
     let name = Name::new(alloc, award.name(j))?;
     let bids = bids_of(alloc, history, j, submitted)?;
@@ -116,7 +121,9 @@ fn bidders_of(
     lists: &[BidderLists],
 ) -> Result<Bidders, AllocError>
     requires { AreBooked award.now history.now (map submitted_in lists.now) }
-    ensures { IfOk result (λ b. b ≡ listing (book_bidder award.now (bids_by history.now (map submitted_in lists.now))) (length award.now.bidders)) }
+    ensures { IfOk result
+        (λ b. b ≡ listing (book_bidder award.now (bids_by history.now (map submitted_in lists.now)))
+        (length award.now.bidders)) }
 {
     let _most = award.bidders();
     let mut bidders = Bidders::new(alloc);

@@ -67,7 +67,8 @@ impl Model for Desk {
 
     ghost view = { λ d. desk_value d.award d.clock d.closed d.bidders.items };
 
-    ghost invariant = { λ d. IsFor d.award d.clock × IsReached (desk_value d.award d.clock d.closed d.bidders.items) × AreTesters d.award d.clock d.testers.items };
+    ghost invariant = { λ d. IsFor d.award d.clock × IsReached (desk_value d.award d.clock d.closed d.bidders.items)
+        × AreTesters d.award d.clock d.testers.items };
 }
 
 impl Desk {
@@ -133,12 +134,15 @@ impl Desk {
     pub fn take(&mut self, alloc: Global, line: &Event) -> Reply
         requires { HasCategories self.old.terms line.now }
         ensures taken { IsTakenOrMemory self.old line.now result self.new }
-        ensures stands { (log : List Event) → self.old ≡ state_of self.old.terms log → StandsNext self.old log line.now result self.new }
+        ensures stands { (log : List Event) → self.old ≡ state_of self.old.terms log
+            → StandsNext self.old log line.now result self.new }
         ensures refused { result ≢ Reply.Ok → self.new ≡ self.old }
         ensures terms { self.new.terms ≡ self.old.terms }
         ensures no_memory { IsBidOrDrop line.now → result ≢ Reply.Memory }
-        ensures view { (j : ℕ) (log other : List Event) → IsTrue (is_of j line.now) → self.old ≡ state_of self.old.terms log
-            → view self.old.terms j log ≡ view self.old.terms j other → (result ≡ Reply.Memory) ⊎ (result ≡ reply_to self.old.terms other line.now) }
+        ensures view { (j : ℕ) (log other : List Event) → IsTrue (is_of j line.now)
+            → self.old ≡ state_of self.old.terms log
+            → view self.old.terms j log ≡ view self.old.terms j other
+            → (result ≡ Reply.Memory) ⊎ (result ≡ reply_to self.old.terms other line.now) }
     {
         self.answer(alloc, line)
     }
@@ -169,7 +173,8 @@ impl Desk {
     /// NotClosed exactly where the sealed round isn't closed; Memory.
     pub fn book(&self, alloc: Global) -> Result<BidBook, DeskStop>
         ensures book { IfOk result (λ book. book ≡ book_in self.now) }
-        ensures log { (log : List Event) → self.now ≡ state_of self.now.terms log → IfOk result (λ book. book ≡ book_of_log self.now.terms log) }
+        ensures log { (log : List Event) → self.now ≡ state_of self.now.terms log
+            → IfOk result (λ book. book ≡ book_of_log self.now.terms log) }
         ensures closed { IfOk result (λ book. self.now.stage ≡ Stage.Closed) }
         ensures open { self.now.stage ≢ Stage.Closed → result ≡ Err DeskStop.NotClosed }
         ensures not_closed { result ≡ Err DeskStop.NotClosed → self.now.stage ≢ Stage.Closed }
@@ -258,7 +263,9 @@ impl Desk {
         requires sealed { is_sealed self.now.stage ≡ true }
         requires known { IsKnown self.now.terms self.now bidder }
         requires package { IsHeld (length self.now.terms.supply) «package».now }
-        ensures { result ≡ amount_reply self.now.terms (rounds_of bidder self.now.rounds) (drafts_of self.now bidder) «package».now amount }
+        ensures { result
+            ≡ amount_reply self.now.terms (rounds_of bidder self.now.rounds)
+            (drafts_of self.now bidder) «package».now amount }
     {
         if package.is_empty() {
             return Reply::Empty;
@@ -303,7 +310,9 @@ impl Desk {
     fn is_full(&self, bidder: u16, package: &Package) -> bool
         requires known { IsKnown self.now.terms self.now bidder }
         requires categories { length «package».now ≡ length self.now.terms.supply }
-        ensures { result ≡ (not (has_entry «package».now (drafts_of self.now bidder)) && nat_le MOST_DRAFTS (length (drafts_of self.now bidder))) }
+        ensures { result
+            ≡ (not (has_entry «package».now (drafts_of self.now bidder))
+            && nat_le MOST_DRAFTS (length (drafts_of self.now bidder))) }
     {
         let lists = self.lists(bidder);
         !lists.has_draft(package) && lists.drafts().len() as u64 >= MOST_DRAFTS
@@ -427,7 +436,8 @@ impl Desk {
     fn draft_fault(&mut self, alloc: Global, bidder: u16) -> Result<Option<OverCap>, AllocError>
         requires sealed { is_sealed self.old.stage ≡ true }
         requires known { IsKnown self.old.terms self.old bidder }
-        ensures fault { IfOk result (λ over. option_map excess_value over ≡ fault_in self.old bidder (drafts_of self.old bidder)) }
+        ensures fault { IfOk result
+            (λ over. option_map excess_value over ≡ fault_in self.old bidder (drafts_of self.old bidder)) }
         ensures same { self.new ≡ self.old }
     {
         if self.lists(bidder).are_alike() {
@@ -440,7 +450,8 @@ impl Desk {
     fn fault_of(&mut self, alloc: Global, bidder: u16) -> Result<Option<OverCap>, AllocError>
         requires sealed { is_sealed self.old.stage ≡ true }
         requires known { IsKnown self.old.terms self.old bidder }
-        ensures fault { IfOk result (λ over. option_map excess_value over ≡ fault_in self.old bidder (drafts_of self.old bidder)) }
+        ensures fault { IfOk result
+            (λ over. option_map excess_value over ≡ fault_in self.old bidder (drafts_of self.old bidder)) }
         ensures same { self.new ≡ self.old }
     {
         test_list(

@@ -83,7 +83,8 @@ impl BidderLists {
     /// Sets the amount for the package in the draft list. For want of memory the lists stay as they are.
     pub fn put(&mut self, alloc: Global, package: &Package, amount: u64) -> Result<(), AllocError>
         requires { IsKept (length «package».now) self.old.drafts }
-        ensures put { OnOk result (self.new ≡ lists_with (with_entry «package».now amount self.old.drafts) self.old.submitted) }
+        ensures put { OnOk result
+            (self.new ≡ lists_with (with_entry «package».now amount self.old.drafts) self.old.submitted) }
         ensures unchanged { OnErr result (self.new ≡ self.old) }
     {
         let place = put_entry(alloc, &mut self.drafts, package, amount)?;

@@ -53,8 +53,10 @@ pub fn put_entry(
     amount: u64,
 ) -> Result<Option<usize>, AllocError>
     requires { IsKept (length «package».now) (map bid_value list.old.items) }
-    ensures put { OnOk result (map bid_value list.new.items ≡ with_entry «package».now amount (map bid_value list.old.items)) }
-    ensures set { (place : ℕ) → result ≡ Ok (Some place) → SetsAmount (map bid_value list.old.items) place amount (map bid_value list.new.items) }
+    ensures put { OnOk result
+        (map bid_value list.new.items ≡ with_entry «package».now amount (map bid_value list.old.items)) }
+    ensures set { (place : ℕ) → result ≡ Ok (Some place)
+        → SetsAmount (map bid_value list.old.items) place amount (map bid_value list.new.items) }
     ensures unchanged { OnErr result (list.new.items ≡ list.old.items) }
 {
     match slot_of(list, package) {
@@ -87,7 +89,9 @@ pub fn copied_entries(alloc: Global, list: &[Bid]) -> Result<Vec<Bid>, AllocErro
 /// Makes the entry at the place that of the bid; those before it stay.
 fn copy_entry(alloc: Global, list: &mut Vec<Bid>, place: usize, bid: &Bid) -> Result<(), AllocError>
     requires { place ≤ length list.old.items }
-    ensures { OnOk result (take (place + 1) (map bid_value list.new.items) ≡ take place (map bid_value list.old.items) ++ (bid_value bid.now ∷ [])) }
+    ensures { OnOk result
+        (take (place + 1) (map bid_value list.new.items)
+        ≡ take place (map bid_value list.old.items) ++ (bid_value bid.now ∷ [])) }
 {
     if place < list.len() && list[place].package.categories() == bid.package.categories() {
         let entry = &mut list[place];

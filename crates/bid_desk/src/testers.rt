@@ -59,7 +59,9 @@ pub fn test_list(
     requires order { InOrder (map entry_lots list.now) }
     requires eligible { All (IsEligible points.now history.now j) list.now }
     requires few { length list.now < 2 ^ 32 }
-    ensures fault { IfOk result (λ over. option_map excess_value over ≡ list_fault final_cap points.now (rounds_of j history.now) (map bid_value list.now)) }
+    ensures fault { IfOk result
+        (λ over. option_map excess_value over
+        ≡ list_fault final_cap points.now (rounds_of j history.now) (map bid_value list.now)) }
     ensures count { length testers.new.items ≡ length testers.old.items }
     ensures testers { AreFor history.now points.now testers.new.items }
 {

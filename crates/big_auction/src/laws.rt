@@ -21,5 +21,7 @@ pub fn answered_log()
 
 /// No choice that fits the supply of a made auction has more than four winners.
 pub fn few_winners()
-    ensures { (number : ℕ) (choice : List ℕ) → IsTrue ((market_of (book_of_log made_terms (reverse (made_log number)))).allowed choice) → winners_in choice ≤ 4 }
+    ensures { (number : ℕ) (choice : List ℕ)
+        → IsTrue ((market_of (book_of_log made_terms (reverse (made_log number)))).allowed choice)
+        → winners_in choice ≤ 4 }
 {}

@@ -89,7 +89,8 @@ pub fn add_close(text: &mut Text) -> Result<(), AllocError>
 /// Adds the lines in which the bidders from the first on bid these packages, one each.
 pub fn add_bids(text: &mut Text, packages: &[Lots]) -> Result<(), AllocError>
     requires { length packages.now ≤ 1000 }
-    ensures { OnOk result (text.new ≡ text.old ++ log_text (bids_for (map counts_of packages.now) (length packages.now))) }
+    ensures { OnOk result
+        (text.new ≡ text.old ++ log_text (bids_for (map counts_of packages.now) (length packages.now))) }
 {
     for (k, lots) in packages.iter().enumerate() {
         add_bid(text, k as u16 + 1, *lots)?;
@@ -106,7 +107,10 @@ fn add_drawn(
 ) -> Result<(), AllocError>
     requires prices { AllByRecursion (λ p. p ≤ MOST_PRICE) (figures_of prices.now) }
     requires some { 0 < bidder.now.own.a }
-    ensures text { OnOk result (text.new ≡ text.old ++ event_text (drawn_draft draws.old.state (figures_of prices.now) bidder.now.number (counts_of bidder.now.own) (counts_of bidder.now.last))) }
+    ensures text { OnOk result
+        (text.new ≡ text.old
+        ++ event_text (drawn_draft draws.old.state (figures_of prices.now) bidder.now.number
+        (counts_of bidder.now.own) (counts_of bidder.now.last))) }
     ensures state { draws.new.state ≡ behind draws.old.state 5 }
 {
     let lots = draws.package(bidder.own);
@@ -123,7 +127,10 @@ fn add_last(
     bidder: &Bidder,
 ) -> Result<(), AllocError>
     requires { AllByRecursion (λ p. p ≤ MOST_PRICE) (figures_of prices.now) }
-    ensures text { OnOk result (text.new ≡ text.old ++ log_text (last_draft draws.old.state (figures_of prices.now) bidder.now.number (counts_of bidder.now.last))) }
+    ensures text { OnOk result
+        (text.new ≡ text.old
+        ++ log_text (last_draft draws.old.state (figures_of prices.now) bidder.now.number
+        (counts_of bidder.now.last))) }
     ensures state { draws.new.state ≡ behind draws.old.state (if nat_le bidder.now.number staying then 1 else 0) }
 {
     if bidder.number > STAYING {
@@ -142,8 +149,13 @@ pub fn add_bidder(
 ) -> Result<(), AllocError>
     requires prices { AllByRecursion (λ p. p ≤ MOST_PRICE) (figures_of prices.now) }
     requires some { 0 < bidder.now.own.a }
-    ensures text { OnOk result (text.new ≡ text.old ++ log_text (lines_from draws.old.state (figures_of prices.now) bidder.now.number (counts_of bidder.now.own) (counts_of bidder.now.last))) }
-    ensures state { OnOk result (draws.new.state ≡ behind draws.old.state (5 * draft_count + (if nat_le bidder.now.number staying then 1 else 0))) }
+    ensures text { OnOk result
+        (text.new ≡ text.old
+        ++ log_text (lines_from draws.old.state (figures_of prices.now) bidder.now.number
+        (counts_of bidder.now.own) (counts_of bidder.now.last))) }
+    ensures state { OnOk result
+        (draws.new.state
+        ≡ behind draws.old.state (5 * draft_count + (if nat_le bidder.now.number staying then 1 else 0))) }
 {
     for _draft in 0..DRAFTS {
         add_drawn(text, draws, prices, bidder)?;

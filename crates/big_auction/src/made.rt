@@ -101,7 +101,10 @@ fn add_sealed_lines(
     requires prices { AllByRecursion (λ p. p ≤ MOST_PRICE) (figures_of prices.now) }
     requires some { AllByRecursion (λ p. 0 < p.a) packages.now }
     requires few { length packages.now ≤ 1000 }
-    ensures { OnOk result (text.new ≡ text.old ++ log_text (sealed_for draws.old.state (figures_of prices.now) (map counts_of packages.now) (length packages.now))) }
+    ensures { OnOk result
+        (text.new ≡ text.old
+        ++ log_text (sealed_for draws.old.state (figures_of prices.now) (map counts_of packages.now)
+        (length packages.now))) }
 {
     for (k, own) in packages.iter().enumerate() {
         let number = k as u16 + 1;

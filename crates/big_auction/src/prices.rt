@@ -88,7 +88,9 @@ fn demand(packages: &[Lots]) -> Figures
 /// The next price of a category: it rises where more is asked for than there is.
 fn raised_price(price: u64, asked: u64, supply: u16, table: &StepTable) -> u64
     requires { price ≤ MOST_PRICE }
-    ensures { result ≡ (if nat_le asked supply then price else stepped table.now.tick table.now.thresholds price (asked - supply)) }
+    ensures { result
+        ≡ (if nat_le asked supply then price else stepped table.now.tick table.now.thresholds price
+        (asked - supply)) }
 {
     let supply = supply as u64;
     if asked <= supply {
@@ -100,7 +102,9 @@ fn raised_price(price: u64, asked: u64, supply: u16, table: &StepTable) -> u64
 /// The prices of the next round.
 fn raised(prices: &Figures, asked: &Figures, table: &StepTable) -> Figures
     requires { AllByRecursion (λ p. p ≤ MOST_PRICE) (figures_of prices.now) }
-    ensures { figures_of result ≡ raised_prices table.now.tick table.now.thresholds (figures_of prices.now) (figures_of asked.now) made_terms.supply }
+    ensures { figures_of result
+        ≡ raised_prices table.now.tick table.now.thresholds (figures_of prices.now)
+        (figures_of asked.now) made_terms.supply }
 {
     Figures {
         a: raised_price(prices.a, asked.a, SUPPLY.a, table),
@@ -113,7 +117,8 @@ fn raised(prices: &Figures, asked: &Figures, table: &StepTable) -> Figures
 /// The prices of the last round, where these packages are asked for in each round before it.
 pub fn final_prices(alloc: Global, packages: &[Lots]) -> Result<Figures, AllocError>
     requires { length packages.now ≡ 12 }
-    ensures prices { IfOk result (λ p. figures_of p ≡ prices_after made_terms (held_from (map counts_of packages.now)) full_rounds) }
+    ensures prices { IfOk result
+        (λ p. figures_of p ≡ prices_after made_terms (held_from (map counts_of packages.now)) full_rounds) }
     ensures low { IfOk result (λ p. AllByRecursion (λ p. p ≤ MOST_PRICE) (figures_of p)) }
 {
     let table = StepTable::new(alloc, 1, &[(1, 100), (5, 200)])?;

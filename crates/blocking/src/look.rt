@@ -51,11 +51,19 @@ pub fn find_block<C: Chooser>(
     at: &[i128],
 ) -> Result<Looked<C::Table>, AllocError>
     requires { CanLook (C.market chooser.now) (C.chosen chooser.now) den at.now }
-    ensures free { IfOk result (λ l. IfFree l (λ f. IsUnblocked (C.market chooser.now) (C.chosen chooser.now) (payments den at.now))) }
-    ensures found { IfOk result (λ l. IfFree l (λ f. IsFound (C.market chooser.now) (C.chosen chooser.now) den at.now f.choice f.sum)) }
-    ensures table { IfOk result (λ l. IfFree l (λ f. C.is_table chooser.now den (surpluses_of (C.market chooser.now) (C.chosen chooser.now) den at.now) f.table)) }
-    ensures block { IfOk result (λ l. IfBlocked l (λ b. IsBlock (C.market chooser.now) (C.chosen chooser.now) den at.now b)) }
-    ensures blocks { IfOk result (λ l. IfBlocked l (λ b. ¬ IsUnblocked (C.market chooser.now) (C.chosen chooser.now) (payments den at.now))) }
+    ensures free { IfOk result
+        (λ l. IfFree l (λ f. IsUnblocked (C.market chooser.now) (C.chosen chooser.now) (payments den at.now))) }
+    ensures found { IfOk result
+        (λ l. IfFree l (λ f. IsFound (C.market chooser.now) (C.chosen chooser.now) den at.now f.choice f.sum)) }
+    ensures table { IfOk result
+        (λ l. IfFree l
+        (λ f. C.is_table chooser.now den
+        (surpluses_of (C.market chooser.now) (C.chosen chooser.now) den at.now) f.table)) }
+    ensures block { IfOk result
+        (λ l. IfBlocked l (λ b. IsBlock (C.market chooser.now) (C.chosen chooser.now) den at.now b)) }
+    ensures blocks { IfOk result
+        (λ l. IfBlocked l
+        (λ b. ¬ IsUnblocked (C.market chooser.now) (C.chosen chooser.now) (payments den at.now))) }
 {
     let found = best_choice(alloc, chooser, den, at)?;
     let paid = paid_by_all(at);
@@ -80,7 +88,9 @@ fn best_choice<C: Chooser>(
 ) -> Result<Found<C::Table>, AllocError>
     requires { CanLook (C.market chooser.now) (C.chosen chooser.now) den at.now }
     ensures found { IfOk result (λ f. IsFound (C.market chooser.now) (C.chosen chooser.now) den at.now f.choice f.sum) }
-    ensures table { IfOk result (λ f. C.is_table chooser.now den (surpluses_of (C.market chooser.now) (C.chosen chooser.now) den at.now) f.table) }
+    ensures table { IfOk result
+        (λ f. C.is_table chooser.now den
+        (surpluses_of (C.market chooser.now) (C.chosen chooser.now) den at.now) f.table) }
 {
     let surplus = surpluses(alloc, chooser, den, at)?;
     let found = chooser.best_lowered(alloc, den, &surplus)?;
@@ -89,7 +99,9 @@ fn best_choice<C: Chooser>(
 
 /// What all bidders pay, times the denominator.
 fn paid_by_all(at: &[i128]) -> i128
-    requires small { (k : ℕ) → k ≤ length at.now → (pos 0 ≤ℤ sum_over everyone (of_bidder at.now) k) × (sum_over everyone (of_bidder at.now) k <ℤ pos (2 ^ 120)) }
+    requires small { (k : ℕ) → k ≤ length at.now
+        → (pos 0 ≤ℤ sum_over everyone (of_bidder at.now) k)
+        × (sum_over everyone (of_bidder at.now) k <ℤ pos (2 ^ 120)) }
     ensures { result ≡ sum_over everyone (of_bidder at.now) (length at.now) }
 {
     let mut sum: i128 = 0;

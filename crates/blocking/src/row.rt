@@ -19,9 +19,14 @@ pub(crate) fn row_given<C: Chooser>(
     excess: i128,
 ) -> Row
     requires look { CanLook (C.market chooser.now) (C.chosen chooser.now) den at.now }
-    requires found { IsFound (C.market chooser.now) (C.chosen chooser.now) den at.now choice.now (excess +ℤ paid (C.market chooser.now) (payments den at.now)) }
-    ensures members { result.members ≡ bits_after (C.chosen chooser.now) (idle_row (C.market chooser.now) (C.chosen chooser.now) (payments den at.now) choice.now) 0 }
-    ensures bound { result.bound ≡ row_bound (C.market chooser.now) (C.chosen chooser.now) (idle_row (C.market chooser.now) (C.chosen chooser.now) (payments den at.now) choice.now) choice.now }
+    requires found { IsFound (C.market chooser.now) (C.chosen chooser.now) den at.now choice.now
+        (excess +ℤ paid (C.market chooser.now) (payments den at.now)) }
+    ensures members { result.members
+        ≡ bits_after (C.chosen chooser.now)
+        (idle_row (C.market chooser.now) (C.chosen chooser.now) (payments den at.now) choice.now) 0 }
+    ensures bound { result.bound
+        ≡ row_bound (C.market chooser.now) (C.chosen chooser.now)
+        (idle_row (C.market chooser.now) (C.chosen chooser.now) (payments den at.now) choice.now) choice.now }
 {
     let members = row_members(chooser, den, at, choice);
     let paid = row_paid(chooser, den, at, choice);
@@ -33,7 +38,9 @@ pub(crate) fn row_given<C: Chooser>(
 fn row_members<C: Chooser>(chooser: &C, den: i128, at: &[i128], choice: &Choice) -> u16
     requires look { CanLook (C.market chooser.now) (C.chosen chooser.now) den at.now }
     requires choice { length choice.now ≡ (C.market chooser.now).bidders }
-    ensures { result ≡ bits_after (C.chosen chooser.now) (idle_row (C.market chooser.now) (C.chosen chooser.now) (payments den at.now) choice.now) 0 }
+    ensures { result
+        ≡ bits_after (C.chosen chooser.now)
+        (idle_row (C.market chooser.now) (C.chosen chooser.now) (payments den at.now) choice.now) 0 }
 {
     let mut members: u16 = 0;
     let mut k = at.len();
@@ -57,7 +64,9 @@ fn with_bit(members: u16, is_in: bool) -> u16
 fn row_paid<C: Chooser>(chooser: &C, den: i128, at: &[i128], choice: &Choice) -> i128
     requires look { CanLook (C.market chooser.now) (C.chosen chooser.now) den at.now }
     requires choice { length choice.now ≡ (C.market chooser.now).bidders }
-    ensures value { result ≡ sum_over (idle_row (C.market chooser.now) (C.chosen chooser.now) (payments den at.now) choice.now) (of_bidder at.now) (C.market chooser.now).bidders }
+    ensures value { result
+        ≡ sum_over (idle_row (C.market chooser.now) (C.chosen chooser.now) (payments den at.now) choice.now)
+        (of_bidder at.now) (C.market chooser.now).bidders }
     ensures small { (pos 0 ≤ℤ result) × (result <ℤ pos (2 ^ 120)) }
 {
     let mut sum: i128 = 0;

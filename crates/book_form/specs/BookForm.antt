@@ -52,7 +52,8 @@ pub record IsBidder (supply reserves : List ℕ) (earlier : List Bidder) (bidder
 
 abbrev pub AreBidders : List ℕ → List ℕ → List Bidder → List Bidder → Type 0
 AreBidders supply reserves earlier [] = Unit {0}
-AreBidders supply reserves earlier (b ∷ bs) = IsBidder supply reserves earlier b × AreBidders supply reserves (earlier ++ b ∷ []) bs
+AreBidders supply reserves earlier (b ∷ bs) = IsBidder supply reserves earlier b
+    × AreBidders supply reserves (earlier ++ b ∷ []) bs
 
 pub record IsBook (book : Book) : Type 0 where
   pub supply : IsOffer book.supply

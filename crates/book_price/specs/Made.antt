@@ -17,6 +17,7 @@ parts_from (s ∷ singles) [] = []
 parts_from (s ∷ singles) (t ∷ tables) = record { winner = s.winner; choice = s.choice; table = t } ∷ parts_from singles tables
 
 -- z is the winning choice, `at` has a payment for each winner
-abbrev pub cert_made : List ℕ → ℤ → List (List ℤ) → List Single → List (List (List ℤ)) → ℤ → List ℤ → List PricedRow → List (List ℤ) → CertValue
+abbrev pub cert_made : List ℕ → ℤ → List (List ℤ) → List Single → List (List (List ℤ)) → ℤ → List ℤ → List PricedRow
+    → List (List ℤ) → CertValue
 cert_made z value table singles tables den at rows lowered =
     record { den = den; value = value; choice = z; table = table; withouts = parts_from singles tables; pay = for_bidders z at; rows = map (row_from z) rows; lowered = lowered }

@@ -9,5 +9,6 @@ use Rattle.row_laws.specs.Winners.{winners_in}
 
 -- the winning choice has more winners than can be priced with the weights, so many; want of memory says nothing of the book
 abbrev pub IsBookStop : Book → List ℕ → PriceStop → Type 0
-IsBookStop book weights (Winners n) = (z : List ℕ) × IsWinning (market_of book) z × ManyWin z weights × (n ≡ winners_in z)
+IsBookStop book weights (Winners n) = (z : List ℕ) × IsWinning (market_of book) z × ManyWin z weights
+    × (n ≡ winners_in z)
 IsBookStop book weights Memory = Unit {0}

@@ -51,9 +51,12 @@ pub fn price_book(alloc: Global, book: &BidBook, weights: &[u32]) -> Result<Pric
     ensures cert { IfOk result (λ p. IsPricedCert book.now (weight_of weights.now) (cert_value p.cert)) }
     ensures reduced { IfOk result (λ p. IsReduced (cert_value p.cert)) }
     ensures few { IfOk result (λ p. FewWin p.cert.choice weights.now) }
-    ensures run { IfOk result (λ p. IsPricingRun (market_of book.now) (weight_of weights.now) p.cert.choice (turns_of p.cert.choice p.turns)) }
+    ensures run { IfOk result
+        (λ p. IsPricingRun (market_of book.now) (weight_of weights.now) p.cert.choice
+        (turns_of p.cert.choice p.turns)) }
     ensures each_turn { IfOk result (λ p. AllByRecursion (IsPointOfTurn p.cert.choice weights.now) p.turns) }
-    ensures last_turn { IfOk result (λ p. IsLastPoint (turns_of p.cert.choice p.turns) (cert_point (cert_value p.cert))) }
+    ensures last_turn { IfOk result
+        (λ p. IsLastPoint (turns_of p.cert.choice p.turns) (cert_point (cert_value p.cert))) }
     ensures stops { IfErr result (IsBookStop book.now weights.now) }
 {
     let whole = plain_table(alloc, book)?;
@@ -82,9 +85,12 @@ fn priced_book(
     ensures cert { IfOk result (λ p. IsPricedCert book.now (weight_of weights.now) (cert_value p.cert)) }
     ensures reduced { IfOk result (λ p. IsReduced (cert_value p.cert)) }
     ensures few { IfOk result (λ p. FewWin p.cert.choice weights.now) }
-    ensures run { IfOk result (λ p. IsPricingRun (market_of book.now) (weight_of weights.now) p.cert.choice (turns_of p.cert.choice p.turns)) }
+    ensures run { IfOk result
+        (λ p. IsPricingRun (market_of book.now) (weight_of weights.now) p.cert.choice
+        (turns_of p.cert.choice p.turns)) }
     ensures each_turn { IfOk result (λ p. AllByRecursion (IsPointOfTurn p.cert.choice weights.now) p.turns) }
-    ensures last_turn { IfOk result (λ p. IsLastPoint (turns_of p.cert.choice p.turns) (cert_point (cert_value p.cert))) }
+    ensures last_turn { IfOk result
+        (λ p. IsLastPoint (turns_of p.cert.choice p.turns) (cert_point (cert_value p.cert))) }
     ensures stops { IfErr result (IsBookStop book.now weights.now) }
 {
     book.kept();

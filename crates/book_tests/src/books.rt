@@ -202,7 +202,8 @@ fn bid(alloc: Global, count: u16, amount: u64) -> Result<Bid, LotStop>
 
 // The bids of east: 20 for one lot and 44 for three.
 fn bids_of_east(alloc: Global) -> Result<BidList, LotStop>
-    ensures { IfOk result (λ list. list ≡ record { lots = 1 ∷ []; amount = 20 } ∷ record { lots = 3 ∷ []; amount = 44 } ∷ []) }
+    ensures { IfOk result
+        (λ list. list ≡ record { lots = 1 ∷ []; amount = 20 } ∷ record { lots = 3 ∷ []; amount = 44 } ∷ []) }
 {
     let mut bids = BidList::new(alloc);
     bids.push(bid(alloc, 1, 20)?)?;

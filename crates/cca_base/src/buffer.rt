@@ -32,8 +32,11 @@ impl Buffer {
 
     // Adds the whole piece, and fails exactly where it is longer than the room. Takes no memory.
     pub(crate) fn add(&mut self, piece: &[u8]) -> Result<(), Failed>
-        ensures added { OnOk result (take self.new.used self.new.bytes.items ≡ take self.old.used self.old.bytes.items ++ piece.now) }
-        ensures room { OnOk result (length self.new.bytes.items - self.new.used + length piece.now ≡ length self.old.bytes.items - self.old.used) }
+        ensures added { OnOk result
+            (take self.new.used self.new.bytes.items ≡ take self.old.used self.old.bytes.items ++ piece.now) }
+        ensures room { OnOk result
+            (length self.new.bytes.items - self.new.used + length piece.now
+            ≡ length self.old.bytes.items - self.old.used) }
         ensures full { OnErr result (length self.old.bytes.items - self.old.used < length piece.now) }
         ensures kept { OnErr result (self.new ≡ self.old) }
     {

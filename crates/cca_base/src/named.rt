@@ -54,7 +54,10 @@ pub(crate) fn new_files<F: Named>(
     names: &[String],
     room: usize,
 ) -> Result<Vec<F>, AllocError>
-    ensures names { IfOk result (λ files. (name : List ℕ) → list_any (λ f. bytes_eq (F.seen f).name name) files.items ≡ list_any (λ s. bytes_eq (string_bytes s) name) names.now) }
+    ensures names { IfOk result
+        (λ files. (name : List ℕ)
+        → list_any (λ f. bytes_eq (F.seen f).name name) files.items
+        ≡ list_any (λ s. bytes_eq (string_bytes s) name) names.now) }
     ensures once { IfOk result (λ files. AllPairs (λ f g. (F.seen f).name ≢ (F.seen g).name) files.items) }
     ensures fresh { IfOk result (λ files. All (λ f. F.seen f ≡ F.first_seen (F.seen f).name room) files.items) }
 {
@@ -88,9 +91,12 @@ pub(crate) fn place_of<F: Named>(files: &[F], name: &str) -> usize
 pub(crate) fn count_load_fault<F: Named>(files: &mut [F], name: &str)
     requires { IsTrue ((folder_of F.seen F.told files.old).knows name.now) }
     ensures kept { KeepsFiles (folder_of F.seen F.told files.old) (folder_of F.seen F.told files.new) }
-    ensures count { CountsOnly name.now (folder_of F.seen F.told files.old).load_faults (folder_of F.seen F.told files.new).load_faults }
-    ensures rose { Rose ((folder_of F.seen F.told files.old).load_faults name.now) ((folder_of F.seen F.told files.new).load_faults name.now) }
-    ensures appends { (folder_of F.seen F.told files.new).append_faults ≡ (folder_of F.seen F.told files.old).append_faults }
+    ensures count { CountsOnly name.now (folder_of F.seen F.told files.old).load_faults
+        (folder_of F.seen F.told files.new).load_faults }
+    ensures rose { Rose ((folder_of F.seen F.told files.old).load_faults name.now)
+        ((folder_of F.seen F.told files.new).load_faults name.now) }
+    ensures appends { (folder_of F.seen F.told files.new).append_faults
+        ≡ (folder_of F.seen F.told files.old).append_faults }
 {
     let place = place_of(files, name);
     let file = &mut files[place];
@@ -101,8 +107,10 @@ pub(crate) fn count_load_fault<F: Named>(files: &mut [F], name: &str)
 pub(crate) fn count_append_fault<F: Named>(files: &mut [F], name: &str)
     requires { IsTrue ((folder_of F.seen F.told files.old).knows name.now) }
     ensures kept { KeepsFiles (folder_of F.seen F.told files.old) (folder_of F.seen F.told files.new) }
-    ensures count { CountsOnly name.now (folder_of F.seen F.told files.old).append_faults (folder_of F.seen F.told files.new).append_faults }
-    ensures rose { Rose ((folder_of F.seen F.told files.old).append_faults name.now) ((folder_of F.seen F.told files.new).append_faults name.now) }
+    ensures count { CountsOnly name.now (folder_of F.seen F.told files.old).append_faults
+        (folder_of F.seen F.told files.new).append_faults }
+    ensures rose { Rose ((folder_of F.seen F.told files.old).append_faults name.now)
+        ((folder_of F.seen F.told files.new).append_faults name.now) }
     ensures loads { (folder_of F.seen F.told files.new).load_faults ≡ (folder_of F.seen F.told files.old).load_faults }
 {
     let place = place_of(files, name);

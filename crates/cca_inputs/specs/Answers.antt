@@ -43,7 +43,8 @@ cert_answer (beyond place) = stops (Refused Cert place 0)
 
 -- what the bytes of a certificate of this book say
 abbrev pub CertAnswers : BookValue → List ℕ → Answer CertValue → Type 0
-CertAnswers book bytes answer = (said : Said CertValue ℕ) × CertSays (bidders_of book) (states book) bytes said × (answer ≡ cert_answer said)
+CertAnswers book bytes answer = (said : Said CertValue ℕ) × CertSays (bidders_of book) (states book) bytes said
+    × (answer ≡ cert_answer said)
 
 -- a faulty line refuses the file
 abbrev pub weights_answer : Said (List ℕ) ⊥ → Answer (List ℕ)
@@ -53,7 +54,8 @@ weights_answer (beyond none) = absurd none
 
 -- what the bytes of the weights of this book say
 abbrev pub WeightsAnswers : BookValue → List ℕ → Answer (List ℕ) → Type 0
-WeightsAnswers book bytes answer = (said : Said (List ℕ) ⊥) × WeightsSay book bytes said × (answer ≡ weights_answer said)
+WeightsAnswers book bytes answer = (said : Said (List ℕ) ⊥) × WeightsSay book bytes said
+    × (answer ≡ weights_answer said)
 
 -- a broken rule refuses the file by its field and table, a text that isn't TOML refuses it by none, and a quantity above its limit is told
 abbrev pub award_answer : award.Reading → Answer Terms
@@ -76,7 +78,8 @@ AwardAnswers bytes answer = (answer ≡ award_answer (award.reading bytes)) × K
 abbrev pub RecordsAnswer : Terms → List (List (List ℕ)) → Answer (List Event) → Type 0
 RecordsAnswer terms rows (value events) = AreLog terms rows events
 RecordsAnswer terms rows (stops status) =
-    ((number : ℕ) × IsFirstFault terms rows number × (status ≡ Refused Log number 0)) ⊎ (AreTooMany terms rows × (status ≡ Limit Records (suc MOST_RECORDS)))
+    ((number : ℕ) × IsFirstFault terms rows number × (status ≡ Refused Log number 0))
+    ⊎ (AreTooMany terms rows × (status ≡ Limit Records (suc MOST_RECORDS)))
 
 -- what the bytes of a log of this award say
 abbrev pub LogAnswers : Terms → List ℕ → Answer (List Event) → Type 0
@@ -90,7 +93,8 @@ slots_answer (beyond excess) = stops (Limit excess.0 excess.1)
 
 -- what the bytes of slots say
 abbrev pub SlotsAnswers : List ℕ → Answer SlotList → Type 0
-SlotsAnswers bytes answer = (said : Said SlotList Excess) × Says IsSlotText slot_lines bytes said × (answer ≡ slots_answer said)
+SlotsAnswers bytes answer = (said : Said SlotList Excess) × Says IsSlotText slot_lines bytes said
+    × (answer ≡ slots_answer said)
 
 -- a number out of range refuses the file as a faulty line does
 abbrev pub place_cert_answer : Said PlaceCertValue ℕ → Answer PlaceCertValue
@@ -100,7 +104,8 @@ place_cert_answer (beyond place) = stops (Refused Cert place 0)
 
 -- what the bytes of a certificate of a placement of so many bidders say
 abbrev pub PlaceCertAnswers : ℕ → List ℕ → Answer PlaceCertValue → Type 0
-PlaceCertAnswers bidders bytes answer = (said : Said PlaceCertValue ℕ) × PlaceCertSays bidders bytes said × (answer ≡ place_cert_answer said)
+PlaceCertAnswers bidders bytes answer = (said : Said PlaceCertValue ℕ) × PlaceCertSays bidders bytes said
+    × (answer ≡ place_cert_answer said)
 
 -- the edits that a text states are those of the book; a faulty line refuses the file, and too many are told
 abbrev pub edits_answer : BookValue → Said (List NamedEdit) Excess → Answer (List Edit)
@@ -110,4 +115,5 @@ edits_answer book (beyond excess) = stops (Limit excess.0 excess.1)
 
 -- what the bytes of edits of this book say
 abbrev pub EditsAnswers : BookValue → List ℕ → Answer (List Edit) → Type 0
-EditsAnswers book bytes answer = (said : Said (List NamedEdit) Excess) × EditsSay (length book.supply) bytes said × (answer ≡ edits_answer book said)
+EditsAnswers book bytes answer = (said : Said (List NamedEdit) Excess) × EditsSay (length book.supply) bytes said
+    × (answer ≡ edits_answer book said)

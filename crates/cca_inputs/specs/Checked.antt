@@ -24,12 +24,14 @@ use Rattle.cca_inputs.specs.declared.status.Status.TheVariants.{No, Memory, Refu
 -- these are its facts.
 abbrev pub ShowsFacts : BookValue → List ℕ → List ℕ → CertFacts → Type 0
 ShowsFacts book weights bytes facts =
-    (c : CertValue) × CertAnswers book bytes (value c) × Holds book (weight_of weights) c × IsSound book (weight_of weights) c × AreFacts book c facts
+    (c : CertValue) × CertAnswers book bytes (value c) × Holds book (weight_of weights) c
+    × IsSound book (weight_of weights) c × AreFacts book c facts
 
 -- the bytes state a certificate, and this test is the first that fails for it by these weights, with its first place
 abbrev pub FailsATest : BookValue → List ℕ → List ℕ → Status → Type 0
 FailsATest book weights bytes status =
-    (c : CertValue) × CertAnswers book bytes (value c) × ((test place : ℕ) × FailsFirst book (weight_of weights) c test place × (status ≡ No certs.Book test place))
+    (c : CertValue) × CertAnswers book bytes (value c)
+    × ((test place : ℕ) × FailsFirst book (weight_of weights) c test place × (status ≡ No certs.Book test place))
 
 -- the bytes state no certificate of the book, or one for which a test fails
 abbrev pub StopsCheck : BookValue → List ℕ → List ℕ → Status → Type 0

@@ -42,6 +42,8 @@ AnswerGives (stops status) follows outcome = outcome ≡ stopped status
 
 -- What the input of a kind gives, which has at most so many bytes: a missing one can't be read, more bytes than the limit and bytes
 -- that state no value stop the run, and a value gives what follows.
-abbrev pub InputGives : {V : Type 0} → FileKind → ℕ → (List ℕ → Answer V → Type 0) → Option (List ℕ) → (V → Outcome → Type 0) → Outcome → Type 0
+abbrev pub InputGives : {V : Type 0} → FileKind → ℕ → (List ℕ → Answer V → Type 0) → Option (List ℕ)
+    → (V → Outcome → Type 0) → Outcome → Type 0
 InputGives kind most says None follows outcome = outcome ≡ stopped (ReadFault kind)
-InputGives {V} kind most says (Some bytes) follows outcome = (answer : Answer V) × FileAnswers most says bytes answer × AnswerGives answer follows outcome
+InputGives {V} kind most says (Some bytes) follows outcome = (answer : Answer V) × FileAnswers most says bytes answer
+    × AnswerGives answer follows outcome

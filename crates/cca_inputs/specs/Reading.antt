@@ -23,9 +23,12 @@ pub record Halts (most : ℕ) (halts : List ℕ → Status → Type 0) (file : O
   pub long : most < length bytes → status ≡ Limit Bytes (most + 1)
 
 -- Why an input has no value: want of memory, a load of it that failed, which none does where its room is told, or its bytes.
-abbrev pub InputStops : FileKind → ℕ → (List ℕ → Status → Type 0) → Bool → Option (List ℕ) → Option ℕ → ℕ → ℕ → Status → Type 0
+abbrev pub InputStops : FileKind → ℕ → (List ℕ → Status → Type 0) → Bool → Option (List ℕ) → Option ℕ → ℕ → ℕ → Status
+    → Type 0
 InputStops kind most halts told file room before now status =
-    (status ≡ Memory) ⊎ (((status ≡ ReadFault kind) × Rose before now × (IsSome room → ⊥)) ⊎ (IsStop status × (IsTrue told → Halts most halts file status)))
+    (status ≡ Memory)
+    ⊎ (((status ≡ ReadFault kind) × Rose before now × (IsSome room → ⊥))
+    ⊎ (IsStop status × (IsTrue told → Halts most halts file status)))
 
 -- no file changed, and only the count of failed loads of this name may have risen
 pub record OnlyLoads (name : List ℕ) (old new : Folder) : Type 0 where

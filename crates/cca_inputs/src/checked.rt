@@ -54,10 +54,13 @@ fn fed<'a, F: Files>(
     requires weights { AreWeights (bidders_of book.now) weights.now }
     requires room { length room.old ≡ room_size (bidders_of book.now) (states book.now) }
     requires piece { 0 < length piece.old }
-    ensures fed { IfOk result (IsFed book.now weights.now (F.folder files.old).told ((F.folder files.old).file name.now) room.new) }
+    ensures fed { IfOk result
+        (IsFed book.now weights.now (F.folder files.old).told ((F.folder files.old).file name.now) room.new) }
     ensures room { length room.new ≡ length room.old }
-    ensures too_long { IsTrue (F.folder files.old).told → result ≡ Err ReadStop.TooLong → IsSomeAnd ((F.folder files.old).file name.now) (λ bytes. CERT_BYTES < length bytes) }
-    ensures fault { result ≡ Err ReadStop.Fault → Rose ((F.folder files.old).load_faults name.now) ((F.folder files.new).load_faults name.now) }
+    ensures too_long { IsTrue (F.folder files.old).told → result ≡ Err ReadStop.TooLong
+        → IsSomeAnd ((F.folder files.old).file name.now) (λ bytes. CERT_BYTES < length bytes) }
+    ensures fault { result ≡ Err ReadStop.Fault
+        → Rose ((F.folder files.old).load_faults name.now) ((F.folder files.new).load_faults name.now) }
     ensures no_fault { IsSome ((F.folder files.old).room name.now) → result ≢ Err ReadStop.Fault }
     ensures kept { KeepsFiles (F.folder files.old) (F.folder files.new) }
     ensures count { CountsOnly name.now (F.folder files.old).load_faults (F.folder files.new).load_faults }
@@ -97,7 +100,8 @@ fn status_of_text(stop: TextStop) -> Status
 fn judged(alloc: Global, checker: &StreamCheck<'_>, room: &[i128]) -> Result<CertFacts, Status>
     requires room { length room.now ≡ room_size (bidders_of checker.now.book.now) (states checker.now.book.now) }
     requires stands { (text : List ℕ) × StandsFor checker.now room.now text }
-    ensures { (text : List ℕ) → StandsFor checker.now room.now text → IsJudged checker.now.book.now checker.now.weights.now text result }
+    ensures { (text : List ℕ) → StandsFor checker.now room.now text
+        → IsJudged checker.now.book.now checker.now.weights.now text result }
 {
     one_cert();
     match checker.finish(room) {
@@ -132,9 +136,14 @@ pub fn check_input<F: Files>(
 ) -> Result<CertFacts, Status>
     requires known { IsTrue ((F.folder files.old).knows name.now) }
     requires weights { AreWeights (bidders_of book.now) weights.now }
-    ensures value { IfOk result (IsRead CERT_BYTES (ShowsFacts book.now weights.now) (F.folder files.old).told ((F.folder files.old).file name.now)) }
-    ensures stop { IfErr result (InputStops Cert CERT_BYTES (StopsCheck book.now weights.now) (F.folder files.old).told ((F.folder files.old).file name.now)
-        ((F.folder files.old).room name.now) ((F.folder files.old).load_faults name.now) ((F.folder files.new).load_faults name.now)) }
+    ensures value { IfOk result
+        (IsRead CERT_BYTES (ShowsFacts book.now weights.now) (F.folder files.old).told
+        ((F.folder files.old).file name.now)) }
+    ensures stop { IfErr result
+        (InputStops Cert CERT_BYTES (StopsCheck book.now weights.now) (F.folder files.old).told
+        ((F.folder files.old).file name.now)
+        ((F.folder files.old).room name.now) ((F.folder files.old).load_faults name.now)
+        ((F.folder files.new).load_faults name.now)) }
     ensures loads { OnlyLoads name.now (F.folder files.old) (F.folder files.new) }
 {
     let mut numbers = empty_room(alloc, book)?;

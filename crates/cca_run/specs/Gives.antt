@@ -117,19 +117,23 @@ cert_file text = record { kind = Cert; text = text }
 -- The prices are printed and their certificate is appended; more winners than can be priced are the limit of winners.
 abbrev pub PriceGives : BookValue → List ℕ → PriceForm → Outcome → Type 0
 PriceGives book weights form outcome =
-    ((c : CertValue) × (text : List ℕ) × IsPricing book weights form c text × (outcome ≡ done text (cert_file (cert_text c) ∷ [])))
+    ((c : CertValue) × (text : List ℕ) × IsPricing book weights form c text
+    × (outcome ≡ done text (cert_file (cert_text c) ∷ [])))
     ⊎ ((z : List ℕ) × HasTooMany book z weights × (outcome ≡ stopped (Limit Winners (winners_in z))))
 
 -- the line `yes`, and the outcome that the certificate shows
 abbrev pub IsYesText : BookValue → CertValue → List ℕ → Type 0
-IsYesText book c text = (prices : List ℕ) × IsPriceText book c.choice (cert_prices book c) (cert_point c) prices × (text ≡ codes "yes\n" ++ prices)
+IsYesText book c text = (prices : List ℕ) × IsPriceText book c.choice (cert_prices book c) (cert_point c) prices
+    × (text ≡ codes "yes\n" ++ prices)
 
 -- A certificate that passes all tests gives yes and the outcome that it shows; then its choice and its payments are the core outcome.
 -- Else the first test that fails is told, with its first place.
 abbrev pub VerdictGives : BookValue → List ℕ → CertValue → Outcome → Type 0
 VerdictGives book weights c outcome =
-    (Holds book (weight_of weights) c × IsSound book (weight_of weights) c × ((text : List ℕ) × IsYesText book c text × (outcome ≡ done text [])))
-    ⊎ ((test place : ℕ) × FailsFirst book (weight_of weights) c test place × (outcome ≡ stopped (No certs.Book test place)))
+    (Holds book (weight_of weights) c × IsSound book (weight_of weights) c
+    × ((text : List ℕ) × IsYesText book c text × (outcome ≡ done text [])))
+    ⊎ ((test place : ℕ) × FailsFirst book (weight_of weights) c test place
+    × (outcome ≡ stopped (No certs.Book test place)))
 
 -- a text that is appended to the book's file
 abbrev pub book_file : List ℕ → FileText
@@ -144,7 +148,8 @@ replay_status records replay.Open = Refused Log (suc records) 0
 -- What a log of so many records gives with these reply lines, by what it leads to: the lines are printed and the text of the book is
 -- appended; or the lines are printed, and the line of the stop behind them, and nothing is appended.
 abbrev pub RepliesGive : ℕ → List ℕ → Result BookValue ReplayStop → Outcome → Type 0
-RepliesGive records replies (Ok book) outcome = (text : List ℕ) × Says IsBook lines text (stated book) × (outcome ≡ done replies (book_file text ∷ []))
+RepliesGive records replies (Ok book) outcome = (text : List ℕ) × Says IsBook lines text (stated book)
+    × (outcome ≡ done replies (book_file text ∷ []))
 RepliesGive records replies (Err stop) outcome = outcome ≡ stopped_after replies (replay_status records stop)
 
 -- what an auction gives, by its events in the order of the file
@@ -214,18 +219,21 @@ pub record IsPlacing (slots : SlotList) (rounds : Bool) (p : PlaceCertValue) (te
 
 -- the placement and the prices are printed and their certificate is appended
 abbrev pub PlaceGives : SlotList → Bool → Outcome → Type 0
-PlaceGives slots rounds outcome = (p : PlaceCertValue) × (text : List ℕ) × IsPlacing slots rounds p text × (outcome ≡ done text (cert_file (place_text p) ∷ []))
+PlaceGives slots rounds outcome = (p : PlaceCertValue) × (text : List ℕ) × IsPlacing slots rounds p text
+    × (outcome ≡ done text (cert_file (place_text p) ∷ []))
 
 -- the line `yes`, and the placement and the prices that the certificate shows
 abbrev pub IsPlaceYes : SlotList → PlaceCertValue → List ℕ → Type 0
 IsPlaceYes slots p text =
-    (prices : List ℕ) × IsPlaceText slots p.order p.cert.choice (prices_in (board.market_of slots) p.cert) (cert_point p.cert) prices × (text ≡ codes "yes\n" ++ prices)
+    (prices : List ℕ)
+    × IsPlaceText slots p.order p.cert.choice (prices_in (board.market_of slots) p.cert) (cert_point p.cert) prices × (text ≡ codes "yes\n" ++ prices)
 
 -- A certificate of a placement that passes all tests gives yes and what it shows; then its choice is one of the greatest, and its payments
 -- are the core outcome. Else the first test that fails is told, with its first place.
 abbrev pub PlaceVerdictGives : SlotList → PlaceCertValue → Outcome → Type 0
 PlaceVerdictGives slots p outcome =
-    (places.Holds slots p × IsPlaceSound slots p × ((text : List ℕ) × IsPlaceYes slots p text × (outcome ≡ done text [])))
+    (places.Holds slots p × IsPlaceSound slots p
+    × ((text : List ℕ) × IsPlaceYes slots p text × (outcome ≡ done text [])))
     ⊎ ((test place : ℕ) × places.FailsFirst slots p test place × (outcome ≡ stopped (No certs.Placement test place)))
 
 -- the values and the winning choices of the book behind each edit are printed

@@ -30,6 +30,7 @@ told_to (Some command) name texts = appended_to command name texts
 -- that an outcome of the words appends to it, and the output one for all that it prints, and for the line of want of memory.
 pub record HasRooms (words : List (List ℕ)) (old : Folder) (before : Output) : Type 0 where
   pub reads : (name : List ℕ) → Contains (inputs (command_of words)) name → IsSome (old.room name)
-  pub appends : (o : Outcome) → Gives words old.file o → (name : List ℕ) → Contains (outputs (command_of words)) name → HasRoom (old.room name) (told_to (command_of words) name o.appended)
+  pub appends : (o : Outcome) → Gives words old.file o → (name : List ℕ) → Contains (outputs (command_of words)) name
+      → HasRoom (old.room name) (told_to (command_of words) name o.appended)
   pub prints : (o : Outcome) → Gives words old.file o → HasRoom before.room (length o.printed)
   pub line : HasRoom before.room (length (status_line Memory))

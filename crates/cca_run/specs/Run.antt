@@ -38,7 +38,8 @@ pub record AppendsWhole (command : CommandValue) (appended : FileText) (old new 
 -- these texts were appended whole, one after the other, and no other file changed
 abbrev pub AppendsAll : CommandValue → List FileText → Folder → Folder → Type 0
 AppendsAll command [] old new = KeepsFiles old new
-AppendsAll command (first ∷ rest) old new = (between : Folder) × AppendsWhole command first old between × AppendsAll command rest between new
+AppendsAll command (first ∷ rest) old new = (between : Folder) × AppendsWhole command first old between
+    × AppendsAll command rest between new
 
 -- Of these texts the ones before that of this kind were appended whole, of that one, for which no room was told that is enough, a part
 -- from its front and not all, and of those behind it nothing; no other file changed.
@@ -63,7 +64,8 @@ pub record FailsToWrite (command : CommandValue) (old new : Folder) (kind : File
   pub output : output_as command kind ≡ Some name
   pub rose : Rose (old.append_faults name) (new.append_faults name)
   pub appended : List FileText
-  pub given : IsTrue old.told → (o : Outcome) × FilesGive command old.file o × (o.status ≡ Done) × (o.appended ≡ appended)
+  pub given : IsTrue old.told
+      → (o : Outcome) × FilesGive command old.file o × (o.status ≡ Done) × (o.appended ≡ appended)
   pub part : AppendsUpTo command kind appended old new
 
 abbrev pub IsFileFault : Option CommandValue → Folder → Folder → FileKind → Type 0
@@ -110,7 +112,8 @@ Appended (Some command) appended old new = AppendsAll command appended old new
 -- The texts that the command gives were appended, whole and in order, up to some place.
 pub record Grows (command : CommandValue) (old new : Folder) : Type 0 where
   pub appended : List FileText
-  pub given : IsTrue old.told → (o : Outcome) × FilesGive command old.file o × (o.status ≡ Done) × (o.appended ≡ appended)
+  pub given : IsTrue old.told
+      → (o : Outcome) × FilesGive command old.file o × (o.status ≡ Done) × (o.appended ≡ appended)
   pub grown : AppendsAll command appended old new ⊎ ((kind : FileKind) × AppendsUpTo command kind appended old new)
 
 -- no file changed, or the command's files grew
@@ -137,11 +140,13 @@ pub record CountsAmong (names : List (List ℕ)) (old new : List ℕ → ℕ) : 
 abbrev pub Prints : Output → Output → List ℕ → Status → Status → Type 0
 Prints old new text status result =
     ((result ≡ status) × Puts old new text (length text))
-    ⊎ ((result ≡ WriteFault Out) × Rose old.faults new.faults × ((n : ℕ) × (n < length text) × Puts old new text n) × (HasRoom old.room (length text) → ⊥))
+    ⊎ ((result ≡ WriteFault Out) × Rose old.faults new.faults × ((n : ℕ) × (n < length text) × Puts old new text n)
+    × (HasRoom old.room (length text) → ⊥))
 
 -- No fault was counted in the call: no count of failed loads of a file that the command reads rose, none of failed appends to a file that
 -- it appends to, nor that of the output.
 pub record HasNoFault (command : Option CommandValue) (old new : Folder) (before now : Output) : Type 0 where
   pub loads : (name : List ℕ) → Contains (inputs command) name → Rose (old.load_faults name) (new.load_faults name) → ⊥
-  pub appends : (name : List ℕ) → Contains (outputs command) name → Rose (old.append_faults name) (new.append_faults name) → ⊥
+  pub appends : (name : List ℕ) → Contains (outputs command) name
+      → Rose (old.append_faults name) (new.append_faults name) → ⊥
   pub puts : Rose before.faults now.faults → ⊥

@@ -40,28 +40,34 @@ text_before stop = unwrap_or stop.before []
 
 -- What is worked out is what this gives, and its texts are of these kinds; a stop is want of memory, or what this gives.
 abbrev pub IsWork : (Outcome → Type 0) → List FileKind → Result Work Stop → Type 0
-IsWork gives kinds (Ok work) = gives (done work.printed work.appended.items) × (map (λ t. t.kind) work.appended.items ≡ kinds)
-IsWork gives kinds (Err stop) = (stop ≡ bare Memory) ⊎ (IsStop stop.status × gives (stopped_after (text_before stop) stop.status))
+IsWork gives kinds (Ok work) = gives (done work.printed work.appended.items)
+    × (map (λ t. t.kind) work.appended.items ≡ kinds)
+IsWork gives kinds (Err stop) = (stop ≡ bare Memory)
+    ⊎ (IsStop stop.status × gives (stopped_after (text_before stop) stop.status))
 
 -- the book that the events of a log lead to; a stop is want of memory, or why they lead to none
 abbrev pub HasBook : Terms → List Event → Result Book Stop → Type 0
 HasBook terms events (Ok book) = end_of terms (reverse events) ≡ Ok book
 HasBook terms events (Err stop) =
-    (stop ≡ bare Memory) ⊎ ((why : ReplayStop) × (end_of terms (reverse events) ≡ Err why) × (stop ≡ bare (replay_status (length events) why)))
+    (stop ≡ bare Memory)
+    ⊎ ((why : ReplayStop) × (end_of terms (reverse events) ≡ Err why)
+    × (stop ≡ bare (replay_status (length events) why)))
 
 -- how the way from the files to the work stops: for want of memory, by a fault of reading that was counted, or by what the files give
 abbrev pub StopsBy : CommandValue → Folder → Folder → Stop → Type 0
 StopsBy command old new stop =
     (stop ≡ bare Memory)
     ⊎ (((kind : FileKind) × (stop ≡ bare (ReadFault kind)) × FailsToRead command old new kind)
-    ⊎ (IsStop stop.status × (IsTrue old.told → FilesGive command old.file (stopped_after (text_before stop) stop.status))))
+    ⊎ (IsStop stop.status
+    × (IsTrue old.told → FilesGive command old.file (stopped_after (text_before stop) stop.status))))
 
 -- the command appends to files of these kinds
 abbrev pub AreOutputs : CommandValue → List FileText → Type 0
 AreOutputs command texts = AllByRecursion (λ t. IsSome (output_as command t.kind)) texts
 
 abbrev pub WorksOut : CommandValue → Folder → Folder → Result Work Stop → Type 0
-WorksOut command old new (Ok work) = AreOutputs command work.appended.items × (IsTrue old.told → FilesGive command old.file (done work.printed work.appended.items))
+WorksOut command old new (Ok work) = AreOutputs command work.appended.items
+    × (IsTrue old.told → FilesGive command old.file (done work.printed work.appended.items))
 WorksOut command old new (Err stop) = StopsBy command old new stop
 
 -- no file changed, and only counts of failed loads of the command's inputs may have risen
@@ -95,17 +101,23 @@ AppendEnds command texts old new (Err kind) = FailsAt command texts old new kind
 -- whether the whole text was written; else a front of it and not all, for which no room is told, and a fault of the output, which was counted
 abbrev pub Written : Output → Output → List ℕ → Bool → Type 0
 Written old new text true = Puts old new text (length text)
-Written old new text false = Rose old.faults new.faults × ((n : ℕ) × (n < length text) × Puts old new text n) × (HasRoom old.room (length text) → ⊥)
+Written old new text false = Rose old.faults new.faults × ((n : ℕ) × (n < length text) × Puts old new text n)
+    × (HasRoom old.room (length text) → ⊥)
 
 -- How a run ends, by its command if the words say one. The fields are the clauses of the top call.
 pub record RunEnds (command : Option CommandValue) (old new : Folder) (before now : Output) (result : Status) : Type 0 where
   pub words : result ≡ Words → command ≡ None
   pub read_fault : (kind : FileKind) → result ≡ ReadFault kind → IsReadFault command old new kind
   pub write_fault : (kind : FileKind) → result ≡ WriteFault kind → IsWriteFault command old new before now kind
-  pub answer : IsTrue old.told → IsDecided result → (o : Outcome) × WordsGive command old.file o × (o.status ≡ result) × Puts before now o.printed (length o.printed) × Appended command o.appended old new
+  pub answer : IsTrue old.told → IsDecided result
+      → (o : Outcome) × WordsGive command old.file o × (o.status ≡ result)
+      × Puts before now o.printed (length o.printed) × Appended command o.appended old new
   pub line : (result ≡ Words) ⊎ IsHindered result → Puts before now (status_line result) (length (status_line result))
   pub front : result ≡ WriteFault Out → (text : List ℕ) × (n : ℕ) × (n < length text) × Puts before now text n
-      × (IsTrue old.told → ((o : Outcome) × WordsGive command old.file o × (text ≡ o.printed)) ⊎ ((status : Status) × IsHindrance command old new status × (text ≡ status_line status))) × (HasRoom before.room (length text) → ⊥)
+      × (IsTrue old.told
+      → ((o : Outcome) × WordsGive command old.file o × (text ≡ o.printed))
+      ⊎ ((status : Status) × IsHindrance command old new status × (text ≡ status_line status)))
+      × (HasRoom before.room (length text) → ⊥)
   pub kept : KeepsAll result → KeepsFiles old new
   pub files : Changes command old new
   pub loads : CountsAmong (inputs command) old.load_faults new.load_faults
@@ -116,10 +128,13 @@ pub record RunEnds (command : Option CommandValue) (old new : Folder) (before no
 pub record FinishEnds (command : CommandValue) (old new : Folder) (before now : Output) (printed : List ℕ) (appended : List FileText) (result : Status) : Type 0 where
   pub done : result ≡ Done → Puts before now printed (length printed) × AppendsAll command appended old new
   pub others : (result ≡ Done) ⊎ ((kind : FileKind) × (result ≡ WriteFault kind))
-  pub cause : (kind : FileKind) → result ≡ WriteFault kind → ((kind ≡ Out) × Rose before.faults now.faults) ⊎ (FailsAt command appended old new kind)
+  pub cause : (kind : FileKind) → result ≡ WriteFault kind
+      → ((kind ≡ Out) × Rose before.faults now.faults) ⊎ (FailsAt command appended old new kind)
   pub line : IsHindered result → Puts before now (status_line result) (length (status_line result))
   pub front : result ≡ WriteFault Out → (text : List ℕ) × (n : ℕ) × (n < length text) × Puts before now text n
-      × ((text ≡ printed) ⊎ ((kind : FileKind) × FailsAt command appended old new kind × (text ≡ status_line (WriteFault kind)))) × (HasRoom before.room (length text) → ⊥)
+      × ((text ≡ printed)
+      ⊎ ((kind : FileKind) × FailsAt command appended old new kind × (text ≡ status_line (WriteFault kind))))
+      × (HasRoom before.room (length text) → ⊥)
   pub files : AppendsAll command appended old new ⊎ ((kind : FileKind) × AppendsUpTo command kind appended old new)
   pub counts : OnlyAppends command old new
   pub faults : before.faults ≤ now.faults

@@ -17,7 +17,8 @@ fn append_text<F: Files>(
 ) -> Result<(), FileKind>
     requires known { KnowsFiles (F.folder files.old) (command_value command) }
     requires output { IsSome (output_as (command_value command) text.now.kind) }
-    ensures ends { AppendEnds (command_value command.entry) (text.now ∷ []) (F.folder files.old) (F.folder files.new) result }
+    ensures ends { AppendEnds (command_value command.entry) (text.now ∷ []) (F.folder files.old)
+        (F.folder files.new) result }
     ensures counts { OnlyAppends (command_value command.entry) (F.folder files.old) (F.folder files.new) }
     ensures known { KnowsFiles (F.folder files.new) (command_value command.entry) }
 {

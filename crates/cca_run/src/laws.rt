@@ -32,7 +32,8 @@ use weights_file::one_weighing;
 /// The words and the bytes of the files give at most one status and one printed text. So each status that is decided comes exactly
 /// where they give it.
 pub fn one_outcome()
-    ensures { (words : List (List ℕ)) (file : List ℕ → Option (List ℕ)) (o p : Outcome) → Gives words file o → Gives words file p
+    ensures { (words : List (List ℕ)) (file : List ℕ → Option (List ℕ)) (o p : Outcome) → Gives words file o
+        → Gives words file p
         → (o.status ≡ p.status) × (o.printed ≡ p.printed) }
 {
     one_book();
@@ -63,17 +64,21 @@ pub fn one_outcome()
 
 /// With weights of 1 too many win exactly where more than six do. The choice has a number for each bidder.
 pub fn limit_of_ones()
-    ensures few { (book : Book) (z : List ℕ) → length z ≡ bidders_of book → winners_in z ≤ MOST_WINNERS → FewWin z (ones book) }
-    ensures many { (book : Book) (z : List ℕ) → length z ≡ bidders_of book → ManyWin z (ones book) → MOST_WINNERS < winners_in z }
+    ensures few { (book : Book) (z : List ℕ) → length z ≡ bidders_of book → winners_in z ≤ MOST_WINNERS
+        → FewWin z (ones book) }
+    ensures many { (book : Book) (z : List ℕ) → length z ≡ bidders_of book → ManyWin z (ones book)
+        → MOST_WINNERS < winners_in z }
 {}
 
 /// What `price` writes, `check` accepts. Where the file of the certificate held nothing before and holds the text that `price` appended,
 /// and that of the book holds what it held, `check` gives Done, and nothing else. Without flags it prints `yes` and then what `price` printed.
 pub fn written_cert_passes()
     ensures passes { (book cert : List ℕ) (form : PriceForm) (file later : List ℕ → Option (List ℕ)) (o p : Outcome)
-        → FilesGive (price book cert form) file o → HoldsCert (book ∷ []) cert file later o → FilesGive (check book cert) later p → p.status ≡ Done }
+        → FilesGive (price book cert form) file o → HoldsCert (book ∷ []) cert file later o
+        → FilesGive (check book cert) later p → p.status ≡ Done }
     ensures prints { (book cert : List ℕ) (file later : List ℕ → Option (List ℕ)) (o p : Outcome)
-        → FilesGive (price book cert (form_with false false)) file o → HoldsCert (book ∷ []) cert file later o → FilesGive (check book cert) later p
+        → FilesGive (price book cert (form_with false false)) file o → HoldsCert (book ∷ []) cert file later o
+        → FilesGive (check book cert) later p
         → p.printed ≡ codes "yes\n" ++ o.printed }
 {
     one_book();
@@ -87,9 +92,11 @@ pub fn written_cert_passes()
 /// What a run that is done shows of its files, by definitions alone: `audit`, that they state an auction, and that the certificate has its
 /// outcome; `award`, that they state an auction, and that the appended text is that of a certificate of its outcome.
 pub fn headline()
-    ensures audit { (file : List ℕ → Option (List ℕ)) (terms log cert : List ℕ) (o : Outcome) → FilesGive (audit terms log cert) file o → o.status ≡ Done
+    ensures audit { (file : List ℕ → Option (List ℕ)) (terms log cert : List ℕ) (o : Outcome)
+        → FilesGive (audit terms log cert) file o → o.status ≡ Done
         → IsAudited file terms log cert o.printed × (o.appended ≡ []) }
-    ensures award { (file : List ℕ → Option (List ℕ)) (terms log cert : List ℕ) (form : PriceForm) (o : Outcome) → FilesGive (award terms log cert form) file o → o.status ≡ Done
+    ensures award { (file : List ℕ → Option (List ℕ)) (terms log cert : List ℕ) (form : PriceForm) (o : Outcome)
+        → FilesGive (award terms log cert form) file o → o.status ≡ Done
         → (text : List ℕ) × IsAwarded file terms log text × (o.appended ≡ cert_file text ∷ []) }
 {
     plain_outcome();
@@ -102,10 +109,13 @@ pub fn headline()
 /// those of the award and the log hold what they held, `audit` gives Done, and nothing else. Without flags it prints `yes` and then what
 /// `award` printed.
 pub fn awarded_cert_passes()
-    ensures passes { (terms log cert : List ℕ) (form : PriceForm) (file later : List ℕ → Option (List ℕ)) (o p : Outcome)
-        → FilesGive (award terms log cert form) file o → HoldsCert (terms ∷ log ∷ []) cert file later o → FilesGive (audit terms log cert) later p → p.status ≡ Done }
+    ensures passes { (terms log cert : List ℕ) (form : PriceForm) (file later : List ℕ → Option (List ℕ))
+        (o p : Outcome)
+        → FilesGive (award terms log cert form) file o → HoldsCert (terms ∷ log ∷ []) cert file later o
+        → FilesGive (audit terms log cert) later p → p.status ≡ Done }
     ensures prints { (terms log cert : List ℕ) (file later : List ℕ → Option (List ℕ)) (o p : Outcome)
-        → FilesGive (award terms log cert (form_with false false)) file o → HoldsCert (terms ∷ log ∷ []) cert file later o → FilesGive (audit terms log cert) later p
+        → FilesGive (award terms log cert (form_with false false)) file o
+        → HoldsCert (terms ∷ log ∷ []) cert file later o → FilesGive (audit terms log cert) later p
         → p.printed ≡ codes "yes\n" ++ o.printed }
 {
     one_reading();

@@ -36,7 +36,8 @@ pub fn print<O: Sink>(out: &mut O, before: &[u8], text: &[u8], status: Status) -
 
 /// Prints the text of a stop and the line of its status, and answers the status.
 pub fn print_stop<O: Sink>(out: &mut O, stop: &Stop) -> Status
-    ensures printed { Prints (O.output out.old) (O.output out.new) (text_before stop.now ++ status_line stop.now.status) stop.now.status result }
+    ensures printed { Prints (O.output out.old) (O.output out.new)
+        (text_before stop.now ++ status_line stop.now.status) stop.now.status result }
     ensures count { (O.output out.old).faults ≤ (O.output out.new).faults }
 {
     let line = line_of(stop.status);

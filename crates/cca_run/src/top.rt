@@ -36,7 +36,8 @@ fn finish<F: Files, O: Sink>(
 ) -> Status
     requires known { KnowsFiles (F.folder files.old) (command_value command) }
     requires outputs { AreOutputs (command_value command) work.now.appended.items }
-    ensures { FinishEnds (command_value command.entry) (F.folder files.old) (F.folder files.new) (O.output out.old) (O.output out.new) work.now.printed work.now.appended.items result }
+    ensures { FinishEnds (command_value command.entry) (F.folder files.old) (F.folder files.new) (O.output out.old)
+        (O.output out.new) work.now.printed work.now.appended.items result }
 {
     match append_all(files, command, work.appended.as_slice()) {
         Ok(()) => print(out, b"", work.printed.items(), Status::Done),
@@ -55,7 +56,8 @@ fn run_command<F: Files, O: Sink>(
     command: Command<'_>,
 ) -> Status
     requires { KnowsFiles (F.folder files.old) (command_value command) }
-    ensures ends { RunEnds (Some (command_value command.entry)) (F.folder files.old) (F.folder files.new) (O.output out.old) (O.output out.new) result }
+    ensures ends { RunEnds (Some (command_value command.entry)) (F.folder files.old) (F.folder files.new)
+        (O.output out.old) (O.output out.new) result }
     ensures faults { (O.output out.old).faults ≤ (O.output out.new).faults }
 {
     match work_out(alloc, files, command) {
@@ -101,51 +103,73 @@ pub fn run<F: Files, O: Sink>(alloc: Global, words: &[String], files: &mut F, ou
 
     // The words alone decide on Words.
     ensures words { result ≡ Status.Words → command_of (map string_bytes words.now) ≡ None }
-    ensures not_plain { command_of (map string_bytes words.now) ≡ None → (result ≡ Status.Words) ⊎ (result ≡ Status.WriteFault FileKind.Out) }
+    ensures not_plain { command_of (map string_bytes words.now) ≡ None
+        → (result ≡ Status.Words) ⊎ (result ≡ Status.WriteFault FileKind.Out) }
 
     // The headline: whenever `audit` says yes, the book of the log holds exactly the bids that the activity rules admit, the winners are
     // the first feasible choice of greatest net value, no coalition blocks the prices, their sum is least in the core, and every other
     // core point of that sum lies farther from the Vickrey point; and `award` appends a certificate of such an outcome.
-    ensures audit { (terms log cert : List ℕ) → command_of (map string_bytes words.now) ≡ Some (audit terms log cert) → IsTrue (F.folder files.old).told
-        → result ≡ Status.Done → (text : List ℕ) × IsAudited (F.folder files.old).file terms log cert text × Puts (O.output out.old) (O.output out.new) text (length text) }
-    ensures award { (terms log cert : List ℕ) (form : PriceForm) → command_of (map string_bytes words.now) ≡ Some (award terms log cert form) → IsTrue (F.folder files.old).told
+    ensures audit { (terms log cert : List ℕ) → command_of (map string_bytes words.now) ≡ Some (audit terms log cert)
+        → IsTrue (F.folder files.old).told
+        → result ≡ Status.Done
+        → (text : List ℕ) × IsAudited (F.folder files.old).file terms log cert text
+        × Puts (O.output out.old) (O.output out.new) text (length text) }
+    ensures award { (terms log cert : List ℕ) (form : PriceForm)
+        → command_of (map string_bytes words.now) ≡ Some (award terms log cert form) → IsTrue (F.folder files.old).told
         → result ≡ Status.Done → (text : List ℕ) × IsAwarded (F.folder files.old).file terms log text
         × AppendsAll (award terms log cert form) (cert_file text ∷ []) (F.folder files.old) (F.folder files.new) }
 
     // Its other half: `award` writes such a certificate for every auction within the limits, and `audit` over the same bytes says yes, where
     // the certificate's file held nothing before; but for a fault that was counted, and want of memory.
-    ensures awarded { (terms log cert : List ℕ) (form : PriceForm) → command_of (map string_bytes words.now) ≡ Some (award terms log cert form) → IsTrue (F.folder files.old).told
-        → CanBeAwarded (F.folder files.old).file terms log → HasNoFault (command_of (map string_bytes words.now)) (F.folder files.old) (F.folder files.new) (O.output out.old) (O.output out.new)
+    ensures awarded { (terms log cert : List ℕ) (form : PriceForm)
+        → command_of (map string_bytes words.now) ≡ Some (award terms log cert form) → IsTrue (F.folder files.old).told
+        → CanBeAwarded (F.folder files.old).file terms log
+        → HasNoFault (command_of (map string_bytes words.now)) (F.folder files.old) (F.folder files.new)
+        (O.output out.old) (O.output out.new)
         → (result ≡ Status.Done) ⊎ (result ≡ Status.Memory) }
-    ensures accepted { (terms log cert : List ℕ) (form : PriceForm) (before : List ℕ → Option (List ℕ)) (o : Outcome) → command_of (map string_bytes words.now) ≡ Some (audit terms log cert) → IsTrue (F.folder files.old).told
-        → FilesGive (award terms log cert form) before o → HoldsCert (terms ∷ log ∷ []) cert before (F.folder files.old).file o
-        → HasNoFault (command_of (map string_bytes words.now)) (F.folder files.old) (F.folder files.new) (O.output out.old) (O.output out.new) → (result ≡ Status.Done) ⊎ (result ≡ Status.Memory) }
-    ensures handed_on { (terms log cert : List ℕ) (form : PriceForm) → command_of (map string_bytes words.now) ≡ Some (award terms log cert form) → IsTrue (F.folder files.old).told
-        → result ≡ Status.Done → HoldsNothing ((F.folder files.old).file cert) → (o : Outcome) × FilesGive (award terms log cert form) (F.folder files.old).file o
+    ensures accepted { (terms log cert : List ℕ) (form : PriceForm) (before : List ℕ → Option (List ℕ)) (o : Outcome)
+        → command_of (map string_bytes words.now) ≡ Some (audit terms log cert) → IsTrue (F.folder files.old).told
+        → FilesGive (award terms log cert form) before o
+        → HoldsCert (terms ∷ log ∷ []) cert before (F.folder files.old).file o
+        → HasNoFault (command_of (map string_bytes words.now)) (F.folder files.old) (F.folder files.new)
+        (O.output out.old) (O.output out.new) → (result ≡ Status.Done) ⊎ (result ≡ Status.Memory) }
+    ensures handed_on { (terms log cert : List ℕ) (form : PriceForm)
+        → command_of (map string_bytes words.now) ≡ Some (award terms log cert form) → IsTrue (F.folder files.old).told
+        → result ≡ Status.Done → HoldsNothing ((F.folder files.old).file cert)
+        → (o : Outcome) × FilesGive (award terms log cert form) (F.folder files.old).file o
         × HoldsCert (terms ∷ log ∷ []) cert (F.folder files.old).file (F.folder files.new).file o }
 
     // Where no fault was counted, the status is one that the words and the bytes decide, or want of memory.
-    ensures complete { HasNoFault (command_of (map string_bytes words.now)) (F.folder files.old) (F.folder files.new) (O.output out.old) (O.output out.new) → (result ≡ Status.Memory) ⊎ IsDecided result }
+    ensures complete { HasNoFault (command_of (map string_bytes words.now)) (F.folder files.old) (F.folder files.new)
+        (O.output out.old) (O.output out.new) → (result ≡ Status.Memory) ⊎ IsDecided result }
 
     // So it is over files and an output with room for all that the words and the bytes ask for.
-    ensures roomy { IsTrue (F.folder files.old).told → HasRooms (map string_bytes words.now) (F.folder files.old) (O.output out.old) → (result ≡ Status.Memory) ⊎ IsDecided result }
+    ensures roomy { IsTrue (F.folder files.old).told
+        → HasRooms (map string_bytes words.now) (F.folder files.old) (O.output out.old)
+        → (result ≡ Status.Memory) ⊎ IsDecided result }
 
     // A fault has its cause, and all that comes before it passed.
-    ensures read_fault { (kind : FileKind) → result ≡ Status.ReadFault kind → IsReadFault (command_of (map string_bytes words.now)) (F.folder files.old) (F.folder files.new) kind }
+    ensures read_fault { (kind : FileKind) → result ≡ Status.ReadFault kind
+        → IsReadFault (command_of (map string_bytes words.now)) (F.folder files.old) (F.folder files.new) kind }
     ensures write_fault { (kind : FileKind) → result ≡ Status.WriteFault kind
-        → IsWriteFault (command_of (map string_bytes words.now)) (F.folder files.old) (F.folder files.new) (O.output out.old) (O.output out.new) kind }
+        → IsWriteFault (command_of (map string_bytes words.now)) (F.folder files.old) (F.folder files.new)
+        (O.output out.old) (O.output out.new) kind }
 
     // Every other status but want of memory is the one that the words and the bytes give; its text was printed whole, and what it
     // appends was appended whole.
-    ensures answer { IsTrue (F.folder files.old).told → IsDecided result → (o : Outcome) × Gives (map string_bytes words.now) (F.folder files.old).file o
+    ensures answer { IsTrue (F.folder files.old).told → IsDecided result
+        → (o : Outcome) × Gives (map string_bytes words.now) (F.folder files.old).file o
         × (o.status ≡ result) × Puts (O.output out.old) (O.output out.new) o.printed (length o.printed)
         × Appended (command_of (map string_bytes words.now)) o.appended (F.folder files.old) (F.folder files.new) }
 
     // After a fault of a file and want of memory the line of the status was printed; after a fault of the output a front, and not all, of
     // the text that was due.
-    ensures line { (result ≡ Status.Words) ⊎ IsHindered result → Puts (O.output out.old) (O.output out.new) (status_line result) (length (status_line result)) }
-    ensures front { result ≡ Status.WriteFault FileKind.Out → (text : List ℕ) × (n : ℕ) × (n < length text) × Puts (O.output out.old) (O.output out.new) text n
-        × (IsTrue (F.folder files.old).told → IsDue (map string_bytes words.now) (F.folder files.old) (F.folder files.new) text) }
+    ensures line { (result ≡ Status.Words) ⊎ IsHindered result
+        → Puts (O.output out.old) (O.output out.new) (status_line result) (length (status_line result)) }
+    ensures front { result ≡ Status.WriteFault FileKind.Out
+        → (text : List ℕ) × (n : ℕ) × (n < length text) × Puts (O.output out.old) (O.output out.new) text n
+        × (IsTrue (F.folder files.old).told
+        → IsDue (map string_bytes words.now) (F.folder files.old) (F.folder files.new) text) }
 
     // The command's files grow by the front of what it appends, one after the other, and only on Done and faults of writing; no other
     // file changes.
@@ -153,8 +177,10 @@ pub fn run<F: Files, O: Sink>(alloc: Global, words: &[String], files: &mut F, ou
     ensures files { Changes (command_of (map string_bytes words.now)) (F.folder files.old) (F.folder files.new) }
 
     // No count falls, and only those of the files that the command reads and appends to may rise.
-    ensures loads { CountsAmong (inputs (command_of (map string_bytes words.now))) (F.folder files.old).load_faults (F.folder files.new).load_faults }
-    ensures appends { CountsAmong (outputs (command_of (map string_bytes words.now))) (F.folder files.old).append_faults (F.folder files.new).append_faults }
+    ensures loads { CountsAmong (inputs (command_of (map string_bytes words.now))) (F.folder files.old).load_faults
+        (F.folder files.new).load_faults }
+    ensures appends { CountsAmong (outputs (command_of (map string_bytes words.now)))
+        (F.folder files.old).append_faults (F.folder files.new).append_faults }
     ensures faults { (O.output out.old).faults ≤ (O.output out.new).faults }
 {
     headline();

@@ -15,7 +15,8 @@ pub record AreMultipliers (which : Multiplier) (rows : List RowValue) (numbers :
 
 -- for each bidder the sum over the rows that hold it
 abbrev pub AreSums : Multiplier → ℕ → List RowValue → List ℤ → Type 0
-AreSums which bidders rows sums = (j : ℕ) → 0 < j → j ≤ bidders → of_bidder sums j ≡ sum_holding rows j (multiplier_of which) (length rows)
+AreSums which bidders rows sums = (j : ℕ) → 0 < j → j ≤ bidders
+    → of_bidder sums j ≡ sum_holding rows j (multiplier_of which) (length rows)
 
 -- the first ones, and their sums
 abbrev pub AreFirsts : List RowValue → List ℤ → Type 0

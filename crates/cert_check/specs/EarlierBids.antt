@@ -18,11 +18,13 @@ StaysBelow book j line rest bound i =
 -- so do all bids of bidder j that come before its number in the choice
 abbrev pub AllStayBelow : Book → List ℕ → ℕ → List ℤ → ℕ → ℤ → Type 0
 AllStayBelow book choice j line rest bound =
-    (i : ℕ) → IsTrue (is_number_before i (number_of choice j)) → i ≤ length (bids_of book j) → StaysBelow book j line rest bound i
+    (i : ℕ) → IsTrue (is_number_before i (number_of choice j)) → i ≤ length (bids_of book j)
+    → StaysBelow book j line rest bound i
 
 -- what the last part of C3 asks of bidder j
 abbrev pub NoneEarlier : Book → CertValue → ℕ → Type 0
-NoneEarlier book c j = (k : ℕ) → k < bidders_of book → j ≡ suc k → NoEarlier (menu_of book) (net_of book) book.supply c.table c.choice c.value k
+NoneEarlier book c j = (k : ℕ) → k < bidders_of book → j ≡ suc k
+    → NoEarlier (menu_of book) (net_of book) book.supply c.table c.choice c.value k
 
 -- what the bids of the first k bidders of a choice leave of the supply and of the value; the bids behind them fit it
 pub record IsLeft (book : Book) (choice : List ℕ) (value : ℤ) (k rest : ℕ) (bound : ℤ) : Type 0 where

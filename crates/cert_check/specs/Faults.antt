@@ -21,7 +21,8 @@ CoversRun rule start stop s = start ≤ s → s < stop → Covers rule s
 
 -- the rule at those of the first `some` places of a block where the package fits
 abbrev pub CoversSome : LineRule → ℕ → List ℕ → List ℕ → ℕ → ℕ → Type 0
-CoversSome rule base supply lots some s = (n : ℕ) → n < some → s ≡ base + n → IsTrue (is_within lots (left_at supply n)) → Covers rule s
+CoversSome rule base supply lots some s = (n : ℕ) → n < some → s ≡ base + n
+    → IsTrue (is_within lots (left_at supply n)) → Covers rule s
 
 -- at all places of the block: it has one for each state of these categories
 abbrev pub CoversBlock : LineRule → ℕ → List ℕ → List ℕ → ℕ → Type 0

@@ -34,4 +34,5 @@ worth_without book choice withouts j = if uses choice j then value_of (market_of
 
 -- for each bidder that number
 abbrev pub AreValuesWithout : Book → List ℕ → List WithoutValue → List ℤ → Type 0
-AreValuesWithout book choice withouts values = (j : ℕ) → 0 < j → j ≤ bidders_of book → of_bidder values j ≡ worth_without book choice withouts j
+AreValuesWithout book choice withouts values = (j : ℕ) → 0 < j → j ≤ bidders_of book
+    → of_bidder values j ≡ worth_without book choice withouts j

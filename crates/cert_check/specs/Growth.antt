@@ -6,7 +6,8 @@ use Rattle.wide_num.specs.Sums.{nth}
 
 -- where more is left of each category, the line has at least as much
 abbrev pub Grows : List ℕ → List ℤ → Type 0
-Grows supply line = (s t : ℕ) → s < states_of supply → t < states_of supply → IsTrue (is_within (left_at supply s) (left_at supply t)) → nth line s ≤ℤ nth line t
+Grows supply line = (s t : ℕ) → s < states_of supply → t < states_of supply
+    → IsTrue (is_within (left_at supply s) (left_at supply t)) → nth line s ≤ℤ nth line t
 
 -- no number is below the one so many places before it
 abbrev pub RisesBy : ℕ → List ℤ → Type 0

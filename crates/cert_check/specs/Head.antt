@@ -29,4 +29,5 @@ pub record IsHead (book : Book) (den value : ℤ) (choice : List ℕ) : Type 0 w
   pub allowed : IsTrue ((market_of book).allowed choice)
   pub reached : value_of (market_of book) choice ≡ value
   pub most : (d : List ℕ) → IsTrue ((market_of book).allowed d) → value_of (market_of book) d ≤ℤ value
-  pub nets : (j i : ℕ) → 0 < j → j ≤ bidders_of book → i ≤ length (bids_of book j) → (pos 0 ≤ℤ net_of book j i) × (net_of book j i ≤ℤ value)
+  pub nets : (j i : ℕ) → 0 < j → j ≤ bidders_of book → i ≤ length (bids_of book j)
+      → (pos 0 ≤ℤ net_of book j i) × (net_of book j i ≤ℤ value)

@@ -52,7 +52,8 @@ RulesAt o table place =
 
 -- a whole table: the rules of its lines, and behind them what line 0 may have at most for the whole supply
 pub record TableAt (m : Menu) (worth : ℕ → ℕ → ℤ) (supply : List ℕ) (table : List (List ℤ)) (most : ℤ) (place : ℕ) : Type 0 where
-  pub rules : (k s : ℕ) → k ≤ m.bidders → s < states_of supply → place ≡ k * states_of supply + s → ObeysAt m worth supply table k s
+  pub rules : (k s : ℕ) → k ≤ m.bidders → s < states_of supply → place ≡ k * states_of supply + s
+      → ObeysAt m worth supply table k s
   pub top : place ≡ (m.bidders + 1) * states_of supply → entry_at table 0 (states_of supply - 1) ≤ℤ most
 
 abbrev pub TestsTable : Offers → List (List ℤ) → ℤ → ℕ → Type 0

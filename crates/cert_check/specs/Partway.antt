@@ -22,7 +22,8 @@ failure_at test (Some place) = Some (record { test = test; place = place })
 -- of the first n places behind a base, this is the first at which the test fails, or none does
 abbrev pub IsLate : Book → (ℕ → ℕ) → CertValue → ℕ → ℕ → ℕ → Option ℕ → Type 0
 IsLate book w c test base n None = (i : ℕ) → i < n → Asks book w c test (base + i)
-IsLate book w c test base n (Some p) = (p < n) × (Asks book w c test (base + p) → ⊥) × ((i : ℕ) → i < p → Asks book w c test (base + i))
+IsLate book w c test base n (Some p) = (p < n) × (Asks book w c test (base + p) → ⊥)
+    × ((i : ℕ) → i < p → Asks book w c test (base + i))
 
 -- a place that stays in 64 bits behind another
 abbrev pub IsSmallPlace : Option ℕ → Type 0

@@ -12,14 +12,16 @@ worth_with book den gains j i = (den *ℤ net_of book j i) -ℤ of_bidder gains 
 -- each bidder has a gain, and no worth is too large
 pub record HasSmallWorths (book : Book) (den : ℤ) (gains : List ℤ) : Type 0 where
   pub count : bidders_of book ≤ length gains
-  pub nets : (j i : ℕ) → 0 < j → j ≤ bidders_of book → i ≤ length (bids_of book j) → unsigned_abs (den *ℤ net_of book j i) < 2 ^ 120
+  pub nets : (j i : ℕ) → 0 < j → j ≤ bidders_of book → i ≤ length (bids_of book j)
+      → unsigned_abs (den *ℤ net_of book j i) < 2 ^ 120
   pub gained : (j : ℕ) → 0 < j → j ≤ bidders_of book → unsigned_abs (of_bidder gains j) < 2 ^ 121
 
 pub record CanLower (book : Book) (den : ℤ) (choice : List ℕ) (pay : List ℤ) : Type 0 where
   pub numbers : length choice ≡ bidders_of book
   pub payments : length pay ≡ bidders_of book
   pub known : (j : ℕ) → 0 < j → j ≤ bidders_of book → number_of choice j ≤ length (bids_of book j)
-  pub nets : (j i : ℕ) → 0 < j → j ≤ bidders_of book → i ≤ length (bids_of book j) → unsigned_abs (den *ℤ net_of book j i) < 2 ^ 120
+  pub nets : (j i : ℕ) → 0 < j → j ≤ bidders_of book → i ≤ length (bids_of book j)
+      → unsigned_abs (den *ℤ net_of book j i) < 2 ^ 120
   pub paid : (j : ℕ) → unsigned_abs (of_bidder pay j) < 2 ^ 120
 
 -- what a winner gains at the payments, times the denominator

@@ -54,7 +54,8 @@ pub fn add_row(sums: &mut [i128], members: &[u16], multiplier: i128)
     requires sizes { (k : ℕ) → unsigned_abs (nth sums.old k) ≤ 15 * 2 ^ 120 }
     requires multiplier { unsigned_abs multiplier ≤ 2 ^ 120 }
     ensures room { length sums.new ≡ length sums.old }
-    ensures sums { (j : ℕ) → 0 < j → j ≤ length sums.old → of_bidder sums.new j ≡ of_bidder sums.old j +ℤ (if is_member members.now j then multiplier else pos 0) }
+    ensures sums { (j : ℕ) → 0 < j → j ≤ length sums.old
+        → of_bidder sums.new j ≡ of_bidder sums.old j +ℤ (if is_member members.now j then multiplier else pos 0) }
 {
     for k in 0..sums.len() {
         sums[k] += counted(is_among(members, k as u16 + 1), multiplier);

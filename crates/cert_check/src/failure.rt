@@ -22,7 +22,8 @@ pub struct Failure {
 /// is none.
 pub fn of_test(test: u8, found: Option<u64>) -> Option<Failure>
     requires test { test < 10 }
-    ensures judged { (book : Book) (w : ℕ → ℕ) (c : CertValue) → HoldsTo book w c test 0 → IsFirstFailing (Asks book w c test) found → IsJudged book w c (test + 1) 0 result }
+    ensures judged { (book : Book) (w : ℕ → ℕ) (c : CertValue) → HoldsTo book w c test 0
+        → IsFirstFailing (Asks book w c test) found → IsJudged book w c (test + 1) 0 result }
     ensures failure { result ≡ failure_at test found }
 {
     match found {
@@ -40,7 +41,9 @@ pub fn behind_table(
 ) -> Option<Failure>
     requires late { IsSmallPlace late }
     requires base { base < 2 ^ 62 }
-    ensures { (book : Book) (w : ℕ → ℕ) (c : CertValue) (n : ℕ) → IsJudged book w c test base failed → IsLate book w c test base n late → ((q : ℕ) → base + n ≤ q → Asks book w c test q) → IsJudged book w c (test + 1) 0 result }
+    ensures { (book : Book) (w : ℕ → ℕ) (c : CertValue) (n : ℕ) → IsJudged book w c test base failed
+        → IsLate book w c test base n late → ((q : ℕ) → base + n ≤ q → Asks book w c test q)
+        → IsJudged book w c (test + 1) 0 result }
 {
     match failed {
         Some(failure) => Some(failure),
@@ -52,7 +55,9 @@ pub fn behind_table(
 fn of_table(test: u8, base: u64, late: Option<u64>) -> Option<Failure>
     requires late { IsSmallPlace late }
     requires base { base < 2 ^ 62 }
-    ensures { (book : Book) (w : ℕ → ℕ) (c : CertValue) (n : ℕ) → HoldsTo book w c test base → IsLate book w c test base n late → ((q : ℕ) → base + n ≤ q → Asks book w c test q) → IsJudged book w c (test + 1) 0 result }
+    ensures { (book : Book) (w : ℕ → ℕ) (c : CertValue) (n : ℕ) → HoldsTo book w c test base
+        → IsLate book w c test base n late → ((q : ℕ) → base + n ≤ q → Asks book w c test q)
+        → IsJudged book w c (test + 1) 0 result }
 {
     match late {
         Some(place) => Some(Failure {
@@ -65,7 +70,9 @@ fn of_table(test: u8, base: u64, late: Option<u64>) -> Option<Failure>
 
 /// What is found early, with one more place of those behind the rules.
 pub fn with_late(late: Option<u64>, place: u64, holds: bool) -> Option<u64>
-    ensures { (book : Book) (w : ℕ → ℕ) (c : CertValue) (test base : ℕ) → IsLate book w c test base place late → (late ≡ None → IsTrue holds ↔ Asks book w c test (base + place)) → IsLate book w c test base (place + 1) result }
+    ensures { (book : Book) (w : ℕ → ℕ) (c : CertValue) (test base : ℕ) → IsLate book w c test base place late
+        → (late ≡ None → IsTrue holds ↔ Asks book w c test (base + place))
+        → IsLate book w c test base (place + 1) result }
 {
     match late {
         Some(earlier) => Some(earlier),
@@ -75,7 +82,8 @@ pub fn with_late(late: Option<u64>, place: u64, holds: bool) -> Option<u64>
 
 /// The place, where it fails.
 fn one_late(place: u64, holds: bool) -> Option<u64>
-    ensures { (book : Book) (w : ℕ → ℕ) (c : CertValue) (test base : ℕ) → IsLate book w c test base place None → (IsTrue holds ↔ Asks book w c test (base + place)) → IsLate book w c test base (place + 1) result }
+    ensures { (book : Book) (w : ℕ → ℕ) (c : CertValue) (test base : ℕ) → IsLate book w c test base place None
+        → (IsTrue holds ↔ Asks book w c test (base + place)) → IsLate book w c test base (place + 1) result }
 {
     if holds { None } else { Some(place) }
 }

@@ -20,7 +20,8 @@ use crate::sums::amounts::{is_equal, times, won};
 pub fn first_test(claim: &Claim, first: &Column) -> Option<u64>
     requires few { length first.now.numbers.now ≤ 10 }
     requires sums { bidders_of claim.now.book.now ≤ length first.now.sums.now }
-    ensures { (c : CertValue) → IsOf claim.now c → AreFirsts c.rows first.now.numbers.now → AreFirstSums (bidders_of claim.now.book.now) c.rows first.now.sums.now
+    ensures { (c : CertValue) → IsOf claim.now c → AreFirsts c.rows first.now.numbers.now
+        → AreFirstSums (bidders_of claim.now.book.now) c.rows first.now.sums.now
         → IsFirstFailing (C7 claim.now.book.now c) result }
 {
     for place in 1..first.numbers.len() as u16 + claim.book.bidders() as u16 + 1 {
@@ -36,7 +37,8 @@ fn first_holds(claim: &Claim, first: &Column, place: u16) -> bool
     requires few { length first.now.numbers.now ≤ 10 }
     requires sums { bidders_of claim.now.book.now ≤ length first.now.sums.now }
     requires place { (0 < place) × (place ≤ length first.now.numbers.now + bidders_of claim.now.book.now) }
-    ensures { (rows : List RowValue) → AreFirsts rows first.now.numbers.now → AreFirstSums (bidders_of claim.now.book.now) rows first.now.sums.now
+    ensures { (rows : List RowValue) → AreFirsts rows first.now.numbers.now
+        → AreFirstSums (bidders_of claim.now.book.now) rows first.now.sums.now
         → IsTrue result ↔ C7 claim.now.book.now (cert_with claim.now [] [] rows) place }
 {
     let _bidders = claim.book.bidders();
@@ -78,12 +80,15 @@ pub fn second_test(
 ) -> Option<u64>
     requires pay { (length pay.now ≡ bidders_of claim.now.book.now) × AllInRange pay.now }
     requires count { bidders_of claim.now.book.now ≤ length values.now }
-    requires values { (j : ℕ) → 0 < j → j ≤ bidders_of claim.now.book.now → (pos 0 ≤ℤ of_bidder values.now j) × (of_bidder values.now j ≤ℤ claim.now.value) }
+    requires values { (j : ℕ) → 0 < j → j ≤ bidders_of claim.now.book.now
+        → (pos 0 ≤ℤ of_bidder values.now j) × (of_bidder values.now j ≤ℤ claim.now.value) }
     requires rows { (length second.now.numbers.now ≡ length firsts.now) × (length firsts.now ≤ 10) }
     requires sums { bidders_of claim.now.book.now ≤ length second.now.sums.now }
     requires weights { AreWeights (bidders_of claim.now.book.now) weights.now }
-    ensures { (c : CertValue) → IsOf claim.now c → c.pay ≡ pay.now → AreValuesWithout claim.now.book.now c.choice c.withouts values.now
-        → AreFirsts c.rows firsts.now → AreSeconds c.rows second.now.numbers.now → AreSecondSums (bidders_of claim.now.book.now) c.rows second.now.sums.now
+    ensures { (c : CertValue) → IsOf claim.now c → c.pay ≡ pay.now
+        → AreValuesWithout claim.now.book.now c.choice c.withouts values.now
+        → AreFirsts c.rows firsts.now → AreSeconds c.rows second.now.numbers.now
+        → AreSecondSums (bidders_of claim.now.book.now) c.rows second.now.sums.now
         → IsFirstFailing (C8 claim.now.book.now (weight_of weights.now) c) result }
 {
     for place in 1..firsts.len() as u16 + claim.book.bidders() as u16 + 1 {
@@ -106,14 +111,18 @@ fn second_holds(
 ) -> bool
     requires pay { (length pay.now ≡ bidders_of claim.now.book.now) × AllInRange pay.now }
     requires count { bidders_of claim.now.book.now ≤ length values.now }
-    requires values { (j : ℕ) → 0 < j → j ≤ bidders_of claim.now.book.now → (pos 0 ≤ℤ of_bidder values.now j) × (of_bidder values.now j ≤ℤ claim.now.value) }
+    requires values { (j : ℕ) → 0 < j → j ≤ bidders_of claim.now.book.now
+        → (pos 0 ≤ℤ of_bidder values.now j) × (of_bidder values.now j ≤ℤ claim.now.value) }
     requires rows { (length second.now.numbers.now ≡ length firsts.now) × (length firsts.now ≤ 10) }
     requires sums { bidders_of claim.now.book.now ≤ length second.now.sums.now }
     requires weights { AreWeights (bidders_of claim.now.book.now) weights.now }
     requires place { (0 < place) × (place ≤ length firsts.now + bidders_of claim.now.book.now) }
-    ensures { (withouts : List WithoutValue) (rows : List RowValue) → AreValuesWithout claim.now.book.now claim.now.choice.now withouts values.now
-        → AreFirsts rows firsts.now → AreSeconds rows second.now.numbers.now → AreSecondSums (bidders_of claim.now.book.now) rows second.now.sums.now
-        → IsTrue result ↔ C8 claim.now.book.now (weight_of weights.now) (cert_with claim.now withouts pay.now rows) place }
+    ensures { (withouts : List WithoutValue) (rows : List RowValue)
+        → AreValuesWithout claim.now.book.now claim.now.choice.now withouts values.now
+        → AreFirsts rows firsts.now → AreSeconds rows second.now.numbers.now
+        → AreSecondSums (bidders_of claim.now.book.now) rows second.now.sums.now
+        → IsTrue result
+        ↔ C8 claim.now.book.now (weight_of weights.now) (cert_with claim.now withouts pay.now rows) place }
 {
     let _bidders = claim.book.bidders();
     let count = firsts.len() as u16;
@@ -149,7 +158,9 @@ pub(crate) fn is_nearest(
     requires weight { (1 ≤ weight) × (weight ≤ 20) }
     requires bidder { (0 < j) × (j ≤ bidders_of claim.now.book.now) }
     ensures { IsTrue result ↔ (IsTrue (uses claim.now.choice.now j)
-        → payment -ℤ (claim.now.den *ℤ ((without -ℤ claim.now.value) +ℤ worth_in (market_of claim.now.book.now) claim.now.choice.now j)) ≡ pos weight *ℤ sum) }
+        → payment -ℤ (claim.now.den
+        *ℤ ((without -ℤ claim.now.value) +ℤ worth_in (market_of claim.now.book.now) claim.now.choice.now j))
+        ≡ pos weight *ℤ sum) }
 {
     if claim.number(j) == 0 {
         return true;
@@ -162,7 +173,8 @@ pub(crate) fn is_nearest(
 fn vickrey(claim: &Claim, without: i128, j: u16) -> i128
     requires without { (pos 0 ≤ℤ without) × (without ≤ℤ claim.now.value) }
     requires bidder { (0 < j) × (j ≤ bidders_of claim.now.book.now) }
-    ensures price { result ≡ (without -ℤ claim.now.value) +ℤ worth_in (market_of claim.now.book.now) claim.now.choice.now j }
+    ensures price { result
+        ≡ (without -ℤ claim.now.value) +ℤ worth_in (market_of claim.now.book.now) claim.now.choice.now j }
     ensures kept { IsBidBook claim.now.book.now }
 {
     let won = won(claim.book, claim.choice, j);

@@ -46,7 +46,8 @@ fn shows_best(book: &BidBook, whole: &Grid, part: &WithoutPart, j: u16) -> bool
 /// Whether the part without bidder `j` shows the best choice without it.
 fn has_part(book: &BidBook, whole: &Grid, parts: &[WithoutPart], j: u16) -> bool
     requires bidder { (0 < j) × (j ≤ bidders_of book.now) }
-    requires parts { (numbers : List ℕ) × AreWithouts (bidders_of book.now) (states book.now) 1 numbers (map without_value parts.now) }
+    requires parts { (numbers : List ℕ)
+        × AreWithouts (bidders_of book.now) (states book.now) 1 numbers (map without_value parts.now) }
     requires shape { IsTable (bidders_of book.now) (states book.now) whole.now }
     requires rules { Obeys (menu_of book.now) (net_of book.now) book.now.supply whole.now }
     ensures { IsTrue result ↔ IsPart book.now j (part_of (map without_value parts.now) j) }
@@ -62,10 +63,14 @@ fn has_part(book: &BidBook, whole: &Grid, parts: &[WithoutPart], j: u16) -> bool
 /// The first winner whose part doesn't show the best choice without it: its choice isn't known, uses the winner or doesn't fit,
 /// or its table breaks a rule or has more for the whole supply. `whole` is the table of all bids.
 pub(crate) fn parts_test(claim: &Claim, parts: &[WithoutPart], whole: &Grid) -> Option<u64>
-    requires parts { (numbers : List ℕ) × AreWithouts (bidders_of claim.now.book.now) (states claim.now.book.now) 1 numbers (map without_value parts.now) }
+    requires parts { (numbers : List ℕ)
+        × AreWithouts (bidders_of claim.now.book.now) (states claim.now.book.now) 1 numbers
+        (map without_value parts.now) }
     requires shape { IsTable (bidders_of claim.now.book.now) (states claim.now.book.now) whole.now }
-    requires rules { Obeys (menu_of claim.now.book.now) (net_of claim.now.book.now) claim.now.book.now.supply whole.now }
-    ensures { (c : CertValue) → c.choice ≡ claim.now.choice.now → c.withouts ≡ map without_value parts.now → IsFirstFailing (C4 claim.now.book.now c) result }
+    requires rules { Obeys (menu_of claim.now.book.now)
+        (net_of claim.now.book.now) claim.now.book.now.supply whole.now }
+    ensures { (c : CertValue) → c.choice ≡ claim.now.choice.now → c.withouts ≡ map without_value parts.now
+        → IsFirstFailing (C4 claim.now.book.now c) result }
 {
     for k in 0..claim.book.bidders() {
         let j = k as u16 + 1;
@@ -78,7 +83,8 @@ pub(crate) fn parts_test(claim: &Claim, parts: &[WithoutPart], whole: &Grid) -> 
 
 /// Writes the value of the choice without each winner, bidder by bidder from the first number on, and 0 for a loser.
 pub(crate) fn put_values(claim: &Claim, parts: &[WithoutPart], values: &mut [i128])
-    requires parts { (j : ℕ) → 0 < j → j ≤ bidders_of claim.now.book.now → IsTrue (uses claim.now.choice.now j) → IsPart claim.now.book.now j (part_of (map without_value parts.now) j) }
+    requires parts { (j : ℕ) → 0 < j → j ≤ bidders_of claim.now.book.now → IsTrue (uses claim.now.choice.now j)
+        → IsPart claim.now.book.now j (part_of (map without_value parts.now) j) }
     requires room { bidders_of claim.now.book.now ≤ length values.old }
     ensures room { length values.new ≡ length values.old }
     ensures values { AreValuesWithout claim.now.book.now claim.now.choice.now (map without_value parts.now) values.new }
@@ -90,7 +96,8 @@ pub(crate) fn put_values(claim: &Claim, parts: &[WithoutPart], values: &mut [i12
 
 /// The value of the choice without bidder `j`, and 0 where it loses.
 fn part_value(claim: &Claim, parts: &[WithoutPart], j: u16) -> i128
-    requires parts { (i : ℕ) → 0 < i → i ≤ bidders_of claim.now.book.now → IsTrue (uses claim.now.choice.now i) → IsPart claim.now.book.now i (part_of (map without_value parts.now) i) }
+    requires parts { (i : ℕ) → 0 < i → i ≤ bidders_of claim.now.book.now → IsTrue (uses claim.now.choice.now i)
+        → IsPart claim.now.book.now i (part_of (map without_value parts.now) i) }
     requires bidder { (0 < j) × (j ≤ bidders_of claim.now.book.now) }
     ensures { result ≡ worth_without claim.now.book.now claim.now.choice.now (map without_value parts.now) j }
 {

@@ -23,7 +23,8 @@ use choices::value_among;
 pub(crate) fn rows_test(claim: &Claim, pay: &[i128], rows: &[CertRow]) -> Option<u64>
     requires pay { (length pay.now ≡ bidders_of claim.now.book.now) × AllInRange pay.now }
     requires rows { AreRows (bidders_of claim.now.book.now) (map row_value rows.now) }
-    ensures { (c : CertValue) → IsOf claim.now c → c.pay ≡ pay.now → c.rows ≡ map row_value rows.now → IsFirstFailing (C6 claim.now.book.now c) result }
+    ensures { (c : CertValue) → IsOf claim.now c → c.pay ≡ pay.now → c.rows ≡ map row_value rows.now
+        → IsFirstFailing (C6 claim.now.book.now c) result }
 {
     for (r, row) in rows.iter().enumerate() {
         if !row_holds(claim, pay, row.members.items(), row.choice.numbers()) {
@@ -38,7 +39,8 @@ pub fn row_holds(claim: &Claim, pay: &[i128], members: &[u16], choice: &[u16]) -
     requires pay { (length pay.now ≡ bidders_of claim.now.book.now) × AllInRange pay.now }
     requires members { AreMembers (bidders_of claim.now.book.now) 0 members.now }
     requires choice { length choice.now ≡ bidders_of claim.now.book.now }
-    ensures { (c : CertValue) (row : RowValue) → IsOf claim.now c → c.pay ≡ pay.now → row.members ≡ members.now → row.choice ≡ choice.now → IsTrue result ↔ IsTightRow claim.now.book.now c row }
+    ensures { (c : CertValue) (row : RowValue) → IsOf claim.now c → c.pay ≡ pay.now → row.members ≡ members.now
+        → row.choice ≡ choice.now → IsTrue result ↔ IsTightRow claim.now.book.now c row }
 {
     pays_tightly(claim, pay, members, choice)
 }
@@ -48,7 +50,8 @@ fn pays_tightly(claim: &Claim, pay: &[i128], members: &[u16], choice: &[u16]) ->
     requires pay { (length pay.now ≡ bidders_of claim.now.book.now) × AllInRange pay.now }
     requires members { AreMembers (bidders_of claim.now.book.now) 0 members.now }
     requires choice { length choice.now ≡ bidders_of claim.now.book.now }
-    ensures { IsTrue result ↔ IsTightRow claim.now.book.now (cert_with claim.now [] pay.now []) (row_with members.now choice.now) }
+    ensures { IsTrue result
+        ↔ IsTightRow claim.now.book.now (cert_with claim.now [] pay.now []) (row_with members.now choice.now) }
 {
     if !uses_all(claim.choice, members) || !uses_none(choice, members) {
         return false;
@@ -64,7 +67,10 @@ fn is_tight(claim: &Claim, pay: &[i128], members: &[u16], choice: &[u16]) -> boo
     requires pay { (length pay.now ≡ bidders_of claim.now.book.now) × AllInRange pay.now }
     requires allowed { IsTrue ((market_of claim.now.book.now).allowed choice.now) }
     ensures { IsTrue result ↔ (sum_over (is_member members.now) (of_bidder pay.now) (bidders_of claim.now.book.now)
-        ≡ claim.now.den *ℤ (value_of (market_of claim.now.book.now) choice.now -ℤ sum_over (λ j. not (is_member members.now j)) (worth_in (market_of claim.now.book.now) claim.now.choice.now) (bidders_of claim.now.book.now))) }
+        ≡ claim.now.den
+        *ℤ (value_of (market_of claim.now.book.now) choice.now
+        -ℤ sum_over (λ j. not (is_member members.now j))
+        (worth_in (market_of claim.now.book.now) claim.now.choice.now) (bidders_of claim.now.book.now))) }
 {
     let rest = value_among(claim.book, choice) - won_beside(claim.book, claim.choice, members);
     paid_by(pay, members) == times(claim.den, rest)

@@ -46,7 +46,9 @@ pub fn paid_by(payments: &[i128], members: &[u16]) -> i128
 /// What the bids of the others count in the choice.
 pub(crate) fn won_beside(book: &BidBook, choice: &[u16], members: &[u16]) -> i128
     requires known { IsTrue (is_known_after (menu_of book.now) 0 choice.now) }
-    ensures sum { result ≡ sum_over (λ j. not (is_member members.now j)) (worth_in (market_of book.now) choice.now) (bidders_of book.now) }
+    ensures sum { result
+        ≡ sum_over (λ j. not (is_member members.now j)) (worth_in (market_of book.now) choice.now)
+        (bidders_of book.now) }
     ensures kept { IsBidBook book.now }
 {
     let mut sum = 0i128;

@@ -38,7 +38,8 @@ pub(crate) fn value_test(book: &BidBook, choice: &[u16], value: i128, table: &Gr
     requires allowed { IsTrue ((market_of book.now).allowed choice.now) }
     requires value { unsigned_abs value < 2 ^ 120 }
     requires table { IsTable (bidders_of book.now) (states book.now) table.now }
-    ensures { (c : CertValue) → c.choice ≡ choice.now → c.value ≡ value → c.table ≡ table.now → IsFirstFailing (C3 book.now c) result }
+    ensures { (c : CertValue) → c.choice ≡ choice.now → c.value ≡ value → c.table ≡ table.now
+        → IsFirstFailing (C3 book.now c) result }
 {
     value_fault(book, choice, value, table)
 }
@@ -71,7 +72,8 @@ fn value_fault(book: &BidBook, choice: &[u16], value: i128, table: &Grid) -> Opt
 pub(crate) fn lowered_test(claim: &Claim, pay: &[i128], table: &Grid) -> Option<u64>
     requires pay { (length pay.now ≡ bidders_of claim.now.book.now) × AllInRange pay.now }
     requires table { IsTable (bidders_of claim.now.book.now) (states claim.now.book.now) table.now }
-    ensures { (c : CertValue) → IsOf claim.now c → c.pay ≡ pay.now → c.lowered ≡ table.now → IsFirstFailing (C9 claim.now.book.now c) result }
+    ensures { (c : CertValue) → IsOf claim.now c → c.pay ≡ pay.now → c.lowered ≡ table.now
+        → IsFirstFailing (C9 claim.now.book.now c) result }
 {
     let _bidders = claim.book.bidders();
     let paid = sum_paid(pay);

@@ -46,7 +46,8 @@ pub fn facts(alloc: Global, book: &BidBook, cert: &Certificate) -> Result<CertFa
 // The winner of each part alone, in order.
 fn singles(alloc: Global, book: &BidBook, cert: &Certificate) -> Result<Singles, AllocError>
     requires { HasFacts book.now (cert_value cert.now) }
-    ensures { IfOk result (λ list. list ≡ map (single_of book.now (cert_value cert.now)) (map without_value cert.now.withouts)) }
+    ensures { IfOk result
+        (λ list. list ≡ map (single_of book.now (cert_value cert.now)) (map without_value cert.now.withouts)) }
 {
     let mut singles = Singles::new(alloc);
     for part in cert.withouts.items() {

@@ -73,7 +73,8 @@ AreWithouts bidders states j [] [] = Unit {0}
 AreWithouts bidders states j [] (w ∷ ws) = ⊥
 AreWithouts bidders states j (zero ∷ ns) ws = AreWithouts bidders states (suc j) ns ws
 AreWithouts bidders states j (suc n ∷ ns) [] = ⊥
-AreWithouts bidders states j (suc n ∷ ns) (w ∷ ws) = IsWithout bidders states j w × AreWithouts bidders states (suc j) ns ws
+AreWithouts bidders states j (suc n ∷ ns) (w ∷ ws) = IsWithout bidders states j w
+    × AreWithouts bidders states (suc j) ns ws
 
 -- rising, each above the one before and at most the number of bidders
 abbrev pub AreMembers : ℕ → ℕ → List ℕ → Type 0

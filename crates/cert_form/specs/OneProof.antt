@@ -17,7 +17,8 @@ pub AreTableLines-prop : (states : ℕ) (table : List (List ℤ)) → IsProp (Ar
 AreTableLines-prop states [] = Prim.hlevel logic.props
 AreTableLines-prop states (t ∷ table) = Prim.hlevel (logic.props, AllInRange-prop, AreTableLines-prop states table)
 
-AreWithouts-prop : (bidders states j : ℕ) (choice : List ℕ) (ws : List WithoutValue) → IsProp (AreWithouts bidders states j choice ws)
+AreWithouts-prop : (bidders states j : ℕ) (choice : List ℕ) (ws : List WithoutValue)
+    → IsProp (AreWithouts bidders states j choice ws)
 AreWithouts-prop bidders states j [] [] = Prim.hlevel logic.props
 AreWithouts-prop bidders states j [] (w ∷ ws) = Prim.hlevel
 AreWithouts-prop bidders states j (zero ∷ ns) ws = AreWithouts-prop bidders states (suc j) ns ws

@@ -12,6 +12,7 @@ cert_text c = text_of (lines (cert_lines c))
 -- For so many bidders and states: the certificate that the bytes are the text of; or the place where the first faulty line
 -- begins; or the place where the first line begins that has a number out of range, the lines up to it being of right form.
 abbrev pub CertSays : ℕ → ℕ → List ℕ → Said CertValue ℕ → Type 0
-CertSays bidders states bytes (stated c) = IsCertificate bidders states c × IsTextOf (IsCertText bidders states) lines bytes (cert_lines c)
+CertSays bidders states bytes (stated c) = IsCertificate bidders states c
+    × IsTextOf (IsCertText bidders states) lines bytes (cert_lines c)
 CertSays bidders states bytes (faulty place) = FaultAt (IsCertText bidders states) lines bytes place
 CertSays bidders states bytes (beyond place) = Exceeds (IsCertText bidders states) lines bytes place

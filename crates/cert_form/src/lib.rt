@@ -13,10 +13,12 @@ ghost use Rattle.cert_form.specs.Says.{cert_text, CertSays};
 /// Bytes say at most one thing of a certificate: a certificate, where the first faulty line begins, or where the first line begins
 /// that is of right form and has a number out of range.
 pub fn one_cert()
-    ensures { (bidders states : ℕ) (bytes : List ℕ) (x y : Said CertValue ℕ) → CertSays bidders states bytes x → CertSays bidders states bytes y → x ≡ y }
+    ensures { (bidders states : ℕ) (bytes : List ℕ) (x y : Said CertValue ℕ) → CertSays bidders states bytes x
+        → CertSays bidders states bytes y → x ≡ y }
 {}
 
 /// The text of a certificate states it, so each certificate has a text.
 pub fn text_of_cert()
-    ensures { (bidders states : ℕ) (c : CertValue) → bidders < 2 ^ 100 → IsCertificate bidders states c → CertSays bidders states (cert_text c) (stated c) }
+    ensures { (bidders states : ℕ) (c : CertValue) → bidders < 2 ^ 100 → IsCertificate bidders states c
+        → CertSays bidders states (cert_text c) (stated c) }
 {}

@@ -12,7 +12,8 @@ won_in m c j = worth_in m c.choice j
 
 -- a winner pays at least 0 and at most what its bid is worth, and a loser nothing
 pub record PaysWithinBids (m : Market) (c : CertValue) (place : ℕ) : Type 0 where
-  pub winner : 0 < place → place ≤ m.bidders → IsTrue (uses c.choice place) → (pos 0 ≤ℤ of_bidder c.pay place) × (of_bidder c.pay place ≤ℤ (c.den *ℤ won_in m c place))
+  pub winner : 0 < place → place ≤ m.bidders → IsTrue (uses c.choice place)
+      → (pos 0 ≤ℤ of_bidder c.pay place) × (of_bidder c.pay place ≤ℤ (c.den *ℤ won_in m c place))
   pub loser : 0 < place → place ≤ m.bidders → IsFalse (uses c.choice place) → of_bidder c.pay place ≡ pos 0
 
 -- a row: its members win, its choice is known, fits and uses no member, and what its members pay is just what the choice asks of them
@@ -35,7 +36,8 @@ sum_holding rows j number (suc n) = sum_holding rows j number n +ℤ (if is_memb
 -- the first multipliers, at the places of the rows and then of the winners
 pub record ShowsLeastSum (m : Market) (c : CertValue) (place : ℕ) : Type 0 where
   pub sign : 0 < place → place ≤ length c.rows → pos 0 ≤ℤ (row_of c.rows place).first
-  pub columns : (j : ℕ) → 0 < j → j ≤ m.bidders → place ≡ length c.rows + j → IsTrue (uses c.choice j) → sum_holding c.rows j (λ row. row.first) (length c.rows) ≡ c.den
+  pub columns : (j : ℕ) → 0 < j → j ≤ m.bidders → place ≡ length c.rows + j → IsTrue (uses c.choice j)
+      → sum_holding c.rows j (λ row. row.first) (length c.rows) ≡ c.den
 
 -- the Vickrey price of winner j by its part
 abbrev pub vickrey_in : Market → CertValue → ℕ → ℤ
@@ -43,6 +45,7 @@ vickrey_in m c j = (value_of m (part_of c.withouts j).choice -ℤ c.value) +ℤ 
 
 -- the second multipliers, at the same places
 pub record ShowsNearest (m : Market) (w : ℕ → ℕ) (c : CertValue) (place : ℕ) : Type 0 where
-  pub sign : 0 < place → place ≤ length c.rows → (pos 0 <ℤ (row_of c.rows place).first) ⊎ (pos 0 ≤ℤ (row_of c.rows place).second)
+  pub sign : 0 < place → place ≤ length c.rows
+      → (pos 0 <ℤ (row_of c.rows place).first) ⊎ (pos 0 ≤ℤ (row_of c.rows place).second)
   pub columns : (j : ℕ) → 0 < j → j ≤ m.bidders → place ≡ length c.rows + j → IsTrue (uses c.choice j)
       → of_bidder c.pay j -ℤ (c.den *ℤ vickrey_in m c j) ≡ pos (w j) *ℤ sum_holding c.rows j (λ row. row.second) (length c.rows)

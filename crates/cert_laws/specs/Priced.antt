@@ -23,6 +23,7 @@ pub record IsPricedCert (book : Book) (w : ℕ → ℕ) (c : CertValue) : Type 0
   pub holds : Holds book w c
   pub winning : IsWinning (market_of book) c.choice
   pub table : IsExactTable (menu_of book) (net_of book) book.supply c.table
-  pub parts : (j : ℕ) → 0 < j → j ≤ bidders_of book → IsTrue (uses c.choice j) → IsBestPart book j (part_of c.withouts j)
+  pub parts : (j : ℕ) → 0 < j → j ≤ bidders_of book → IsTrue (uses c.choice j)
+      → IsBestPart book j (part_of c.withouts j)
   pub outcome : IsCoreOutcome (market_of book) w c.choice (cert_point c)
   pub table_lowered : IsExactTable (menu_of book) (lowered c.den (net_of book) (surpluses_of (market_of book) c.choice c.den c.pay)) book.supply c.lowered

@@ -16,7 +16,8 @@ use Rattle.cert_form.specs.Certificate.{CertValue, WithoutValue, RowValue, part_
 pub record ObeysAt (m : Menu) (worth : ℕ → ℕ → ℤ) (supply : List ℕ) (table : List (List ℤ)) (k s : ℕ) : Type 0 where
   pub last : k ≡ m.bidders → pos 0 ≤ℤ entry_at table k s
   pub none : k < m.bidders → entry_at table (suc k) s ≤ℤ entry_at table k s
-  pub bid : k < m.bidders → (i : ℕ) → 0 < i → i ≤ m.bids (suc k) → IsTrue (is_within (m.lots (suc k) i) (left_at supply s))
+  pub bid : k < m.bidders → (i : ℕ) → 0 < i → i ≤ m.bids (suc k)
+      → IsTrue (is_within (m.lots (suc k) i) (left_at supply s))
       → (worth (suc k) i +ℤ entry_at table (suc k) (place_of supply (less (left_at supply s) (m.lots (suc k) i)))) ≤ℤ entry_at table k s
 
 -- the rules for all lines and places
@@ -36,7 +37,8 @@ worth_before worth choice (suc k) = worth_before worth choice k +ℤ worth (suc 
 -- no bid of bidder k + 1 that comes before its number in the choice reaches the value, together with the table's entry for what it leaves
 abbrev pub NoEarlier : Menu → (ℕ → ℕ → ℤ) → List ℕ → List (List ℤ) → List ℕ → ℤ → ℕ → Type 0
 NoEarlier m worth supply table choice value k =
-    (i : ℕ) → IsTrue (is_number_before i (number_of choice (suc k))) → i ≤ m.bids (suc k) → IsTrue (is_within (m.lots (suc k) i) (left_after m supply choice k))
+    (i : ℕ) → IsTrue (is_number_before i (number_of choice (suc k))) → i ≤ m.bids (suc k)
+    → IsTrue (is_within (m.lots (suc k) i) (left_after m supply choice k))
     → (worth (suc k) i +ℤ entry_at table (suc k) (place_of supply (less (left_after m supply choice k) (m.lots (suc k) i)))) <ℤ (value -ℤ worth_before worth choice k)
 
 abbrev pub bidders_of : Book → ℕ
@@ -60,9 +62,11 @@ pub record C2 (book : Book) (c : CertValue) (place : ℕ) : Type 0 where
   pub value : place ≡ bidders_of book + 2 → value_of (market_of book) c.choice ≡ c.value
 
 pub record C3 (book : Book) (c : CertValue) (place : ℕ) : Type 0 where
-  pub rules : (k s : ℕ) → k ≤ bidders_of book → s < states book → place ≡ k * states book + s → ObeysAt (menu_of book) (net_of book) book.supply c.table k s
+  pub rules : (k s : ℕ) → k ≤ bidders_of book → s < states book → place ≡ k * states book + s
+      → ObeysAt (menu_of book) (net_of book) book.supply c.table k s
   pub top : place ≡ (bidders_of book + 1) * states book → entry_at c.table 0 (full book) ≤ℤ c.value
-  pub first : (k : ℕ) → k < bidders_of book → place ≡ (bidders_of book + 1) * states book + suc k → NoEarlier (menu_of book) (net_of book) book.supply c.table c.choice c.value k
+  pub first : (k : ℕ) → k < bidders_of book
+      → place ≡ (bidders_of book + 1) * states book + suc k → NoEarlier (menu_of book) (net_of book) book.supply c.table c.choice c.value k
 
 -- a part without winner j: its choice is known, fits and does not use j, and its table shows that no such choice is worth more
 pub record IsPart (book : Book) (j : ℕ) (part : WithoutValue) : Type 0 where
@@ -72,7 +76,8 @@ pub record IsPart (book : Book) (j : ℕ) (part : WithoutValue) : Type 0 where
   pub top : entry_at part.table 0 (full book) ≤ℤ value_of (market_of book) part.choice
 
 pub record C4 (book : Book) (c : CertValue) (place : ℕ) : Type 0 where
-  pub part : 0 < place → place ≤ bidders_of book → IsTrue (uses c.choice place) → IsPart book place (part_of c.withouts place)
+  pub part : 0 < place → place ≤ bidders_of book → IsTrue (uses c.choice place)
+      → IsPart book place (part_of c.withouts place)
 
 -- the net amount of a winner's bid, and 0 for a loser
 abbrev pub won : Book → CertValue → ℕ → ℤ
@@ -103,13 +108,16 @@ abbrev pub lowered_net : Book → CertValue → ℕ → ℕ → ℤ
 lowered_net book c j i = (c.den *ℤ net_of book j i) -ℤ (if uses c.choice j then (c.den *ℤ won book c j) -ℤ of_bidder c.pay j else pos 0)
 
 pub record C9 (book : Book) (c : CertValue) (place : ℕ) : Type 0 where
-  pub rules : (k s : ℕ) → k ≤ bidders_of book → s < states book → place ≡ k * states book + s → ObeysAt (menu_of book) (lowered_net book c) book.supply c.lowered k s
-  pub top : place ≡ (bidders_of book + 1) * states book → entry_at c.lowered 0 (full book) ≤ℤ sum_over everyone (of_bidder c.pay) (bidders_of book)
+  pub rules : (k s : ℕ) → k ≤ bidders_of book → s < states book → place ≡ k * states book + s
+      → ObeysAt (menu_of book) (lowered_net book c) book.supply c.lowered k s
+  pub top : place ≡ (bidders_of book + 1) * states book
+      → entry_at c.lowered 0 (full book) ≤ℤ sum_over everyone (of_bidder c.pay) (bidders_of book)
 
 -- what test t asks at a place
 abbrev pub Asks : Book → (ℕ → ℕ) → CertValue → ℕ → ℕ → Type 0
 Asks book w c t place =
-    (t ≡ 1 → C1 c place) × (t ≡ 2 → C2 book c place) × (t ≡ 3 → C3 book c place) × (t ≡ 4 → C4 book c place) × (t ≡ 5 → C5 book c place)
+    (t ≡ 1 → C1 c place) × (t ≡ 2 → C2 book c place) × (t ≡ 3 → C3 book c place) × (t ≡ 4 → C4 book c place)
+    × (t ≡ 5 → C5 book c place)
     × (t ≡ 6 → C6 book c place) × (t ≡ 7 → C7 book c place) × (t ≡ 8 → C8 book w c place) × (t ≡ 9 → C9 book c place)
 
 -- all tests hold at all places

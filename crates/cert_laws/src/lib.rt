@@ -31,26 +31,34 @@ ghost use Rattle.cert_laws.specs.Tests.{Obeys, bidders_of, states, C5, lowered_n
 /// programming, Bulletin of the American Mathematical Society 60, 1954), and multipliers show a least sum and a least
 /// square distance (Kuhn and Tucker, Nonlinear programming, 1951).
 pub fn sound_yes()
-    ensures { (book : Book) (weights : List ℕ) (c : CertValue) → AreWeights (bidders_of book) weights → length c.choice ≡ bidders_of book → length c.pay ≡ bidders_of book
+    ensures { (book : Book) (weights : List ℕ) (c : CertValue) → AreWeights (bidders_of book) weights
+        → length c.choice ≡ bidders_of book → length c.pay ≡ bidders_of book
         → Holds book (weight_of weights) c → IsSound book (weight_of weights) c }
 {}
 
 /// A certificate has at most one verdict: not both that all tests hold and that one fails first, and at most one place of one test at which
 /// it fails first.
 pub fn one_verdict()
-    ensures one { (book : Book) (w : ℕ → ℕ) (c : CertValue) (t p u q : ℕ) → FailsFirst book w c t p → FailsFirst book w c u q → (t ≡ u) × (p ≡ q) }
-    ensures not_both { (book : Book) (w : ℕ → ℕ) (c : CertValue) (t p : ℕ) → Holds book w c → FailsFirst book w c t p → ⊥ }
+    ensures one { (book : Book) (w : ℕ → ℕ) (c : CertValue) (t p u q : ℕ) → FailsFirst book w c t p
+        → FailsFirst book w c u q → (t ≡ u) × (p ≡ q) }
+    ensures not_both { (book : Book) (w : ℕ → ℕ) (c : CertValue) (t p : ℕ) → Holds book w c → FailsFirst book w c t p
+        → ⊥ }
 {}
 
 /// Exact tables obey the rules that the tests ask of a table: that of the net amounts, that of the net amounts without a
 /// bidder, and, where nobody pays more than its bid and losers pay nothing, that of the worths which are lowered by what
 /// each bidder gains.
 pub fn exact_tables()
-    ensures plain { (book : Book) (table : List (List ℤ)) → IsExactTable (menu_of book) (net_of book) book.supply table → Obeys (menu_of book) (net_of book) book.supply table }
-    ensures without { (book : Book) (j : ℕ) (table : List (List ℤ)) → IsExactTable (without (menu_of book) j) (net_of book) book.supply table
+    ensures plain { (book : Book) (table : List (List ℤ))
+        → IsExactTable (menu_of book) (net_of book) book.supply table
+        → Obeys (menu_of book) (net_of book) book.supply table }
+    ensures without { (book : Book) (j : ℕ) (table : List (List ℤ))
+        → IsExactTable (without (menu_of book) j) (net_of book) book.supply table
         → Obeys (without (menu_of book) j) (net_of book) book.supply table }
-    ensures lowered { (book : Book) (c : CertValue) (table : List (List ℤ)) → length c.pay ≡ bidders_of book → ((place : ℕ) → C5 book c place)
-        → IsExactTable (menu_of book) (lowered c.den (net_of book) (surpluses_of (market_of book) c.choice c.den c.pay)) book.supply table
+    ensures lowered { (book : Book) (c : CertValue) (table : List (List ℤ)) → length c.pay ≡ bidders_of book
+        → ((place : ℕ) → C5 book c place)
+        → IsExactTable (menu_of book)
+        (lowered c.den (net_of book) (surpluses_of (market_of book) c.choice c.den c.pay)) book.supply table
         → Obeys (menu_of book) (lowered_net book c) book.supply table }
 {}
 
@@ -60,6 +68,7 @@ pub fn exact_tables()
 /// A table of net amounts has at most 17 lines of 16,384 entries, each of at most 14 digits, and a certificate has at most seven
 /// of them. The table of lowered worths has entries of at most 37 digits.
 pub fn short_text()
-    ensures { (book : Book) (w : ℕ → ℕ) (c : CertValue) → IsWithinSizes book → IsCertificate (bidders_of book) (states book) c → IsPricedCert book w c → winners_in c.choice ≤ MOST_WINNERS
+    ensures { (book : Book) (w : ℕ → ℕ) (c : CertValue) → IsWithinSizes book
+        → IsCertificate (bidders_of book) (states book) c → IsPricedCert book w c → winners_in c.choice ≤ MOST_WINNERS
         → length (cert_text c) < 57000000 }
 {}

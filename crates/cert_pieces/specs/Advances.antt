@@ -11,7 +11,8 @@ use Rattle.cert_pieces.specs.Standing.{StandsBehind, EndsBehind}
 -- its line feed follows.
 abbrev pub Advances : Reader → List ℤ → List ℕ → List Line → List ℕ → ℕ → Progress → Type 0
 Advances r room text items piece at (Open end) = StandsBehind r room (text ++ between at end piece) items
-Advances r room text items piece at (Ended end) = (get_or piece end 0 ≡ 10) × EndsBehind r room (text ++ between at end piece) items
+Advances r room text items piece at (Ended end) = (get_or piece end 0 ≡ 10)
+    × EndsBehind r room (text ++ between at end piece) items
 
 -- a byte was read at least, and none behind the piece
 abbrev pub IsWithin : ℕ → ℕ → Progress → Type 0

@@ -62,4 +62,5 @@ pub record Keeps (ns out : List ℤ) (count : ℕ) (beyond : Bool) : Type 0 wher
 
 -- whether a number may be the next, by what is kept
 abbrev pub Decides : Form → List ℤ → ℕ → Kept → Bool → Type 0
-Decides form out count kept answer = (ns : List ℤ) (z : ℤ) (beyond : Bool) → Keeps ns out count beyond → MayBegin (numbers_of form) ns → IsKept kept z → IsTrue answer ↔ MayFollow (numbers_of form) ns z
+Decides form out count kept answer = (ns : List ℤ) (z : ℤ) (beyond : Bool) → Keeps ns out count beyond
+    → MayBegin (numbers_of form) ns → IsKept kept z → IsTrue answer ↔ MayFollow (numbers_of form) ns z

@@ -27,7 +27,8 @@ pub record IsWholeLine (word : List ℕ) (form : Form) (part : LinePart) (out : 
 -- no line of such numbers has this byte behind these; a line feed ends the line
 pub record IsUnfit (word : List ℕ) (n : Numbers) (bytes : List ℕ) (byte : ℕ) : Type 0 where
   pub ended : byte ≡ 10 → (ns : List ℤ) → FitNumbers n ns → bytes ≡ word ++ numbers_text ns → ⊥
-  pub inside : byte ≢ 10 → (ns : List ℤ) (rest : List ℕ) → FitNumbers n ns → bytes ++ byte ∷ rest ≡ word ++ numbers_text ns → ⊥
+  pub inside : byte ≢ 10 → (ns : List ℤ) (rest : List ℕ) → FitNumbers n ns
+      → bytes ++ byte ∷ rest ≡ word ++ numbers_text ns → ⊥
 
 -- what one more byte makes of the line
 abbrev pub Becomes : List ℕ → Form → LinePart → List ℤ → List ℕ → ℕ → Outcome → Type 0
@@ -37,12 +38,16 @@ Becomes word form part out bytes byte Fault = IsUnfit word (numbers_of form) byt
 
 -- what is kept of one number more, or why it can't stand there
 abbrev pub Accepts : Form → List ℤ → ℤ → List ℤ → LinePart → Bool → Type 0
-Accepts form ns z out part true = Keeps (ns ++ z ∷ []) out part.count part.beyond × MayBegin (numbers_of form) (ns ++ z ∷ [])
+Accepts form ns z out part true = Keeps (ns ++ z ∷ []) out part.count part.beyond
+    × MayBegin (numbers_of form) (ns ++ z ∷ [])
 Accepts form ns z out part false = (more : List ℤ) → FitNumbers (numbers_of form) (ns ++ z ∷ more) → ⊥
 
 -- What the bytes of a piece from a place on make of the line: it goes on to the end of the piece, or the byte at this place makes it
 -- whole or wrong.
 abbrev pub ReadsOn : List ℕ → Form → LinePart → List ℤ → List ℕ → List ℕ → ℕ → ℕ → Outcome → Type 0
-ReadsOn word form part out bytes piece at end Open = (end ≡ length piece) × IsPart word form part out (bytes ++ between at end piece)
-ReadsOn word form part out bytes piece at end Whole = (end < length piece) × (get_or piece end 0 ≡ 10) × IsWholeLine word form part out (bytes ++ between at end piece)
-ReadsOn word form part out bytes piece at end Fault = (end < length piece) × IsUnfit word (numbers_of form) (bytes ++ between at end piece) (get_or piece end 0)
+ReadsOn word form part out bytes piece at end Open = (end ≡ length piece)
+    × IsPart word form part out (bytes ++ between at end piece)
+ReadsOn word form part out bytes piece at end Whole = (end < length piece) × (get_or piece end 0 ≡ 10)
+    × IsWholeLine word form part out (bytes ++ between at end piece)
+ReadsOn word form part out bytes piece at end Fault = (end < length piece)
+    × IsUnfit word (numbers_of form) (bytes ++ between at end piece) (get_or piece end 0)

@@ -135,11 +135,13 @@ pub record ComesNext (b s : ℕ) (c : CertValue) (due next : Due) : Type 0 where
 
 -- Of each certificate of this choice: these lines are what is left when this line is due, and it has what that line names.
 abbrev pub AreLeft : ℕ → ℕ → List ℤ → (CertValue → List Line) → Due → Type 0
-AreLeft b s choice left next = (c : CertValue) → IsCertificate b s c → choice ≡ as_numbers c.choice → (left c ≡ lines_left b s c next) × HasDue b s c next
+AreLeft b s choice left next = (c : CertValue) → IsCertificate b s c → choice ≡ as_numbers c.choice
+    → (left c ≡ lines_left b s c next) × HasDue b s c next
 
 -- Of each certificate that this choice and count belong to: behind its line that is due, this one comes.
 abbrev pub Leads : ℕ → ℕ → Due → List ℤ → ℤ → Due → Type 0
-Leads b s due choice first next = (c : CertValue) → IsCertificate b s c → Tells c due choice first → HasDue b s c due → ComesNext b s c due next
+Leads b s due choice first next = (c : CertValue) → IsCertificate b s c → Tells c due choice first → HasDue b s c due
+    → ComesNext b s c due next
 
 -- the same, where the room tells the choice and the count
 abbrev pub LeadsInRoom : ℕ → ℕ → Due → List ℤ → Due → Type 0

@@ -11,7 +11,8 @@ NoneFrom choice from to = (q : ℕ) → from ≤ q → q < to → get_or choice 
 
 -- the line is the first one of the next part behind the first `from` bidders, or the payments where there is none
 abbrev pub IsPartNext : ℕ → List ℤ → ℕ → Due → Type 0
-IsPartNext bidders choice from (Without j) = (from < j) × (get_or choice (j - 1) (pos 0) ≢ pos 0) × NoneFrom choice from (j - 1)
+IsPartNext bidders choice from (Without j) = (from < j) × (get_or choice (j - 1) (pos 0) ≢ pos 0)
+    × NoneFrom choice from (j - 1)
 IsPartNext bidders choice from Payments = NoneFrom choice from bidders
 IsPartNext bidders choice from due = ⊥
 
@@ -34,7 +35,8 @@ ComesBehind b choice first Den next = next ≡ Value
 ComesBehind b choice first Value next = next ≡ Choice
 ComesBehind b choice first Choice next = next ≡ Title Head
 ComesBehind b choice first (Title table) next = next ≡ Entries table 0
-ComesBehind b choice first (Entries table k) next = (k < b → next ≡ Entries table (k + 1)) × (b ≤ k → IsTableNext b choice table next)
+ComesBehind b choice first (Entries table k) next = (k < b → next ≡ Entries table (k + 1))
+    × (b ≤ k → IsTableNext b choice table next)
 ComesBehind b choice first (Without j) next = next ≡ PartChoice j
 ComesBehind b choice first (PartChoice j) next = next ≡ Title (Part j)
 ComesBehind b choice first Payments next = next ≡ Rows

@@ -24,7 +24,8 @@ abbrev pub Partway : List ℕ → List ℤ → Phase → List ℕ → Type 0
 Partway word ns (Word count) bytes = (ns ≡ []) × (count ≤ length word) × (bytes ≡ take count word)
 Partway word ns Space bytes = bytes ≡ word ++ (numbers_text ns ++ 32 ∷ [])
 Partway word ns Minus bytes = bytes ≡ word ++ (numbers_text ns ++ 32 ∷ 45 ∷ [])
-Partway word ns (Digits negative tally) bytes = (z : ℤ) × IsOpen negative tally z × (bytes ≡ word ++ numbers_text (ns ++ z ∷ []))
+Partway word ns (Digits negative tally) bytes = (z : ℤ) × IsOpen negative tally z
+    × (bytes ≡ word ++ numbers_text (ns ++ z ∷ []))
 
 -- no line of the word and numbers has this byte behind these; a line feed ends the line
 pub record IsRefused (word bytes : List ℕ) (byte : ℕ) : Type 0 where
@@ -34,7 +35,10 @@ pub record IsRefused (word bytes : List ℕ) (byte : ℕ) : Type 0 where
 -- what one more byte makes of it
 abbrev pub StepsTo : List ℕ → List ℤ → List ℕ → ℕ → Step → Type 0
 StepsTo word ns bytes byte (Open phase) = (byte ≢ 10) × Partway word ns phase (bytes ++ byte ∷ [])
-StepsTo word ns bytes byte (Field kept) = (byte ≡ 32) × ((z : ℤ) × IsKept kept z × (bytes ≡ word ++ numbers_text (ns ++ z ∷ [])) × Partway word (ns ++ z ∷ []) Space (bytes ++ byte ∷ []))
-StepsTo word ns bytes byte (Last kept) = (byte ≡ 10) × ((z : ℤ) × IsKept kept z × (bytes ≡ word ++ numbers_text (ns ++ z ∷ [])))
+StepsTo word ns bytes byte (Field kept) = (byte ≡ 32)
+    × ((z : ℤ) × IsKept kept z × (bytes ≡ word ++ numbers_text (ns ++ z ∷ []))
+    × Partway word (ns ++ z ∷ []) Space (bytes ++ byte ∷ []))
+StepsTo word ns bytes byte (Last kept) = (byte ≡ 10)
+    × ((z : ℤ) × IsKept kept z × (bytes ≡ word ++ numbers_text (ns ++ z ∷ [])))
 StepsTo word ns bytes byte Bare = (byte ≡ 10) × (ns ≡ []) × (bytes ≡ word)
 StepsTo word ns bytes byte Fault = IsRefused word bytes byte

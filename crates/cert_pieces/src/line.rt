@@ -55,7 +55,8 @@ impl LinePart {
     pub(crate) fn take(&mut self, form: Form, word: &[u8], out: &mut [i128], byte: u8) -> Outcome
         requires room { room_for form ≤ length out.old }
         requires part { (bytes : List ℕ) × IsPart word.now form self.old out.old bytes }
-        ensures becomes { (bytes : List ℕ) → IsPart word.now form self.old out.old bytes → Becomes word.now form self.new out.new bytes byte result }
+        ensures becomes { (bytes : List ℕ) → IsPart word.now form self.old out.old bytes
+            → Becomes word.now form self.new out.new bytes byte result }
         ensures room { length out.new ≡ length out.old }
     {
         match advance(self.phase, word, byte) {
@@ -92,8 +93,10 @@ impl LinePart {
     /// Keeps a whole number, where it may stand behind those that are kept.
     fn keep(&mut self, form: Form, out: &mut [i128], kept: Kept) -> bool
         requires room { room_for form ≤ length out.old }
-        requires some { (ns : List ℤ) × (z : ℤ) × Keeps ns out.old self.old.count self.old.beyond × MayBegin (numbers_of form) ns × IsKept kept z }
-        ensures accepts { (ns : List ℤ) (z : ℤ) → Keeps ns out.old self.old.count self.old.beyond → MayBegin (numbers_of form) ns → IsKept kept z → Accepts form ns z out.new self.new result }
+        requires some { (ns : List ℤ) × (z : ℤ) × Keeps ns out.old self.old.count self.old.beyond
+            × MayBegin (numbers_of form) ns × IsKept kept z }
+        ensures accepts { (ns : List ℤ) (z : ℤ) → Keeps ns out.old self.old.count self.old.beyond
+            → MayBegin (numbers_of form) ns → IsKept kept z → Accepts form ns z out.new self.new result }
         ensures phase { self.new.phase ≡ self.old.phase }
         ensures room { length out.new ≡ length out.old }
     {
@@ -118,7 +121,8 @@ impl LinePart {
         ensures from { at ≤ result }
         ensures to { result ≤ length piece.now }
         ensures line { IsLine (between at result piece.now) }
-        ensures part { (word : List ℕ) (bytes : List ℕ) → IsPart word form self.old out.old bytes → IsPart word form self.new out.new (bytes ++ between at result piece.now) }
+        ensures part { (word : List ℕ) (bytes : List ℕ) → IsPart word form self.old out.old bytes
+            → IsPart word form self.new out.new (bytes ++ between at result piece.now) }
         ensures room { length out.new ≡ length out.old }
     {
         let mid = self.take_fields(form, out, piece, at);
@@ -132,7 +136,8 @@ impl LinePart {
         ensures from { at ≤ result }
         ensures to { result ≤ length piece.now }
         ensures line { IsLine (between at result piece.now) }
-        ensures part { (word : List ℕ) (bytes : List ℕ) → IsPart word form self.old out.old bytes → IsPart word form self.new out.new (bytes ++ between at result piece.now) }
+        ensures part { (word : List ℕ) (bytes : List ℕ) → IsPart word form self.old out.old bytes
+            → IsPart word form self.new out.new (bytes ++ between at result piece.now) }
         ensures room { length out.new ≡ length out.old }
     {
         let Form::Signed(most) = form else {
@@ -152,7 +157,9 @@ impl LinePart {
         ensures from { at ≤ result }
         ensures to { result ≤ length piece.now }
         ensures digits { IsLine (between at result piece.now) }
-        ensures part { (word : List ℕ) (form : Form) (out : List ℤ) (bytes : List ℕ) → IsPart word form self.old out bytes → IsPart word form self.new out (bytes ++ between at result piece.now) }
+        ensures part { (word : List ℕ) (form : Form) (out : List ℤ) (bytes : List ℕ)
+            → IsPart word form self.old out bytes
+            → IsPart word form self.new out (bytes ++ between at result piece.now) }
     {
         let Phase::Digits { negative, tally } = self.phase else {
             return at;
@@ -189,7 +196,8 @@ pub(crate) fn read_line(
     requires room { room_for form ≤ length out.old }
     requires part { (bytes : List ℕ) × IsPart word.now form part out.old bytes }
     requires at { at ≤ length piece.now }
-    ensures reads { (bytes : List ℕ) → IsPart word.now form part out.old bytes → ReadsOn word.now form result.part out.new bytes piece.now at result.end result.outcome }
+    ensures reads { (bytes : List ℕ) → IsPart word.now form part out.old bytes
+        → ReadsOn word.now form result.part out.new bytes piece.now at result.end result.outcome }
     ensures line { IsLine (between at result.end piece.now) }
     ensures from { at ≤ result.end }
     ensures to_end { result.outcome ≡ Outcome.Open → result.end ≡ length piece.now }

@@ -15,8 +15,10 @@ use cert_text::{Shape, has_first_version};
 pub(crate) fn next(due: Due, shape: Shape, choice: &[i128], first: i128) -> Due
     requires choice { length choice.now ≡ shape.bidders }
     requires due { IsDue shape.bidders due }
-    requires numbers { (ns : List ℤ) × FitNumbers (numbers_due shape.bidders shape.states due) ns × IsKnown due ns choice.now first }
-    ensures next { (ns : List ℤ) → FitNumbers (numbers_due shape.bidders shape.states due) ns → IsKnown due ns choice.now first → Follows shape.bidders shape.states choice.now due ns result }
+    requires numbers { (ns : List ℤ) × FitNumbers (numbers_due shape.bidders shape.states due) ns
+        × IsKnown due ns choice.now first }
+    ensures next { (ns : List ℤ) → FitNumbers (numbers_due shape.bidders shape.states due) ns
+        → IsKnown due ns choice.now first → Follows shape.bidders shape.states choice.now due ns result }
     ensures due { IsDue shape.bidders result }
     ensures order { ComesBehind shape.bidders choice.now first due result }
     ensures left { (due ≡ Due.Nothing → ⊥) → Leads shape.bidders shape.states due choice.now first result }
@@ -46,7 +48,8 @@ fn next_version(shape: Shape) -> Due
     ensures next { (choice ns : List ℤ) → Follows shape.bidders shape.states choice Due.Version ns result }
     ensures due { IsDue shape.bidders result }
     ensures order { (result ≡ Due.Den) ⊎ (result ≡ Due.Limits) }
-    ensures left { (c : CertValue) → IsCertificate shape.bidders shape.states c → ComesNext shape.bidders shape.states c Due.Version result }
+    ensures left { (c : CertValue) → IsCertificate shape.bidders shape.states c
+        → ComesNext shape.bidders shape.states c Due.Version result }
 {
     if has_first_version(shape.bidders as usize, shape.states as usize) {
         Due::Den
@@ -73,7 +76,9 @@ fn next_entries(shape: Shape, choice: &[i128], table: Table, k: u16) -> Due
     ensures next { (ns : List ℤ) → Follows shape.bidders shape.states choice.now (Due.Entries table k) ns result }
     ensures due { IsDue shape.bidders result }
     ensures order { ComesBehind shape.bidders choice.now (pos 0) (Due.Entries table k) result }
-    ensures left { (c : CertValue) → IsCertificate shape.bidders shape.states c → choice.now ≡ as_numbers c.choice → HasPart shape.bidders shape.states c table → ComesNext shape.bidders shape.states c (Due.Entries table k) result }
+    ensures left { (c : CertValue) → IsCertificate shape.bidders shape.states c → choice.now ≡ as_numbers c.choice
+        → HasPart shape.bidders shape.states c table
+        → ComesNext shape.bidders shape.states c (Due.Entries table k) result }
 {
     if k < shape.bidders {
         return Due::Entries(table, k + 1);
@@ -85,7 +90,8 @@ fn next_entries(shape: Shape, choice: &[i128], table: Table, k: u16) -> Due
 fn next_part(shape: Shape, choice: &[i128], from: u16) -> Due
     requires from { from ≤ shape.bidders }
     requires choice { length choice.now ≡ shape.bidders }
-    ensures plan { from_part shape.bidders shape.states choice.now from ≡ plan_due shape.bidders shape.states choice.now result }
+    ensures plan { from_part shape.bidders shape.states choice.now from
+        ≡ plan_due shape.bidders shape.states choice.now result }
     ensures due { IsDue shape.bidders result }
     ensures order { IsPartNext shape.bidders choice.now from result }
     ensures left { AreLeft shape.bidders shape.states choice.now (λ c. parts_left c from) result }
@@ -107,7 +113,8 @@ fn is_zero(number: i128) -> bool
 fn behind_table_line(shape: Shape, choice: &[i128], table: Table) -> Due
     requires choice { length choice.now ≡ shape.bidders }
     requires table { IsTableOf shape.bidders table }
-    ensures plan { behind_table shape.bidders shape.states choice.now table ≡ plan_due shape.bidders shape.states choice.now result }
+    ensures plan { behind_table shape.bidders shape.states choice.now table
+        ≡ plan_due shape.bidders shape.states choice.now result }
     ensures due { IsDue shape.bidders result }
     ensures order { IsTableNext shape.bidders choice.now table result }
     ensures left { AreLeft shape.bidders shape.states choice.now (λ c. table_left c table) result }
@@ -121,10 +128,13 @@ fn behind_table_line(shape: Shape, choice: &[i128], table: Table) -> Due
 
 fn next_rows(shape: Shape, choice: &[i128], left: u16) -> Due
     requires { 0 < left → 0 < shape.bidders }
-    ensures plan { rows_plan shape.bidders left ++ closing_plan shape.bidders shape.states ≡ plan_due shape.bidders shape.states choice.now result }
+    ensures plan { rows_plan shape.bidders left ++ closing_plan shape.bidders shape.states
+        ≡ plan_due shape.bidders shape.states choice.now result }
     ensures due { IsDue shape.bidders result }
     ensures order { IsRowNext left result }
-    ensures left { (c : CertValue) → IsCertificate shape.bidders shape.states c → left ≤ length c.rows → (rows_left c left ≡ lines_left shape.bidders shape.states c result) × HasDue shape.bidders shape.states c result }
+    ensures left { (c : CertValue) → IsCertificate shape.bidders shape.states c → left ≤ length c.rows
+        → (rows_left c left ≡ lines_left shape.bidders shape.states c result)
+        × HasDue shape.bidders shape.states c result }
 {
     if left == 0 {
         Due::Title(Table::Lowered)

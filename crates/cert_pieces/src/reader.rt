@@ -68,8 +68,10 @@ impl Reader {
     /// Feeds the next bytes. However a text is cut into pieces, the reader then stands for the text.
     pub fn feed(&mut self, room: &mut [i128], piece: &[u8])
         requires room { length room.old ≡ room_size self.old.shape.bidders self.old.shape.states }
-        requires stands { (text : List ℕ) × StandsFor self.old room.old text × (length text + length piece.now < 2 ^ 40) }
-        ensures stands { (text : List ℕ) → StandsFor self.old room.old text → StandsFor self.new room.new (text ++ piece.now) }
+        requires stands { (text : List ℕ) × StandsFor self.old room.old text
+            × (length text + length piece.now < 2 ^ 40) }
+        ensures stands { (text : List ℕ) → StandsFor self.old room.old text
+            → StandsFor self.new room.new (text ++ piece.now) }
         ensures shape { self.new.shape ≡ self.old.shape }
         ensures room { length room.new ≡ length room.old }
     {
@@ -85,9 +87,11 @@ impl Reader {
     /// Whether the text for which the reader stands is the text of a certificate. Errors: `Form` and `Range` with the byte where the
     /// first faulty line begins, as `read_cert` tells them of the whole text.
     pub fn finish(&self) -> Result<(), TextStop>
-        ensures says { (room : List ℤ) (text : List ℕ) → StandsFor self.now room text → OnOk result ((c : CertValue) × CertSays self.now.shape.bidders self.now.shape.states text (stated c)) }
+        ensures says { (room : List ℤ) (text : List ℕ) → StandsFor self.now room text
+            → OnOk result ((c : CertValue) × CertSays self.now.shape.bidders self.now.shape.states text (stated c)) }
         ensures done { OnOk result ((self.now.stop ≡ None) × (self.now.due ≡ Due.Nothing)) }
-        ensures stops { (room : List ℤ) (text : List ℕ) → StandsFor self.now room text → IfErr result (SaysStop self.now.shape.bidders self.now.shape.states text) }
+        ensures stops { (room : List ℤ) (text : List ℕ) → StandsFor self.now room text
+            → IfErr result (SaysStop self.now.shape.bidders self.now.shape.states text) }
     {
         if let Some(stop) = self.stop {
             return Err(stop);
@@ -101,10 +105,12 @@ impl Reader {
     /// Feeds the bytes of a piece from a place on, up to the end of the line at most. Gives the place behind them.
     fn feed_line(&mut self, room: &mut [i128], piece: &[u8], at: usize) -> usize
         requires room { length room.old ≡ room_size self.old.shape.bidders self.old.shape.states }
-        requires stands { (text : List ℕ) × StandsFor self.old room.old text × (length text + length piece.now < at + 2 ^ 40) }
+        requires stands { (text : List ℕ) × StandsFor self.old room.old text
+            × (length text + length piece.now < at + 2 ^ 40) }
         requires reading { self.old.stop ≡ None }
         requires at { at < length piece.now }
-        ensures stands { (text : List ℕ) → StandsFor self.old room.old text → StandsFor self.new room.new (text ++ between at result piece.now) }
+        ensures stands { (text : List ℕ) → StandsFor self.old room.old text
+            → StandsFor self.new room.new (text ++ between at result piece.now) }
         ensures from { at < result }
         ensures to { result ≤ length piece.now }
         ensures shape { self.new.shape ≡ self.old.shape }
@@ -123,10 +129,12 @@ impl Reader {
     /// left to `end_line`. The room keeps all numbers but those of the line.
     pub fn read_on(&mut self, room: &mut [i128], piece: &[u8], at: usize) -> Progress
         requires room { length room.old ≡ room_size self.old.shape.bidders self.old.shape.states }
-        requires stands { (text : List ℕ) × StandsFor self.old room.old text × (length text + length piece.now < at + 2 ^ 40) }
+        requires stands { (text : List ℕ) × StandsFor self.old room.old text
+            × (length text + length piece.now < at + 2 ^ 40) }
         requires reading { self.old.stop ≡ None }
         requires at { at < length piece.now }
-        ensures advances { (text : List ℕ) (items : List Line) → StandsBehind self.old room.old text items → Advances self.new room.new text items piece.now at result }
+        ensures advances { (text : List ℕ) (items : List Line) → StandsBehind self.old room.old text items
+            → Advances self.new room.new text items piece.now at result }
         ensures within { IsWithin at (length piece.now) result }
         ensures reading { (end : ℕ) → result ≡ Progress.Ended end → self.new.stop ≡ None }
         ensures shape { self.new.shape ≡ self.old.shape }
@@ -168,9 +176,15 @@ impl Reader {
         requires room { length room.now ≡ room_size self.old.shape.bidders self.old.shape.states }
         requires ends { (text : List ℕ) × (items : List Line) × EndsBehind self.old room.now text items }
         requires reading { self.old.stop ≡ None }
-        ensures stands { (text : List ℕ) (items : List Line) (ends : EndsBehind self.old room.now text items) → StandsBehind self.new room.now (text ++ 10 ∷ []) (items ++ line_with self.old.due ends.whole.numbers ∷ []) }
-        ensures next { self.new.stop ≡ None → LeadsInRoom self.old.shape.bidders self.old.shape.states self.old.due room.now self.new.due }
-        ensures order { self.new.stop ≡ None → ComesBehind self.old.shape.bidders (take self.old.shape.bidders room.now) (get_or room.now (start_due self.old.shape.bidders self.old.shape.states self.old.due) (pos 0)) self.old.due self.new.due }
+        ensures stands { (text : List ℕ) (items : List Line) (ends : EndsBehind self.old room.now text items)
+            → StandsBehind self.new room.now (text ++ 10 ∷ [])
+            (items ++ line_with self.old.due ends.whole.numbers ∷ []) }
+        ensures next { self.new.stop ≡ None
+            → LeadsInRoom self.old.shape.bidders self.old.shape.states self.old.due room.now self.new.due }
+        ensures order { self.new.stop ≡ None
+            → ComesBehind self.old.shape.bidders (take self.old.shape.bidders room.now)
+            (get_or room.now (start_due self.old.shape.bidders self.old.shape.states self.old.due)
+            (pos 0)) self.old.due self.new.due }
         ensures beyond { self.new.stop ≡ None → self.old.part.beyond ≡ false }
         ensures shape { self.new.shape ≡ self.old.shape }
     {

@@ -120,7 +120,8 @@ pub struct Span {
 pub fn numbers_span(due: Due, shape: Shape) -> Span
     requires { IsDue shape.bidders due }
     ensures start { result.start ≡ start_due shape.bidders shape.states due }
-    ensures end { result.end ≡ start_due shape.bidders shape.states due + room_for (form_due shape.bidders shape.states due) }
+    ensures end { result.end
+        ≡ start_due shape.bidders shape.states due + room_for (form_due shape.bidders shape.states due) }
     ensures within { result.end < room_size shape.bidders shape.states }
 {
     let start = start(due, shape);
@@ -176,15 +177,25 @@ pub(crate) fn read_due(
 ) -> LineRead
     requires room { length room.old ≡ room_size shape.bidders shape.states }
     requires due { IsDue shape.bidders due }
-    requires part { (bytes : List ℕ) × IsPart (word_of due) (form_due shape.bidders shape.states due) part (segment shape.bidders shape.states due room.old) bytes }
+    requires part { (bytes : List ℕ)
+        × IsPart (word_of due) (form_due shape.bidders shape.states due) part
+        (segment shape.bidders shape.states due room.old) bytes }
     requires at { at ≤ length piece.now }
-    ensures reads { (bytes : List ℕ) → IsPart (word_of due) (form_due shape.bidders shape.states due) part (segment shape.bidders shape.states due room.old) bytes → ReadsOn (word_of due) (form_due shape.bidders shape.states due) result.part (segment shape.bidders shape.states due room.new) bytes piece.now at result.end result.outcome }
+    ensures reads { (bytes : List ℕ)
+        → IsPart (word_of due) (form_due shape.bidders shape.states due) part
+        (segment shape.bidders shape.states due room.old) bytes
+        → ReadsOn (word_of due) (form_due shape.bidders shape.states due) result.part
+        (segment shape.bidders shape.states due room.new) bytes piece.now at result.end result.outcome }
     ensures line { IsLine (between at result.end piece.now) }
     ensures from { at ≤ result.end }
     ensures to_end { result.outcome ≡ Outcome.Open → result.end ≡ length piece.now }
     ensures ended { (result.outcome ≡ Outcome.Open → ⊥) → result.end < length piece.now }
-    ensures front { take (start_due shape.bidders shape.states due) room.new ≡ take (start_due shape.bidders shape.states due) room.old }
-    ensures back { drop (start_due shape.bidders shape.states due + room_for (form_due shape.bidders shape.states due)) room.new ≡ drop (start_due shape.bidders shape.states due + room_for (form_due shape.bidders shape.states due)) room.old }
+    ensures front { take (start_due shape.bidders shape.states due) room.new
+        ≡ take (start_due shape.bidders shape.states due) room.old }
+    ensures back { drop
+        (start_due shape.bidders shape.states due + room_for (form_due shape.bidders shape.states due)) room.new
+        ≡ drop (start_due shape.bidders shape.states due
+        + room_for (form_due shape.bidders shape.states due)) room.old }
     ensures choice { due ≢ Due.Choice → take shape.bidders room.new ≡ take shape.bidders room.old }
     ensures room { length room.new ≡ length room.old }
 {

@@ -22,7 +22,8 @@ fn priced_alike(alloc: Global, book: &BidBook) -> Result<PricedBook, PriceStop> 
 }
 
 fn are_weights(weights: &[u32]) -> bool
-    ensures { IsTrue result → (j : ℕ) → j < length weights.now → (1 ≤ slice_index_or weights.now j 0) × (slice_index_or weights.now j 0 ≤ 20) }
+    ensures { IsTrue result → (j : ℕ) → j < length weights.now
+        → (1 ≤ slice_index_or weights.now j 0) × (slice_index_or weights.now j 0 ≤ 20) }
 {
     for weight in weights {
         if *weight < 1 {
@@ -144,7 +145,8 @@ fn more_than_six_winners_are_counted(rt: HostRuntime) -> Result<(), AllocError> 
 
 /// Whether no payment is below 0 or above a million.
 fn are_payments(paid: &[i128]) -> bool
-    ensures { IsTrue result → (k : ℕ) → k < length paid.now → (pos 0 ≤ℤ slice_index_or paid.now k (pos 0)) × (slice_index_or paid.now k (pos 0) ≤ℤ pos 1000000) }
+    ensures { IsTrue result → (k : ℕ) → k < length paid.now
+        → (pos 0 ≤ℤ slice_index_or paid.now k (pos 0)) × (slice_index_or paid.now k (pos 0) ≤ℤ pos 1000000) }
 {
     for payment in paid {
         if *payment < 0 {

@@ -63,7 +63,8 @@ fn nobody(alloc: Global) -> Result<Certificate, AllocError> {
 
 // The part without the only bidder.
 fn part(alloc: Global) -> Result<WithoutPart, AllocError>
-    ensures { IfOk result (λ w. (w.winner ≡ 1) × (w.choice ≡ 0 ∷ []) × (w.table ≡ (pos 0 ∷ pos 0 ∷ []) ∷ (pos 0 ∷ pos 0 ∷ []) ∷ [])) }
+    ensures { IfOk result
+        (λ w. (w.winner ≡ 1) × (w.choice ≡ 0 ∷ []) × (w.table ≡ (pos 0 ∷ pos 0 ∷ []) ∷ (pos 0 ∷ pos 0 ∷ []) ∷ [])) }
 {
     let choice = Choice::new(single(alloc, 0)?);
     let table = table_of(alloc, 0)?;
@@ -76,7 +77,8 @@ fn part(alloc: Global) -> Result<WithoutPart, AllocError>
 
 // A row of the only bidder.
 fn row(alloc: Global) -> Result<CertRow, AllocError>
-    ensures { IfOk result (λ r. (r.members ≡ 1 ∷ []) × (r.choice ≡ 0 ∷ []) × (r.first ≡ pos 1) × (r.second ≡ negsuc 104)) }
+    ensures { IfOk result
+        (λ r. (r.members ≡ 1 ∷ []) × (r.choice ≡ 0 ∷ []) × (r.first ≡ pos 1) × (r.second ≡ negsuc 104)) }
 {
     let members = single(alloc, 1)?;
     let choice = Choice::new(single(alloc, 0)?);
@@ -131,7 +133,9 @@ fn two_lines(alloc: Global) -> Result<Grid, AllocError>
 
 // The part without one of the two.
 fn part_of_two(alloc: Global, winner: u16) -> Result<WithoutPart, AllocError>
-    ensures { IfOk result (λ w. (w.winner ≡ winner) × (w.choice ≡ 0 ∷ 0 ∷ []) × (w.table ≡ (pos 0 ∷ pos 0 ∷ []) ∷ (pos 0 ∷ pos 0 ∷ []) ∷ (pos 0 ∷ pos 0 ∷ []) ∷ [])) }
+    ensures { IfOk result
+        (λ w. (w.winner ≡ winner) × (w.choice ≡ 0 ∷ 0 ∷ [])
+        × (w.table ≡ (pos 0 ∷ pos 0 ∷ []) ∷ (pos 0 ∷ pos 0 ∷ []) ∷ (pos 0 ∷ pos 0 ∷ []) ∷ [])) }
 {
     let choice = Choice::new(pair(alloc, 0, 0)?);
     let table = two_lines(alloc)?;
@@ -144,7 +148,8 @@ fn part_of_two(alloc: Global, winner: u16) -> Result<WithoutPart, AllocError>
 
 // A row of one of the two.
 fn row_of_one(alloc: Global, member: u16, second: i128) -> Result<CertRow, AllocError>
-    ensures { IfOk result (λ r. (r.members ≡ member ∷ []) × (r.choice ≡ 0 ∷ 0 ∷ []) × (r.first ≡ pos 1) × (r.second ≡ second)) }
+    ensures { IfOk result
+        (λ r. (r.members ≡ member ∷ []) × (r.choice ≡ 0 ∷ 0 ∷ []) × (r.first ≡ pos 1) × (r.second ≡ second)) }
 {
     let members = single(alloc, member)?;
     let choice = Choice::new(pair(alloc, 0, 0)?);
@@ -158,7 +163,8 @@ fn row_of_one(alloc: Global, member: u16, second: i128) -> Result<CertRow, Alloc
 
 // A row of both.
 fn row_of_both(alloc: Global) -> Result<CertRow, AllocError>
-    ensures { IfOk result (λ r. (r.members ≡ 1 ∷ 2 ∷ []) × (r.choice ≡ 0 ∷ 0 ∷ []) × (r.first ≡ pos 3) × (r.second ≡ pos 11)) }
+    ensures { IfOk result
+        (λ r. (r.members ≡ 1 ∷ 2 ∷ []) × (r.choice ≡ 0 ∷ 0 ∷ []) × (r.first ≡ pos 3) × (r.second ≡ pos 11)) }
 {
     let members = pair(alloc, 1, 2)?;
     let choice = Choice::new(pair(alloc, 0, 0)?);

@@ -29,4 +29,5 @@ pub record AddsPart (bytes : List ℕ) (place bidders states j number : ℕ) (ol
   pub part : List WithoutValue
   pub added : map without_value new ≡ map without_value old ++ part
   pub leads : Leads bytes place (unless_zero (pos number) (part_plan bidders states j)) next [] (part_lines part)
-  pub are : (ns : List ℕ) (rest : List WithoutValue) → AreWithouts bidders states (suc j) ns rest → AreWithouts bidders states j (number ∷ ns) (part ++ rest)
+  pub are : (ns : List ℕ) (rest : List WithoutValue) → AreWithouts bidders states (suc j) ns rest
+      → AreWithouts bidders states j (number ∷ ns) (part ++ rest)

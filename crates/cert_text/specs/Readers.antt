@@ -25,15 +25,18 @@ pub record IsLineAt (bytes : List ℕ) (place : ℕ) (word : List ℕ) (items : 
 -- With these kinds of lines to come at the place, in a text by any plan, the lines from there on lead to the next place, where
 -- those kinds are left.
 pub record Leads (bytes : List ℕ) (place : ℕ) (kinds : List Kind) (next : ℕ) (left : List Kind) (read : List Line) : Type 0 where
-  pub leads : (whole plan : List Kind) (items : List Line) → ReachedBy whole bytes place (kinds ++ plan) items → ReachedBy whole bytes next (left ++ plan) (items ++ read)
+  pub leads : (whole plan : List Kind) (items : List Line) → ReachedBy whole bytes place (kinds ++ plan) items
+      → ReachedBy whole bytes next (left ++ plan) (items ++ read)
 
 -- With these kinds of lines to come at the place, this is the stop.
 pub record Halts (bytes : List ℕ) (place : ℕ) (kinds : List Kind) (stop : CertStop) : Type 0 where
-  pub halts : (whole plan : List Kind) (items : List Line) → ReachedBy whole bytes place (kinds ++ plan) items → StopsBy whole bytes stop
+  pub halts : (whole plan : List Kind) (items : List Line) → ReachedBy whole bytes place (kinds ++ plan) items
+      → StopsBy whole bytes stop
 
 -- With nothing to come at the place, this is the stop.
 abbrev pub HaltsAtEnd : List ℕ → ℕ → CertStop → Type 0
-HaltsAtEnd bytes place stop = (whole : List Kind) (items : List Line) → ReachedBy whole bytes place [] items → StopsBy whole bytes stop
+HaltsAtEnd bytes place stop = (whole : List Kind) (items : List Line) → ReachedBy whole bytes place [] items
+    → StopsBy whole bytes stop
 
 -- a line of the word that is to come at the place isn't there
 abbrev pub IsRefused : List ℕ → ℕ → List ℕ → CertStop → Type 0
@@ -46,7 +49,8 @@ pub record AreLike (m n : Numbers) : Type 0 where
 
 -- a line of the word and these numbers is read at the place, whatever such a line puts into the plan
 abbrev pub LeadsLike : List ℕ → ℕ → List ℕ → Numbers → ℕ → List ℤ → Type 0
-LeadsLike bytes place word m next ns = (n : Numbers) → AreLike m n → Leads bytes place (kind word n ∷ []) next (after_numbers n ns) (line word ns ∷ [])
+LeadsLike bytes place word m next ns = (n : Numbers) → AreLike m n
+    → Leads bytes place (kind word n ∷ []) next (after_numbers n ns) (line word ns ∷ [])
 
 abbrev pub HaltsLike : List ℕ → ℕ → List ℕ → Numbers → CertStop → Type 0
 HaltsLike bytes place word m stop = (n : Numbers) → AreLike m n → Halts bytes place (kind word n ∷ []) stop
@@ -71,7 +75,8 @@ HaltsCounted bytes place bidders stop = HaltsLike bytes place (codes "rows") (co
 
 -- a line of the word and numbers of 0 to 65,535 that is to come at the place isn't there
 abbrev pub HaltsSmall : List ℕ → ℕ → List ℕ → CertStop → Type 0
-HaltsSmall bytes place word stop = (n : Numbers) → ((ns : List ℤ) → FitNumbers n ns → AreNumbers 65535 ns) → Halts bytes place (kind word n ∷ []) stop
+HaltsSmall bytes place word stop = (n : Numbers) → ((ns : List ℤ) → FitNumbers n ns → AreNumbers 65535 ns)
+    → Halts bytes place (kind word n ∷ []) stop
 
 abbrev pub AreNotSmall : List ℤ → Type 0
 AreNotSmall items = AreNumbers 65535 items → ⊥

@@ -79,13 +79,16 @@ pub struct Certificate {
     pub rows: CertRows,
     /// The table of the net amounts times the denominator, those of each winner lowered by what it gains.
     pub lowered: Grid,
-    pub ghost rules: { IsCertificate (length choice) (width_of table) (cert_from den value choice table withouts pay rows lowered) } by { IsCertificate-prop (length choice) (width_of table) (cert_from den value choice table withouts pay rows lowered) },
+    pub ghost rules: { IsCertificate (length choice) (width_of table)
+        (cert_from den value choice table withouts pay rows lowered) } by { IsCertificate-prop (length choice)
+            (width_of table) (cert_from den value choice table withouts pay rows lowered) },
 }
 
 impl Certificate {
     /// The part without bidder `j`, and None where there is none. Each winner has one.
     pub fn part(&self, j: u16) -> Option<&WithoutPart>
-        ensures found { IfSome result (λ part. without_value part.now ≡ part_of (map without_value self.now.withouts) j) }
+        ensures found { IfSome result
+            (λ part. without_value part.now ≡ part_of (map without_value self.now.withouts) j) }
         ensures none { IfNone result (AllByRecursion (λ part. part.winner ≢ j) self.now.withouts) }
     {
         for part in self.withouts.items() {

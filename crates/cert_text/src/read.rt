@@ -58,8 +58,10 @@ pub fn end_at(bytes: &[u8], place: usize) -> Result<(), CertStop>
 
 /// The certificate of what was read of each stage.
 fn certificate(opening: Opening, winning: Winning, payments: Payments, lowered: Grid) -> Certificate
-    requires { IsCertificate (length winning.choice) (width_of winning.table) (cert_from opening.den opening.value winning.choice winning.table winning.withouts payments.pay payments.rows lowered) }
-    ensures { cert_value result ≡ cert_from opening.den opening.value winning.choice winning.table winning.withouts payments.pay payments.rows lowered }
+    requires { IsCertificate (length winning.choice) (width_of winning.table)
+        (cert_from opening.den opening.value winning.choice winning.table winning.withouts payments.pay payments.rows lowered) }
+    ensures { cert_value result
+        ≡ cert_from opening.den opening.value winning.choice winning.table winning.withouts payments.pay payments.rows lowered }
 {
     Certificate {
         den: opening.den,

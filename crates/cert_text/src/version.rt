@@ -17,7 +17,9 @@ pub fn has_first_version(bidders: usize, states: usize) -> bool
 
 /// Reads the lines that tell the version. Gives the place of the next line.
 pub(crate) fn take_version(alloc: Global, bytes: &[u8], shape: Shape) -> Result<usize, CertStop>
-    ensures leads { IfOk result (λ next. Leads bytes.now 0 (version_plan shape.bidders shape.states) next [] (version_lines shape.bidders shape.states)) }
+    ensures leads { IfOk result
+        (λ next. Leads bytes.now 0 (version_plan shape.bidders shape.states) next []
+        (version_lines shape.bidders shape.states)) }
     ensures within { IfOk result (λ next. next ≤ length bytes.now) }
     ensures halts { IfErr result (Halts bytes.now 0 (version_plan shape.bidders shape.states)) }
 {
@@ -31,7 +33,8 @@ pub(crate) fn take_version(alloc: Global, bytes: &[u8], shape: Shape) -> Result<
 
 /// Reads the lines that tell the second version and its limits.
 fn take_second_version(alloc: Global, bytes: &[u8]) -> Result<usize, CertStop>
-    ensures leads { IfOk result (λ next. Leads bytes.now 0 (map just_line (version_of false)) next [] (version_of false)) }
+    ensures leads { IfOk result
+        (λ next. Leads bytes.now 0 (map just_line (version_of false)) next [] (version_of false)) }
     ensures within { IfOk result (λ next. next ≤ length bytes.now) }
     ensures halts { IfErr result (Halts bytes.now 0 (map just_line (version_of false))) }
 {

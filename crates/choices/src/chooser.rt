@@ -71,8 +71,11 @@ pub trait Chooser {
         surplus: &[i128],
     ) -> Result<Found<Self::Table>, AllocError>
         requires { CanLower (market self.now) (chosen self.now) den surplus.now }
-        ensures choice { IfOk result (λ f. IsFirstGreatest (market self.now).allowed (sum_after (lowered den (market self.now).worth surplus.now) 0) f.choice) }
-        ensures sum { IfOk result (λ f. f.sum ≡ sum_after (lowered den (market self.now).worth surplus.now) 0 f.choice) }
+        ensures choice { IfOk result
+            (λ f. IsFirstGreatest (market self.now).allowed
+            (sum_after (lowered den (market self.now).worth surplus.now) 0) f.choice) }
+        ensures sum { IfOk result
+            (λ f. f.sum ≡ sum_after (lowered den (market self.now).worth surplus.now) 0 f.choice) }
         ensures table { IfOk result (λ f. is_table self.now den surplus.now f.table) };
 
     /// What it says is a market.

@@ -62,7 +62,8 @@ pub fn place_after(book: &BidBook, j: u16, i: u16, place: usize) -> Option<usize
     requires bid { i ≤ length (bids_of book.now j) }
     requires place { place < states_of book.now.supply }
     ensures fits { IfSome result (λ _. IsTrue (is_within (lots_of book.now j i) (left_at book.now.supply place))) }
-    ensures left { IfSome result (λ p. p ≡ place_of book.now.supply (less (left_at book.now.supply place) (lots_of book.now j i))) }
+    ensures left { IfSome result
+        (λ p. p ≡ place_of book.now.supply (less (left_at book.now.supply place) (lots_of book.now j i))) }
     ensures below { IfSome result (λ p. p < states_of book.now.supply) }
     ensures exceeds { IfNone result (IsFalse (is_within (lots_of book.now j i) (left_at book.now.supply place))) }
 {

@@ -46,7 +46,9 @@ fn better(best: Best, next: Best) -> Best
 fn first_after(alloc: Global, book: &BidBook, k: usize, place: usize) -> Result<Best, AllocError>
     requires bidder { k ≤ length book.now.bidders }
     requires place { place < states_of book.now.supply }
-    ensures first { IfOk result (λ b. IsFirstGreatest (fits_after (menu_of book.now) k (left_at book.now.supply place)) (sum_after (net_of book.now) k) b.numbers) }
+    ensures first { IfOk result
+        (λ b. IsFirstGreatest (fits_after (menu_of book.now) k (left_at book.now.supply place))
+        (sum_after (net_of book.now) k) b.numbers) }
     ensures value { IfOk result (λ b. b.value ≡ sum_after (net_of book.now) k b.numbers) }
     ensures size { IfOk result (λ b. unsigned_abs b.value ≤ (length book.now.bidders - k) * MOST_AMOUNT) }
 {

@@ -10,6 +10,7 @@ use Rattle.clock_stage.specs.Rounds.{round_value}
 
 -- the round that is posted, or the final round once more, or a refusal
 abbrev pub IsClosing : Terms → ClockState → Closing → Type 0
-IsClosing terms clock (Next next) = (has_excess terms clock ≡ true) × (reply_to_close terms clock ≡ reply.Ok) × (round_value next ≡ next_round terms (next_prices terms clock) clock.posted)
+IsClosing terms clock (Next next) = (has_excess terms clock ≡ true) × (reply_to_close terms clock ≡ reply.Ok)
+    × (round_value next ≡ next_round terms (next_prices terms clock) clock.posted)
 IsClosing terms clock (Ends next) = (has_excess terms clock ≡ false) × (round_value next ≡ clock.posted)
 IsClosing terms clock (Refused closed) = IsRefusal closed × Tells closed (reply_to_close terms clock) clock

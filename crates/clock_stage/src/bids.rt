@@ -38,7 +38,8 @@ pub fn reply_to_package(award: &Award, eligible: u64, bidder: u16, package: &Pac
 pub fn reply_to_bid(award: &Award, eligibility: &[u64], bidder: u16, package: &Package) -> Reply
     requires bidders { length eligibility.now ≡ length award.now.bidders }
     requires categories { length «package».now ≡ length award.now.supply }
-    ensures reply { result ≡ bid_reply award.now Stage.Clock (slice_index eligibility.now (bidder - 1)) bidder «package».now }
+    ensures reply { result
+        ≡ bid_reply award.now Stage.Clock (slice_index eligibility.now (bidder - 1)) bidder «package».now }
     ensures few { result ≡ Reply.Ok → sum «package».now ≤ MOST_LOTS }
 {
     if bidder == 0 || bidder as usize > award.bidders() {

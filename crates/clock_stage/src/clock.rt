@@ -84,7 +84,8 @@ impl Clock {
         ensures award { IsFor award.now self.new }
         ensures refused { result ≢ Reply.Ok → self.new ≡ self.old }
         ensures stands { (log : List Event) → self.old ≡ clock_of (state_of award.now log)
-            → (result ≡ reply_to award.now log (Event.Bid bidder «package».now)) × (self.new ≡ clock_of (state_of award.now (Event.Bid bidder «package».now ∷ log))) }
+            → (result ≡ reply_to award.now log (Event.Bid bidder «package».now))
+            × (self.new ≡ clock_of (state_of award.now (Event.Bid bidder «package».now ∷ log))) }
     {
         let reply = reply_to_bid(award, &self.posted.eligibility, bidder, package);
         if matches!(reply, Reply::Ok) {
@@ -102,11 +103,15 @@ impl Clock {
     pub fn close(&mut self, alloc: Global, award: &Award) -> Closed
         requires running { IsTrue self.old.running }
         requires award { IsFor award.now self.old }
-        ensures clock { ((result ≡ Closed.Memory) × (self.new ≡ self.old)) ⊎ (Tells result (reply_to_close award.now self.old) self.new × (self.new ≡ after_close award.now self.old)) }
+        ensures clock { ((result ≡ Closed.Memory) × (self.new ≡ self.old))
+            ⊎ (Tells result (reply_to_close award.now self.old) self.new
+            × (self.new ≡ after_close award.now self.old)) }
         ensures award { IsFor award.now self.new }
         ensures refused { IsRefusal result → self.new ≡ self.old }
         ensures stands { (log : List Event) → self.old ≡ clock_of (state_of award.now log)
-            → ((result ≡ Closed.Memory) × (self.new ≡ self.old)) ⊎ (Tells result (reply_to award.now log Event.Close) self.new × (self.new ≡ clock_of (state_of award.now (Event.Close ∷ log)))) }
+            → ((result ≡ Closed.Memory) × (self.new ≡ self.old))
+            ⊎ (Tells result (reply_to award.now log Event.Close) self.new
+            × (self.new ≡ clock_of (state_of award.now (Event.Close ∷ log)))) }
     {
         match closing_of(alloc, award, &self.history, &self.posted) {
             Ok(Closing::Next(next)) => self.post(next),
@@ -120,7 +125,9 @@ impl Clock {
     fn post(&mut self, next: ClockRound) -> Closed
         requires running { IsTrue self.old.running }
         requires kept { IsClock (clock_with true (self.old.rounds ++ self.old.posted ∷ []) (round_value next)) }
-        ensures { ((result ≡ Closed.Memory) × (self.new ≡ self.old)) ⊎ ((result ≡ Closed.NextRound (round_number self.new)) × (self.new ≡ clock_with true (self.old.rounds ++ self.old.posted ∷ []) (round_value next))) }
+        ensures { ((result ≡ Closed.Memory) × (self.new ≡ self.old))
+            ⊎ ((result ≡ Closed.NextRound (round_number self.new))
+            × (self.new ≡ clock_with true (self.old.rounds ++ self.old.posted ∷ []) (round_value next))) }
     {
         if self.history.close(&mut self.posted, next).is_err() {
             return Closed::Memory;
@@ -131,7 +138,9 @@ impl Clock {
     /// Closes the final round, of which this is a copy.
     fn end(&mut self, last: ClockRound) -> Closed
         requires { IsClock (clock_with false (self.old.rounds ++ self.old.posted ∷ []) (round_value last)) }
-        ensures { ((result ≡ Closed.Memory) × (self.new ≡ self.old)) ⊎ ((result ≡ Closed.StageEnds) × (self.new ≡ clock_with false (self.old.rounds ++ self.old.posted ∷ []) (round_value last))) }
+        ensures { ((result ≡ Closed.Memory) × (self.new ≡ self.old))
+            ⊎ ((result ≡ Closed.StageEnds)
+            × (self.new ≡ clock_with false (self.old.rounds ++ self.old.posted ∷ []) (round_value last))) }
     {
         if self.history.close(&mut self.posted, last).is_err() {
             return Closed::Memory;

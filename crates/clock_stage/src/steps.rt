@@ -49,7 +49,8 @@ pub fn raised_prices(
     requires demand { length demand.now ≡ length prices.now }
     requires supply { length supply.now ≡ length prices.now }
     requires most { All (λ p. p ≤ MOST_PRICE) prices.now }
-    ensures { IfOk result (λ v. v.items ≡ raised_prices table.now.tick table.now.thresholds prices.now demand.now supply.now) }
+    ensures { IfOk result
+        (λ v. v.items ≡ raised_prices table.now.tick table.now.thresholds prices.now demand.now supply.now) }
 {
     let mut next = Vec::with_capacity(alloc, prices.len())?;
     for (category, price) in prices.iter().enumerate() {

@@ -29,7 +29,8 @@ abbrev pub AreAmong : List Row → List (List ℕ) → List PricedRow → Type 0
 AreAmong rows choices [] = ⊤
 AreAmong [] choices (r ∷ kept) = ⊥
 AreAmong (row ∷ rows) [] (r ∷ kept) = ⊥
-AreAmong (row ∷ rows) (c ∷ choices) (r ∷ kept) = ((r.row ≡ row) × (r.choice ≡ c) × AreAmong rows choices kept) ⊎ AreAmong rows choices (r ∷ kept)
+AreAmong (row ∷ rows) (c ∷ choices) (r ∷ kept) = ((r.row ≡ row) × (r.choice ≡ c) × AreAmong rows choices kept)
+    ⊎ AreAmong rows choices (r ∷ kept)
 
 -- the rows with their choices and pairs of multipliers
 abbrev pub with_pairs : List Row → List (List ℕ) → List ℤ → List ℤ → List PricedRow

@@ -43,7 +43,9 @@ pub record IsSoFar (m : Market) (z weights : List ℕ) (rows : List Row) (choice
   pub below_value : (i : ℕ) → i < length rows → bounds rows i ≤ℤ value_of m z
   pub singles : HasSingles (winners_in z) rows
   pub each : AllByRecursion (IsPointOfTurn z weights) past
-  pub run : (v : ℕ → ℤ) → AreVickreyPrices m z v → (rest : List BidderTurn) → GoOn m (weight_of weights) z v (map (row_in z) rows) rest → GoOn m (weight_of weights) z v (single_rows v 0 z) (turns_of z past ++ rest)
+  pub run : (v : ℕ → ℤ) → AreVickreyPrices m z v → (rest : List BidderTurn)
+      → GoOn m (weight_of weights) z v (map (row_in z) rows) rest
+      → GoOn m (weight_of weights) z v (single_rows v 0 z) (turns_of z past ++ rest)
 
 -- the last point, which no coalition blocks, with its rows and all turns
 pub record HasEnded (m : Market) (z : List ℕ) (prices : List ℤ) (weights : List ℕ) (rows : List Row) (choices : List (List ℕ)) (turns : List Turn) (den : ℤ) (at first second : List ℤ) : Type 0 where

@@ -29,4 +29,5 @@ FewWin z weights = (winners_in z ≤ MOST_WINNERS) × (WeighAlike z weights ⊎ 
 
 -- more winners than one of these limits
 abbrev pub ManyWin : List ℕ → List ℕ → Type 0
-ManyWin z weights = (MOST_WINNERS < winners_in z) ⊎ ((MOST_WEIGHTED_WINNERS < winners_in z) × (WeighAlike z weights → ⊥))
+ManyWin z weights = (MOST_WINNERS < winners_in z)
+    ⊎ ((MOST_WEIGHTED_WINNERS < winners_in z) × (WeighAlike z weights → ⊥))

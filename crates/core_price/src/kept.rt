@@ -13,7 +13,9 @@ pub(crate) fn kept_rows(alloc: Global, asked: &Asked, near: &Nearest) -> Result<
     requires choices { length asked.now.choices.items ≡ length asked.now.rows.items }
     requires first { length near.now.first ≡ length asked.now.rows.items }
     requires second { length near.now.second ≡ length asked.now.rows.items }
-    ensures { IfOk result (λ rows. rows ≡ filter Kept.is_used (with_pairs asked.now.rows.items asked.now.choices.items near.now.first near.now.second)) }
+    ensures { IfOk result
+        (λ rows. rows ≡ filter Kept.is_used
+        (with_pairs asked.now.rows.items asked.now.choices.items near.now.first near.now.second)) }
 {
     let mut kept = RowList::new(alloc);
     for (i, row) in asked.rows.iter().enumerate() {

@@ -61,10 +61,12 @@ pub fn price<C: Chooser>(
     requires singles { AreSingles (C.market chooser.now) (C.chosen chooser.now) singles.now }
     requires weights { AreWeights (C.market chooser.now).bidders weights.now }
     requires members { (C.market chooser.now).bidders ≤ 64 }
-    requires worth { value_of (C.market chooser.now) (C.chosen chooser.now) ≤ℤ pos (winners_in (C.chosen chooser.now) * MOST_AMOUNT) }
+    requires worth { value_of (C.market chooser.now) (C.chosen chooser.now)
+        ≤ℤ pos (winners_in (C.chosen chooser.now) * MOST_AMOUNT) }
     ensures priced { IfOk result (IsPriced (C.market chooser.now) (C.chosen chooser.now) weights.now singles.now) }
     ensures table { IfOk result (λ p. C.is_table chooser.now p.den
-        (surpluses_of (C.market chooser.now) (C.chosen chooser.now) p.den (for_bidders (C.chosen chooser.now) p.at)) p.last.table) }
+        (surpluses_of (C.market chooser.now) (C.chosen chooser.now) p.den
+        (for_bidders (C.chosen chooser.now) p.at)) p.last.table) }
     ensures few { IfOk result (λ p. FewWin (C.chosen chooser.now) weights.now) }
     ensures stops { IfErr result (IsStop (C.chosen chooser.now) weights.now) }
 {
@@ -84,11 +86,13 @@ fn few_priced<C: Chooser>(
     requires singles { AreSingles (C.market chooser.now) (C.chosen chooser.now) singles.now }
     requires weights { AreWeights (C.market chooser.now).bidders weights.now }
     requires members { (C.market chooser.now).bidders ≤ 64 }
-    requires worth { value_of (C.market chooser.now) (C.chosen chooser.now) ≤ℤ pos (winners_in (C.chosen chooser.now) * MOST_AMOUNT) }
+    requires worth { value_of (C.market chooser.now) (C.chosen chooser.now)
+        ≤ℤ pos (winners_in (C.chosen chooser.now) * MOST_AMOUNT) }
     requires few { FewWin (C.chosen chooser.now) weights.now }
     ensures priced { IfOk result (IsPriced (C.market chooser.now) (C.chosen chooser.now) weights.now singles.now) }
     ensures table { IfOk result (λ p. C.is_table chooser.now p.den
-        (surpluses_of (C.market chooser.now) (C.chosen chooser.now) p.den (for_bidders (C.chosen chooser.now) p.at)) p.last.table) }
+        (surpluses_of (C.market chooser.now) (C.chosen chooser.now) p.den
+        (for_bidders (C.chosen chooser.now) p.at)) p.last.table) }
 {
     let prices = prices_of(alloc, singles)?;
     let asked = first_rows(alloc, singles)?;

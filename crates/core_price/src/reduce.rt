@@ -15,7 +15,8 @@ pub(crate) fn reduced(alloc: Global, near: Nearest) -> Result<Nearest, AllocErro
     requires at { AreBelow (2 ^ 120) near.at }
     requires first { AreBelow (2 ^ 120) near.first }
     requires second { AreBelow (2 ^ 120) near.second }
-    ensures same { IfOk result (λ p. (g : ℤ) × IsMultiple g p.den p.at p.first p.second near.den near.at near.first near.second) }
+    ensures same { IfOk result
+        (λ p. (g : ℤ) × IsMultiple g p.den p.at p.first p.second near.den near.at near.first near.second) }
     ensures lowest { IfOk result (λ p. IsLowest p.den p.at p.first p.second) }
 {
     let divisor = greatest_divisor(&near);
@@ -38,7 +39,8 @@ fn greatest_divisor(near: &Nearest) -> i128
     requires second { AreBelow (2 ^ 120) near.now.second }
     ensures positive { pos 0 <ℤ result }
     ensures divides { DividesPoint result near.now.den near.now.at near.now.first near.now.second }
-    ensures greatest { (g : ℕ) → DividesPoint (pos g) near.now.den near.now.at near.now.first near.now.second → Divides (pos g) result }
+    ensures greatest { (g : ℕ) → DividesPoint (pos g) near.now.den near.now.at near.now.first near.now.second
+        → Divides (pos g) result }
 {
     let divisor = common_divisor(near.den, near.at.items());
     let divisor = common_divisor(divisor, near.first.items());

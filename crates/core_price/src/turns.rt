@@ -41,12 +41,20 @@ pub(crate) fn take_turns<C: Chooser>(
     asked: Asked,
 ) -> Result<Ended<C::Table>, AllocError>
     requires can { CanTurn (C.market chooser.now) (C.chosen chooser.now) prices.now weights.now }
-    requires start { IsSoFar (C.market chooser.now) (C.chosen chooser.now) weights.now asked.rows.items asked.choices.items [] }
-    ensures ended { IfOk result (λ e. HasEnded (C.market chooser.now) (C.chosen chooser.now) prices.now weights.now e.asked.rows.items e.asked.choices.items e.turns e.near.den e.near.at e.near.first e.near.second) }
+    requires start { IsSoFar (C.market chooser.now)
+        (C.chosen chooser.now) weights.now asked.rows.items asked.choices.items [] }
+    ensures ended { IfOk result
+        (λ e. HasEnded (C.market chooser.now)
+        (C.chosen chooser.now) prices.now weights.now e.asked.rows.items e.asked.choices.items e.turns e.near.den e.near.at e.near.first e.near.second) }
     ensures rows { IfOk result (λ e. e.asked.rows.items ≡ asked.rows.items ++ block_rows e.turns) }
     ensures choices { IfOk result (λ e. e.asked.choices.items ≡ asked.choices.items ++ block_choices e.turns) }
-    ensures found { IfOk result (λ e. IsFound (C.market chooser.now) (C.chosen chooser.now) e.near.den (Winners.for_bidders (C.chosen chooser.now) e.near.at) e.last.choice e.last.sum) }
-    ensures table { IfOk result (λ e. C.is_table chooser.now e.near.den (surpluses_of (C.market chooser.now) (C.chosen chooser.now) e.near.den (Winners.for_bidders (C.chosen chooser.now) e.near.at)) e.last.table) }
+    ensures found { IfOk result
+        (λ e. IsFound (C.market chooser.now) (C.chosen chooser.now) e.near.den
+        (Winners.for_bidders (C.chosen chooser.now) e.near.at) e.last.choice e.last.sum) }
+    ensures table { IfOk result
+        (λ e. C.is_table chooser.now e.near.den
+        (surpluses_of (C.market chooser.now) (C.chosen chooser.now) e.near.den
+        (Winners.for_bidders (C.chosen chooser.now) e.near.at)) e.last.table) }
 {
     let Asked {
         mut rows,

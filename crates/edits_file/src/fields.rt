@@ -24,7 +24,8 @@ pub fn read_bid(
     fields: &[u8],
 ) -> Result<(u16, Package, u64), LineStop>
     ensures ok { IfOk result (λ b. StatesBid book.now fields.now b.0 b.1 b.2) }
-    ensures form { result ≡ Err LineStop.Form → (bidder : ℕ) (lots : List ℕ) (amount : ℕ) → StatesBid book.now fields.now bidder lots amount → ⊥ }
+    ensures form { result ≡ Err LineStop.Form → (bidder : ℕ) (lots : List ℕ) (amount : ℕ)
+        → StatesBid book.now fields.now bidder lots amount → ⊥ }
     ensures not_full { result ≢ Err LineStop.Full }
 {
     let (bidder, package, rest) = read_head(alloc, book, fields)?;
@@ -41,7 +42,8 @@ pub fn read_package(
     fields: &[u8],
 ) -> Result<(u16, Package), LineStop>
     ensures ok { IfOk result (λ p. StatesPackage book.now fields.now p.0 p.1) }
-    ensures form { result ≡ Err LineStop.Form → (bidder : ℕ) (lots : List ℕ) → StatesPackage book.now fields.now bidder lots → ⊥ }
+    ensures form { result ≡ Err LineStop.Form → (bidder : ℕ) (lots : List ℕ)
+        → StatesPackage book.now fields.now bidder lots → ⊥ }
     ensures not_full { result ≢ Err LineStop.Full }
 {
     let (bidder, package, rest) = read_head(alloc, book, fields)?;
@@ -58,7 +60,8 @@ fn read_head<'a>(
     fields: &'a [u8],
 ) -> Result<(u16, Package, &'a [u8]), LineStop>
     ensures ok { IfOk result (λ h. IsHead book.now fields.now h.0 h.1 h.2.now) }
-    ensures form { result ≡ Err LineStop.Form → (bidder : ℕ) (lots rest : List ℕ) → IsHead book.now fields.now bidder lots rest → ⊥ }
+    ensures form { result ≡ Err LineStop.Form → (bidder : ℕ) (lots rest : List ℕ)
+        → IsHead book.now fields.now bidder lots rest → ⊥ }
     ensures not_full { result ≢ Err LineStop.Full }
 {
     let Some((bidder, behind)) = read_bidder(book, fields) else {
@@ -71,7 +74,9 @@ fn read_head<'a>(
 
 /// The bidder of the name at the front of a text, and what follows the name.
 fn read_bidder<'a>(book: &BidBook, text: &'a [u8]) -> Option<(u16, &'a [u8])>
-    ensures found { IfSome result (λ p. (name : List ℕ) × IsName name × (text.now ≡ name ++ p.1.now) × FieldEnds p.1.now × (p.0 ≡ number_among name 0 book.now.bidders)) }
+    ensures found { IfSome result
+        (λ p. (name : List ℕ) × IsName name × (text.now ≡ name ++ p.1.now) × FieldEnds p.1.now
+        × (p.0 ≡ number_among name 0 book.now.bidders)) }
     ensures none { IfNone result ((name rest : List ℕ) → IsName name → FieldEnds rest → text.now ≡ name ++ rest → ⊥) }
 {
     let (name, rest) = text.split_at(field_len(text));
@@ -101,7 +106,8 @@ fn read_counts<'a>(
 ) -> Result<(Vec<u16>, &'a [u8]), LineStop>
     requires { FieldEnds text.now }
     ensures ok { IfOk result (λ p. BeginsWithCounts categories text.now p.0.items p.1.now) }
-    ensures form { result ≡ Err LineStop.Form → (lots rest : List ℕ) → BeginsWithCounts categories text.now lots rest → ⊥ }
+    ensures form { result ≡ Err LineStop.Form → (lots rest : List ℕ) → BeginsWithCounts categories text.now lots rest
+        → ⊥ }
     ensures not_full { result ≢ Err LineStop.Full }
 {
     let mut counts = Vec::with_capacity(alloc, categories)?;

@@ -10,11 +10,13 @@ ghost use Rattle.edits_file.specs.EditsForm.{EditsSay, NamedEdit, edits_of};
 /// Bytes say one thing of the edits of a book: edits, where the first faulty line begins, or that there are too many. So each answer
 /// of `read_edits` comes exactly where the bytes say so.
 pub fn one_edits()
-    ensures { (categories : ℕ) (bytes : List ℕ) (x y : Said (List NamedEdit) Excess) → EditsSay categories bytes x → EditsSay categories bytes y → x ≡ y }
+    ensures { (categories : ℕ) (bytes : List ℕ) (x y : Said (List NamedEdit) Excess) → EditsSay categories bytes x
+        → EditsSay categories bytes y → x ≡ y }
 {}
 
 /// Each edit that bytes state for a book has a count for each category of the book.
 pub fn edit_counts()
-    ensures { (book : Book) (bytes : List ℕ) (named : List NamedEdit) → EditsSay (length book.supply) bytes (stated named)
+    ensures { (book : Book) (bytes : List ℕ) (named : List NamedEdit)
+        → EditsSay (length book.supply) bytes (stated named)
         → AllByRecursion (λ e. length (edit_lots e) ≡ length book.supply) (edits_of book named) }
 {}

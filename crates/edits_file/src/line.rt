@@ -12,7 +12,8 @@ use std::alloc::Global;
 /// The edit of the book that a line states.
 pub fn read_edit(alloc: Global, book: &BidBook, line: &[u8]) -> Result<Edit, LineStop>
     ensures ok { IfOk result (λ edit. (named : NamedEdit) × States book.now line.now named edit) }
-    ensures form { result ≡ Err LineStop.Form → (named : NamedEdit) (edit : Edit) → States book.now line.now named edit → ⊥ }
+    ensures form { result ≡ Err LineStop.Form → (named : NamedEdit) (edit : Edit)
+        → States book.now line.now named edit → ⊥ }
     ensures not_full { result ≢ Err LineStop.Full }
 {
     if let Some(fields) = line.strip_prefix(b"add ") {

@@ -31,10 +31,15 @@ pub enum Stage {
 /// `add` or `raise` with a name, a count for each category and an amount, or `drop` with a name and the counts, and last `end`. A
 /// name that the book doesn't have is bidder 0.
 pub fn read_edits(alloc: Global, bytes: &[u8], book: &BidBook) -> Result<Edits, EditStop>
-    ensures text { IfOk result (λ edits. (named : List NamedEdit) × EditsSay (length book.now.supply) bytes.now (stated named) × (edits ≡ edits_of book.now named)) }
-    ensures categories { IfOk result (λ edits. AllByRecursion (λ e. length (edit_lots e) ≡ length book.now.supply) edits) }
-    ensures form { (place : ℕ) → result ≡ Err (EditStop.Form place) → EditsSay (length book.now.supply) bytes.now (faulty place) }
-    ensures limit { (which : LimitKind) (count : ℕ) → result ≡ Err (EditStop.Limit which count) → EditsSay (length book.now.supply) bytes.now (beyond (which, count)) }
+    ensures text { IfOk result
+        (λ edits. (named : List NamedEdit) × EditsSay (length book.now.supply) bytes.now (stated named)
+        × (edits ≡ edits_of book.now named)) }
+    ensures categories { IfOk result
+        (λ edits. AllByRecursion (λ e. length (edit_lots e) ≡ length book.now.supply) edits) }
+    ensures form { (place : ℕ) → result ≡ Err (EditStop.Form place)
+        → EditsSay (length book.now.supply) bytes.now (faulty place) }
+    ensures limit { (which : LimitKind) (count : ℕ) → result ≡ Err (EditStop.Limit which count)
+        → EditsSay (length book.now.supply) bytes.now (beyond (which, count)) }
 {
     let mut stage = Stage::Start;
     let mut place = 0;
@@ -58,7 +63,8 @@ pub fn read_edits(alloc: Global, bytes: &[u8], book: &BidBook) -> Result<Edits, 
 fn take_line(alloc: Global, stage: Stage, book: &BidBook, line: &[u8]) -> Result<Stage, LineStop>
     ensures ok { IfOk result (λ next. Step book.now stage line.now next × (excess next ≡ None)) }
     ensures form { result ≡ Err LineStop.Form → (t : Stage) → Step book.now stage line.now t → ⊥ }
-    ensures full { result ≡ Err LineStop.Full → (t : Stage) × Step book.now stage line.now t × (excess t ≡ Some (Records, MOST_EDITS + 1)) }
+    ensures full { result ≡ Err LineStop.Full
+        → (t : Stage) × Step book.now stage line.now t × (excess t ≡ Some (Records, MOST_EDITS + 1)) }
 {
     match stage {
         Stage::Start => take_first(alloc, book, line),
@@ -88,7 +94,8 @@ fn take_listed(
 ) -> Result<Stage, LineStop>
     ensures ok { IfOk result (λ next. Step book.now (Stage.Listing edits) line.now next × (excess next ≡ None)) }
     ensures form { result ≡ Err LineStop.Form → (t : Stage) → Step book.now (Stage.Listing edits) line.now t → ⊥ }
-    ensures full { result ≡ Err LineStop.Full → (t : Stage) × Step book.now (Stage.Listing edits) line.now t × (excess t ≡ Some (Records, MOST_EDITS + 1)) }
+    ensures full { result ≡ Err LineStop.Full
+        → (t : Stage) × Step book.now (Stage.Listing edits) line.now t × (excess t ≡ Some (Records, MOST_EDITS + 1)) }
 {
     if line == b"end".as_slice() {
         return Ok(Stage::Ended(edits));

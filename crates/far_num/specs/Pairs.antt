@@ -25,7 +25,8 @@ both k = record { far = k; near = k }
 -- the exact pair where both parts are in the range, and else the operation on the far parts or, where their result is in the range, on the near parts
 abbrev pub IsExactPair : Op → Far → Far → Far → Result Far Wide → Type 0
 IsExactPair op a b exact (Ok z) = (z ≡ exact) × IsInRange exact
-IsExactPair op a b exact (Err w) = Leaves w op a.far b.far exact.far ⊎ (InRange exact.far × Leaves w op a.near b.near exact.near)
+IsExactPair op a b exact (Err w) = Leaves w op a.far b.far exact.far
+    ⊎ (InRange exact.far × Leaves w op a.near b.near exact.near)
 
 -- the pair at a place of a list, and 0 past its end
 abbrev pub pair_at : List Far → ℕ → Far

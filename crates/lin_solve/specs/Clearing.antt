@@ -21,7 +21,8 @@ pub record IsClearing (lines : List (List ℤ)) (i : ℕ) (f : List ℤ) : Type 
   pub place : ℕ
   pub below : place < length lines
   pub apart : nth f place ≢ pos 0
-  pub small : (limit : ℕ) → 1 ≤ limit → HasSizedColumns limit lines → IsWithin (bound limit (length lines)) (length lines) (nth f)
+  pub small : (limit : ℕ) → 1 ≤ limit → HasSizedColumns limit lines
+      → IsWithin (bound limit (length lines)) (length lines) (nth f)
   pub clear : (k : ℕ) → k < length lines → k ≢ i → dot (length lines) (nth f) (λ (m : ℕ). row lines m k) ≡ pos 0
 
 -- by some f that clears all columns but the one at i: its product with that column, and with the two parts of the right side

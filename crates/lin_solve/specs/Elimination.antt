@@ -67,9 +67,11 @@ pub record Ready (line : List ℤ) (basis : List (List ℤ)) (free : List Bool) 
   pub sized : size (length line) (nth line) ≤ limit
   pub room : HasRoom limit (length line)
   pub lengths : (j : ℕ) → j < length free → flag free j ≡ true → length (slice_index_or basis j []) ≡ length free
-  pub small : (j : ℕ) → j < length free → flag free j ≡ true → IsWithin (bound limit (length line)) (length line) (row basis j)
+  pub small : (j : ℕ) → j < length free → flag free j ≡ true
+      → IsWithin (bound limit (length line)) (length line) (row basis j)
   pub own : (j : ℕ) → j < length free → flag free j ≡ true → row basis j j ≢ pos 0
-  pub others : (j l : ℕ) → j < length free → l < length free → flag free j ≡ true → flag free l ≡ true → l ≢ j → row basis j l ≡ pos 0
+  pub others : (j l : ℕ) → j < length free → l < length free → flag free j ≡ true → flag free l ≡ true → l ≢ j
+      → row basis j l ≡ pos 0
 
 -- the row of j after the line is cleared at the pivot
 abbrev pub IsNext : List ℤ → List (List ℤ) → ℕ → ℕ → List ℤ → Type 0
@@ -77,11 +79,13 @@ IsNext line basis p j y = Reduces (product line (slice_index_or basis p [])) (pr
 
 -- p is free, and the line doesn't send its row to 0
 abbrev pub CanClear : List ℤ → List (List ℤ) → List Bool → ℕ → Type 0
-CanClear line basis free p = (p < length free) × (flag free p ≡ true) × (product line (slice_index_or basis p []) ≢ pos 0)
+CanClear line basis free p = (p < length free) × (flag free p ≡ true)
+    × (product line (slice_index_or basis p []) ≢ pos 0)
 
 -- the line sends the rows of all free coordinates to 0
 abbrev pub NoneCanClear : List ℤ → List (List ℤ) → List Bool → Type 0
-NoneCanClear line basis free = (j : ℕ) → j < length free → flag free j ≡ true → product line (slice_index_or basis j []) ≡ pos 0
+NoneCanClear line basis free = (j : ℕ) → j < length free → flag free j ≡ true
+    → product line (slice_index_or basis j []) ≡ pos 0
 
 -- v is 1 at j and 0 elsewhere
 pub record IsUnit (n j : ℕ) (v : List ℤ) : Type 0 where

@@ -39,8 +39,10 @@ IsAnswer m fars nears (Dependent combination) = IsDependence m combination
 
 -- the denominator and the numbers of a combination are below the first bound in size, and the parts of the values below the second
 abbrev pub IsSmallAnswer : ℕ → ℕ → Solved → Type 0
-IsSmallAnswer top part (One den values) = (unsigned_abs den < top) × ((i : ℕ) → i < length values → (unsigned_abs (far_at values i) < part) × (unsigned_abs (near_at values i) < part))
-IsSmallAnswer top part (Dependent combination) = (i : ℕ) → i < length combination → unsigned_abs (nth combination i) < top
+IsSmallAnswer top part (One den values) = (unsigned_abs den < top)
+    × ((i : ℕ) → i < length values → (unsigned_abs (far_at values i) < part) × (unsigned_abs (near_at values i) < part))
+IsSmallAnswer top part (Dependent combination) = (i : ℕ) → i < length combination
+    → unsigned_abs (nth combination i) < top
 
 -- entries from 0 to the top, and parts of the right side up to the edge in size
 pub record IsSmallSystem (size top edge : ℕ) (m : List (List ℤ)) (right : List Far) : Type 0 where

@@ -86,10 +86,12 @@ fn near_parts(alloc: Global, right: &[Far]) -> Result<NumList, AllocError>
 /// size, or at most four lines with entries up to 80 and a right side up to 2^45.
 pub fn solve(alloc: Global, matrix: &Square, right: &[Far]) -> Result<Solved, AllocError>
     requires long { length right.now ≡ length matrix.now }
-    requires small { IsSmallSystem 6 6 (2 ^ 46) matrix.now right.now ⊎ IsSmallSystem 4 80 (2 ^ 45) matrix.now right.now }
+    requires small { IsSmallSystem 6 6 (2 ^ 46) matrix.now right.now
+        ⊎ IsSmallSystem 4 80 (2 ^ 45) matrix.now right.now }
     ensures answer { IfOk result (λ s. IsAnswer matrix.now (far_at right.now) (near_at right.now) s) }
     ensures bounds { IfOk result (λ s. IsSmallAnswer (320 ^ 4 + 1) (2 ^ 106) s) }
-    ensures smaller { IsSmallSystem 6 6 (2 ^ 46) matrix.now right.now → IfOk result (λ s. IsSmallAnswer (2 ^ 32) (2 ^ 106) s) }
+    ensures smaller { IsSmallSystem 6 6 (2 ^ 46) matrix.now right.now
+        → IfOk result (λ s. IsSmallAnswer (2 ^ 32) (2 ^ 106) s) }
 {
     let fars = far_parts(alloc, right)?;
     let nears = near_parts(alloc, right)?;

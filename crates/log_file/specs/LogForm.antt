@@ -29,11 +29,14 @@ four kind bidder lots amount = kind ∷ bidder ∷ lots ∷ amount ∷ []
 -- a record with these fields states the event
 abbrev pub States : Terms → List (List ℕ) → Event → Type 0
 States terms fields (Bid k lots) =
-    (name : List ℕ) × IsNameOf terms k name × AreCounts (length terms.supply) lots × (fields ≡ four (codes "bid") name (counts_text lots) [])
+    (name : List ℕ) × IsNameOf terms k name × AreCounts (length terms.supply) lots
+    × (fields ≡ four (codes "bid") name (counts_text lots) [])
 States terms fields (Draft k lots amount) =
-    (name : List ℕ) × IsNameOf terms k name × AreCounts (length terms.supply) lots × (amount ≤ 10 ^ 18) × (fields ≡ four (codes "draft") name (counts_text lots) (decimal amount))
+    (name : List ℕ) × IsNameOf terms k name × AreCounts (length terms.supply) lots × (amount ≤ 10 ^ 18)
+    × (fields ≡ four (codes "draft") name (counts_text lots) (decimal amount))
 States terms fields (Drop k lots) =
-    (name : List ℕ) × IsNameOf terms k name × AreCounts (length terms.supply) lots × (fields ≡ four (codes "drop") name (counts_text lots) [])
+    (name : List ℕ) × IsNameOf terms k name × AreCounts (length terms.supply) lots
+    × (fields ≡ four (codes "drop") name (counts_text lots) [])
 States terms fields (Submit k) = (name : List ℕ) × IsNameOf terms k name × (fields ≡ four (codes "submit") name [] [])
 States terms fields Close = fields ≡ four (codes "close") [] [] []
 

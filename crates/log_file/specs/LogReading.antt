@@ -35,7 +35,8 @@ AreLog terms rows events = AllState terms rows events × (length events ≤ MOST
 abbrev pub IsFirstFault : Terms → List (List (List ℕ)) → ℕ → Type 0
 IsFirstFault terms rows number =
     (events : List Event) × (fields : List (List ℕ)) × (later : List (List (List ℕ)))
-    × BeginWith terms rows events (fields ∷ later) × StatesNone terms fields × (length events < MOST_RECORDS) × (number ≡ suc (length events))
+    × BeginWith terms rows events (fields ∷ later) × StatesNone terms fields × (length events < MOST_RECORDS)
+    × (number ≡ suc (length events))
 
 -- behind as many records as a log may have, each of which states an event, follows another one
 abbrev pub AreTooMany : Terms → List (List (List ℕ)) → Type 0

@@ -18,6 +18,7 @@ pub record HasLeft {R : Type 0} (known : R → Option (List ℕ)) (reader : Read
   pub rows_are : records_from default_config fuel (reader_state reader) bytes ≡ rows
 
 -- a record was found, with these fields, and the others are left; or there was none
-abbrev pub Takes : {R : Type 0} → (R → Option (List ℕ)) → Reader R → List (List (List ℕ)) → Bool → List (List ℕ) → Type 0
+abbrev pub Takes : {R : Type 0} → (R → Option (List ℕ)) → Reader R → List (List (List ℕ)) → Bool → List (List ℕ)
+    → Type 0
 Takes known reader rows true fields = (rest : List (List (List ℕ))) × (rows ≡ fields ∷ rest) × HasLeft known reader rest
 Takes known reader rows false fields = rows ≡ []

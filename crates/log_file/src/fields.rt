@@ -48,8 +48,11 @@ pub fn read_package(
     award: &Award,
     field: &[u8],
 ) -> Result<Option<Package>, AllocError>
-    ensures found { IfOk result (λ read. IfSome read (λ p. AreCounts (length award.now.supply) p × (field.now ≡ counts_text p))) }
-    ensures none { IfOk result (λ read. IfNone read ((ns : List ℕ) → AreCounts (length award.now.supply) ns → field.now ≡ counts_text ns → ⊥)) }
+    ensures found { IfOk result
+        (λ read. IfSome read (λ p. AreCounts (length award.now.supply) p × (field.now ≡ counts_text p))) }
+    ensures none { IfOk result
+        (λ read. IfNone read
+        ((ns : List ℕ) → AreCounts (length award.now.supply) ns → field.now ≡ counts_text ns → ⊥)) }
 {
     let mut counts = Counts::new();
     if !add_counts(&mut counts, categories(award), field) {
@@ -74,7 +77,9 @@ fn categories(award: &Award) -> usize
 fn add_counts(counts: &mut Counts, categories: usize, text: &[u8]) -> bool
     requires some { 0 < categories }
     requires room { length counts.old.items + categories ≤ MOST_CATEGORIES }
-    ensures added { result ≡ true → (ns : List ℕ) × AreCounts categories ns × (text.now ≡ counts_text ns) × (counts.new.items ≡ counts.old.items ++ ns) }
+    ensures added { result ≡ true
+        → (ns : List ℕ) × AreCounts categories ns × (text.now ≡ counts_text ns)
+        × (counts.new.items ≡ counts.old.items ++ ns) }
     ensures none { result ≡ false → (ns : List ℕ) → AreCounts categories ns → text.now ≡ counts_text ns → ⊥ }
 {
     let (field, more) = text.split_at(field_len(text));

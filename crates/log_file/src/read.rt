@@ -50,8 +50,12 @@ fn take_record(
     row: &mut ByteRecord,
     number: u64,
 ) -> Result<bool, LogStop>
-    ensures ok { IfOk result (λ found. (rows : List (List (List ℕ))) → HasLeft (λ s. Some s.now) reader.old rows → Takes (λ s. Some s.now) reader.new rows found (fields_of row.new)) }
-    ensures err { IfErr result (λ stop. (rows : List (List (List ℕ))) → HasLeft (λ s. Some s.now) reader.old rows → stop ≡ LogStop.Memory) }
+    ensures ok { IfOk result
+        (λ found. (rows : List (List (List ℕ))) → HasLeft (λ s. Some s.now) reader.old rows
+        → Takes (λ s. Some s.now) reader.new rows found (fields_of row.new)) }
+    ensures err { IfErr result
+        (λ stop. (rows : List (List (List ℕ))) → HasLeft (λ s. Some s.now) reader.old rows
+        → stop ≡ LogStop.Memory) }
 {
     match reader.read_byte_record(row) {
         Ok(found) => Ok(found),

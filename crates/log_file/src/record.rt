@@ -58,7 +58,9 @@ fn field(row: &ByteRecord, i: usize) -> &[u8]
 
 /// The event that these fields state.
 fn event_of(alloc: Global, award: &Award, fields: Fields<'_>) -> Result<Option<Event>, AllocError>
-    ensures { IfOk result (ReadsAs award.now (four fields.entry.kind.now fields.entry.bidder.now fields.entry.lots.now fields.entry.amount.now)) }
+    ensures { IfOk result
+        (ReadsAs award.now
+        (four fields.entry.kind.now fields.entry.bidder.now fields.entry.lots.now fields.entry.amount.now)) }
 {
     if is_word(fields.kind, b"bid") {
         return bid_of(alloc, award, fields.bidder, fields.lots, fields.amount);

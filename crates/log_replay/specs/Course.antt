@@ -21,8 +21,10 @@ pub record IsAnswered (terms : Terms) (log : List Event) (line : Event) (answer 
 
 -- a desk that stood for a log answered the line as it is to be, and stands for the log with the line
 abbrev pub Answers : DeskState → Event → Reply → DeskState → Type 0
-Answers old line answer new = (terms : Terms) (log : List Event) → old ≡ state_of terms log → IsAnswered terms log line answer new
+Answers old line answer new = (terms : Terms) (log : List Event) → old ≡ state_of terms log
+    → IsAnswered terms log line answer new
 
 -- the line of this number was replayed behind those before it
 abbrev pub TakesLine : Course → ℕ → Event → Course → Type 0
-TakesLine old number line new = (terms : Terms) (log : List Event) → IsCourse terms log old → number ≡ suc (length log) → IsCourse terms (line ∷ log) new
+TakesLine old number line new = (terms : Terms) (log : List Event) → IsCourse terms log old
+    → number ≡ suc (length log) → IsCourse terms (line ∷ log) new

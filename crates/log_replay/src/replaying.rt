@@ -58,7 +58,9 @@ fn finish(alloc: Global, course: Course) -> Result<Replay, AllocError>
 
 /// The book of the desk, where the sealed round is closed.
 fn book_of(alloc: Global, desk: &Desk) -> Result<Result<BidBook, ReplayStop>, AllocError>
-    ensures { IfOk result (λ book. (terms : Terms) (log : List Event) → desk.now ≡ state_of terms log → book ≡ book_or_open terms log) }
+    ensures { IfOk result
+        (λ book. (terms : Terms) (log : List Event) → desk.now ≡ state_of terms log
+        → book ≡ book_or_open terms log) }
 {
     match desk.stage() {
         Stage::Closed => match desk.book(alloc) {

@@ -37,7 +37,8 @@ impl Package {
     /// The package of these counts. It stops at a number of categories that isn't 1 to 6.
     pub fn new(alloc: Global, counts: &[u16]) -> Result<Package, LotStop>
         ensures made { IfOk result (λ p. (p ≡ counts.now) × (categories_stop counts.now ≡ None)) }
-        ensures stopped { (stop : LotStop) → result ≡ Err stop → (stop ≡ LotStop.Memory) ⊎ (categories_stop counts.now ≡ Some stop) }
+        ensures stopped { (stop : LotStop) → result ≡ Err stop
+            → (stop ≡ LotStop.Memory) ⊎ (categories_stop counts.now ≡ Some stop) }
     {
         check_categories(counts)?;
         let counts = Vec::from_slice(alloc, counts)?;

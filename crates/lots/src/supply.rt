@@ -29,14 +29,16 @@ impl Model for Supply {
 
     ghost view = { λ s. s.counts.items };
 
-    ghost invariant = { λ s. IsSupply s.counts.items × (s.states ≡ states_of s.counts.items) × (s.widths.items ≡ widths_of s.counts.items) };
+    ghost invariant = { λ s. IsSupply s.counts.items × (s.states ≡ states_of s.counts.items)
+        × (s.widths.items ≡ widths_of s.counts.items) };
 }
 
 impl Supply {
     /// The supply of these counts. It stops at the first rule that they break, in the order of `LotStop`.
     pub fn new(alloc: Global, counts: &[u16]) -> Result<Supply, LotStop>
         ensures made { IfOk result (λ s. (s ≡ counts.now) × (supply_stop counts.now ≡ None)) }
-        ensures stopped { (stop : LotStop) → result ≡ Err stop → (stop ≡ LotStop.Memory) ⊎ (supply_stop counts.now ≡ Some stop) }
+        ensures stopped { (stop : LotStop) → result ≡ Err stop
+            → (stop ≡ LotStop.Memory) ⊎ (supply_stop counts.now ≡ Some stop) }
     {
         let states = check_supply(counts)?;
         let widths = widths_among(alloc, counts, states)?;

@@ -30,7 +30,8 @@ IsNear target weights rows forced from h =
 
 -- some point meets the forced rows with equality and the rows from `from` on, and the forced rows are independent
 abbrev pub IsOwed : List ℤ → List Row → List ℕ → ℕ → Type 0
-IsOwed target rows forced from = (e : ℤ) × ((x : ℕ → ℤ) × Owed (length target) (length rows) (coefficients rows) (bounds rows) forced from e x)
+IsOwed target rows forced from = (e : ℤ)
+    × ((x : ℕ → ℤ) × Owed (length target) (length rows) (coefficients rows) (bounds rows) forced from e x)
 
 -- what holds of the parts, and their sizes
 pub record HasParts (target : List ℤ) (weights : List ℕ) (rows : List Row) (h : Held) : Type 0 where
@@ -67,7 +68,8 @@ common m a b lowered = total m (λ j. a j *ℤ ((pos 0 -ℤ lowered j) *ℤ b j)
 
 -- the multipliers solve the system of the forced rows in one part, for these targets and bounds
 abbrev pub Solves : ℕ → ℕ → (ℕ → ℕ → ℤ) → (ℕ → ℤ) → ℤ → (ℕ → ℤ) → (ℕ → ℤ) → (ℕ → ℤ) → Type 0
-Solves m n a weight den multipliers target bound = (i : ℕ) → i < n → total n (λ k. gram m a weight i k *ℤ multipliers k) ≡ den *ℤ (bound i -ℤ dot m (a i) target)
+Solves m n a weight den multipliers target bound = (i : ℕ) → i < n
+    → total n (λ k. gram m a weight i k *ℤ multipliers k) ≡ den *ℤ (bound i -ℤ dot m (a i) target)
 
 -- the multipliers of the forced rows by parts, and their sizes
 pub record AreMultipliers (target : List ℤ) (weights : List ℕ) (rows : List Row) (forced : List ℕ) (f : Multipliers) : Type 0 where
@@ -84,4 +86,5 @@ pub record AreMultipliers (target : List ℤ) (weights : List ℕ) (rows : List 
 -- one part of a point: den times the target, moved at each coordinate by its weight times the multipliers of the rows that hold it
 pub record IsPart (rows : List Row) (forced : List ℕ) (weight : ℕ → ℤ) (den : ℤ) (target multipliers point : List ℤ) : Type 0 where
   pub long : length point ≡ length target
-  pub at : (j : ℕ) → j < length target → nth point j ≡ den *ℤ nth target j +ℤ weight j *ℤ total (length forced) (λ i. nth multipliers i *ℤ row_of rows forced i j)
+  pub at : (j : ℕ) → j < length target
+      → nth point j ≡ den *ℤ nth target j +ℤ weight j *ℤ total (length forced) (λ i. nth multipliers i *ℤ row_of rows forced i j)

@@ -56,17 +56,33 @@ pub fn nearest(
     requires targets { AreTargets target.now }
     requires bounds { AreBounds rows.now }
     requires sizes { AreOnes (length target.now) weights.now ⊎ IsNarrow target.now rows.now }
-    ensures lengths { IfOk result (λ p. (length p.at ≡ length target.now) × (length p.first ≡ length rows.now) × (length p.second ≡ length rows.now)) }
-    ensures meets { IfOk result (λ p. MeetsRows (length target.now) (length rows.now) (coefficients rows.now) (bounds rows.now) p.den (nth p.at)) }
-    ensures first { IfOk result (λ p. AreFirst (length target.now) (length rows.now) (coefficients rows.now) (bounds rows.now) p.den (nth p.at) (nth p.first)) }
-    ensures first_sums { IfOk result (λ p. SumsTo (length target.now) (length rows.now) (coefficients rows.now) p.den (nth p.first)) }
-    ensures second { IfOk result (λ p. AreSecond (length target.now) (length rows.now) (coefficients rows.now) (bounds rows.now) p.den (nth p.at) (nth p.first) (nth p.second) (nth target.now) (weight_at weights.now)) }
+    ensures lengths { IfOk result
+        (λ p. (length p.at ≡ length target.now) × (length p.first ≡ length rows.now)
+        × (length p.second ≡ length rows.now)) }
+    ensures meets { IfOk result
+        (λ p. MeetsRows (length target.now) (length rows.now) (coefficients rows.now) (bounds rows.now) p.den
+        (nth p.at)) }
+    ensures first { IfOk result
+        (λ p. AreFirst (length target.now) (length rows.now) (coefficients rows.now) (bounds rows.now) p.den
+        (nth p.at) (nth p.first)) }
+    ensures first_sums { IfOk result
+        (λ p. SumsTo (length target.now) (length rows.now) (coefficients rows.now) p.den (nth p.first)) }
+    ensures second { IfOk result
+        (λ p. AreSecond (length target.now) (length rows.now) (coefficients rows.now) (bounds rows.now) p.den
+        (nth p.at) (nth p.first) (nth p.second) (nth target.now) (weight_at weights.now)) }
     ensures few { IfOk result (λ p. pairs_used (length rows.now) (nth p.first) (nth p.second) ≤ length target.now) }
-    ensures least { IfOk result (λ p. HasLeastSum (length target.now) (MeetsRows (length target.now) (length rows.now) (coefficients rows.now) (bounds rows.now)) p.den (nth p.at)) }
-    ensures nearest { IfOk result (λ p. IsNearestTo (length target.now) (share_at weights.now) (nth target.now) (MeetsRows (length target.now) (length rows.now) (coefficients rows.now) (bounds rows.now)) p.den (nth p.at)) }
+    ensures least { IfOk result
+        (λ p. HasLeastSum (length target.now)
+        (MeetsRows (length target.now) (length rows.now) (coefficients rows.now) (bounds rows.now)) p.den
+        (nth p.at)) }
+    ensures nearest { IfOk result
+        (λ p. IsNearestTo (length target.now) (share_at weights.now) (nth target.now)
+        (MeetsRows (length target.now) (length rows.now) (coefficients rows.now) (bounds rows.now)) p.den
+        (nth p.at)) }
     ensures denominator { IfOk result (λ p. p.den ≤ℤ pos (320 ^ 4)) }
     ensures denominator_of_ones { AreOnes (length target.now) weights.now → IfOk result (λ p. p.den <ℤ pos (2 ^ 32)) }
-    ensures small { IfOk result (λ p. AreBelow (2 ^ 109) p.at × AreBelow (2 ^ 109) p.first × AreBelow (2 ^ 109) p.second) }
+    ensures small { IfOk result
+        (λ p. AreBelow (2 ^ 109) p.at × AreBelow (2 ^ 109) p.first × AreBelow (2 ^ 109) p.second) }
 {
     let held = search_all(alloc, target, weights, rows, &mut 0)?;
     let first = spread_out(alloc, rows.len(), &held.rows, &held.first)?;

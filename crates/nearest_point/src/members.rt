@@ -42,8 +42,10 @@ pub(crate) fn is_below(far: &[i128], near: &[i128], den: i128, row: Row) -> bool
     requires near { AreBelow (2 ^ 113) near.now }
     requires den { (pos 0 <ℤ den) × (den ≤ℤ pos (320 ^ 4)) }
     requires bound { (pos 0 ≤ℤ row.bound) × (row.bound ≤ℤ pos (2 ^ 46)) }
-    ensures below { IsTrue result → dot (length far.now) (holds row.members) (at_t large (nth far.now) (nth near.now)) <ℤ (den *ℤ row.bound) }
-    ensures above { IsTrue (not result) → (den *ℤ row.bound) ≤ℤ dot (length far.now) (holds row.members) (at_t large (nth far.now) (nth near.now)) }
+    ensures below { IsTrue result
+        → dot (length far.now) (holds row.members) (at_t large (nth far.now) (nth near.now)) <ℤ (den *ℤ row.bound) }
+    ensures above { IsTrue (not result)
+        → (den *ℤ row.bound) ≤ℤ dot (length far.now) (holds row.members) (at_t large (nth far.now) (nth near.now)) }
 {
     let far_sum = sum_over(row.members, far);
     let near_sum = sum_over(row.members, near);

@@ -32,8 +32,12 @@ pub(crate) fn is_violated(held: &Held, rows: &[Row], k: usize) -> bool
     requires near { AreBelow (2 ^ 113) held.now.near.items }
     requires den { (pos 0 <ℤ held.now.den) × (held.now.den ≤ℤ pos (320 ^ 4)) }
     requires bound { (pos 0 ≤ℤ bounds rows.now k) × (bounds rows.now k ≤ℤ pos (2 ^ 46)) }
-    ensures below { IsTrue result → dot (length held.now.far.items) (coefficients rows.now k) (point_at held.now) <ℤ (held.now.den *ℤ bounds rows.now k) }
-    ensures above { IsTrue (not result) → (held.now.den *ℤ bounds rows.now k) ≤ℤ dot (length held.now.far.items) (coefficients rows.now k) (point_at held.now) }
+    ensures below { IsTrue result
+        → dot (length held.now.far.items) (coefficients rows.now k) (point_at held.now)
+        <ℤ (held.now.den *ℤ bounds rows.now k) }
+    ensures above { IsTrue (not result)
+        → (held.now.den *ℤ bounds rows.now k)
+        ≤ℤ dot (length held.now.far.items) (coefficients rows.now k) (point_at held.now) }
 {
     is_below(&held.far, &held.near, held.den, rows[k])
 }
@@ -152,7 +156,8 @@ fn point_part(
     requires den { (pos 0 <ℤ den) × (den ≤ℤ pos (320 ^ 4)) }
     requires target { (j : ℕ) → j < length target.now → unsigned_abs (nth target.now j) ≤ 2 ^ 46 }
     requires multipliers { AreBelow (2 ^ 106) multipliers.now }
-    ensures part { IfOk result (λ v. IsPart rows.now forced.now (weight_at weights.now) den target.now multipliers.now v.items) }
+    ensures part { IfOk result
+        (λ v. IsPart rows.now forced.now (weight_at weights.now) den target.now multipliers.now v.items) }
     ensures small { IfOk result (λ v. AreBelow (2 ^ 113) v.items) }
 {
     let mut out = Vec::new(alloc);

@@ -15,7 +15,9 @@ pub(crate) fn spread_out(
     requires within { (i : ℕ) → i < length rows.now → place rows.now i < count }
     requires small { AreBelow (2 ^ 106) multipliers.now }
     ensures lengths { IfOk result (λ v. length v.items ≡ count) }
-    ensures numbers { IfOk result (λ v. (q : ℕ) → q < count → nth v.items q ≡ spread (length rows.now) (place rows.now) (nth multipliers.now) q) }
+    ensures numbers { IfOk result
+        (λ v. (q : ℕ) → q < count
+        → nth v.items q ≡ spread (length rows.now) (place rows.now) (nth multipliers.now) q) }
     ensures small { IfOk result (λ v. AreBelow (2 ^ 109) v.items) }
 {
     let mut list = vec![in alloc; 0i128; count]?;

@@ -24,8 +24,10 @@ pub(crate) fn gram_matrix(
     requires within { AreWithin forced.now rows.now }
     ensures long { IfOk result (λ m. length m ≡ length forced.now) }
     ensures entries { IfOk result (λ m. (i k : ℕ) → i < length forced.now → k < length forced.now
-        → row m i k ≡ common (length lowered.now) (row_of rows.now forced.now i) (row_of rows.now forced.now k) (nth lowered.now)) }
-    ensures small { IfOk result (λ m. (top i k : ℕ) → IsBelowBy top lowered.now → i < length forced.now → k < length forced.now
+        → row m i k ≡ common (length lowered.now) (row_of rows.now forced.now i) (row_of rows.now forced.now k)
+        (nth lowered.now)) }
+    ensures small { IfOk result
+        (λ m. (top i k : ℕ) → IsBelowBy top lowered.now → i < length forced.now → k < length forced.now
         → (pos 0 ≤ℤ row m i k) × (row m i k ≤ℤ pos (length lowered.now * top))) }
 {
     let size = forced.len();
@@ -43,7 +45,8 @@ fn common_weight(one: Row, other: Row, lowered: &[i128]) -> i128
     requires few { length lowered.now ≤ 6 }
     requires lowered { IsBelowBy 20 lowered.now }
     ensures value { result ≡ common (length lowered.now) (holds one.members) (holds other.members) (nth lowered.now) }
-    ensures small { (top : ℕ) → IsBelowBy top lowered.now → (pos 0 ≤ℤ result) × (result ≤ℤ pos (length lowered.now * top)) }
+    ensures small { (top : ℕ) → IsBelowBy top lowered.now
+        → (pos 0 ≤ℤ result) × (result ≤ℤ pos (length lowered.now * top)) }
 {
     -sum_over(one.members & other.members, lowered)
 }
@@ -62,10 +65,17 @@ pub(crate) fn right_sides(
     requires bounds { AreBounds rows.now }
     requires within { AreWithin forced.now rows.now }
     ensures long { IfOk result (λ y. length y ≡ length forced.now) }
-    ensures far { IfOk result (λ y. (i : ℕ) → i < length forced.now → far_at y i ≡ pos 0 -ℤ dot (length target.now) (row_of rows.now forced.now i) (nth lowered.now)) }
-    ensures near { IfOk result (λ y. (i : ℕ) → i < length forced.now → near_at y i ≡ bounds rows.now (place forced.now i) -ℤ dot (length target.now) (row_of rows.now forced.now i) (nth target.now)) }
+    ensures far { IfOk result
+        (λ y. (i : ℕ) → i < length forced.now
+        → far_at y i ≡ pos 0 -ℤ dot (length target.now) (row_of rows.now forced.now i) (nth lowered.now)) }
+    ensures near { IfOk result
+        (λ y. (i : ℕ) → i < length forced.now
+        → near_at y i ≡ bounds rows.now (place forced.now i)
+        -ℤ dot (length target.now) (row_of rows.now forced.now i) (nth target.now)) }
     ensures small_far { IfOk result (λ y. (i : ℕ) → i < length forced.now → unsigned_abs (far_at y i) ≤ 120) }
-    ensures small_near { IfOk result (λ y. (edge i : ℕ) → IsEdge edge target.now rows.now → i < length forced.now → unsigned_abs (near_at y i) ≤ edge) }
+    ensures small_near { IfOk result
+        (λ y. (edge i : ℕ) → IsEdge edge target.now rows.now → i < length forced.now
+        → unsigned_abs (near_at y i) ≤ edge) }
 {
     let mut out = FarList::new(alloc);
     for place in forced {
@@ -83,7 +93,8 @@ fn right_side(lowered: &[i128], target: &[i128], row: Row) -> Far
     ensures far { result.far ≡ pos 0 -ℤ dot (length target.now) (holds row.members) (nth lowered.now) }
     ensures near { result.near ≡ row.bound -ℤ dot (length target.now) (holds row.members) (nth target.now) }
     ensures small_far { unsigned_abs result.far ≤ 120 }
-    ensures small_near { (edge : ℕ) → total (length target.now) (nth target.now) ≤ℤ pos edge → row.bound ≤ℤ pos edge → unsigned_abs result.near ≤ edge }
+    ensures small_near { (edge : ℕ) → total (length target.now) (nth target.now) ≤ℤ pos edge → row.bound ≤ℤ pos edge
+        → unsigned_abs result.near ≤ edge }
 {
     let far = -sum_over(row.members, lowered);
     let near = row.bound - sum_over(row.members, target);

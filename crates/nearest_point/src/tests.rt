@@ -28,7 +28,8 @@ fn are_ones(weights: &[u32]) -> bool
 }
 
 fn are_weights(weights: &[u32]) -> bool
-    ensures { IsTrue result → (j : ℕ) → j < length weights.now → (1 ≤ slice_index_or weights.now j 0) × (slice_index_or weights.now j 0 ≤ 20) }
+    ensures { IsTrue result → (j : ℕ) → j < length weights.now
+        → (1 ≤ slice_index_or weights.now j 0) × (slice_index_or weights.now j 0 ≤ 20) }
 {
     for weight in weights {
         if *weight < 1 {
@@ -75,7 +76,8 @@ fn are_bounds(edge: i128, rows: &[Row]) -> bool
 }
 
 fn have_members(end: u16, rows: &[Row]) -> bool
-    ensures { IsTrue result → (i : ℕ) → i < length rows.now → (0 < (row_at rows.now i).members) × ((row_at rows.now i).members < end) }
+    ensures { IsTrue result → (i : ℕ) → i < length rows.now
+        → (0 < (row_at rows.now i).members) × ((row_at rows.now i).members < end) }
 {
     for row in rows {
         if row.members == 0 {

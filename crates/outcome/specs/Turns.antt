@@ -16,4 +16,5 @@ Grows old new Is = (added : List ℕ) × Is added × (new ≡ old ++ added)
 -- fractions over one denominator, each behind one space
 abbrev pub AreFractions : ℤ → List ℤ → List ℕ → Type 0
 AreFractions den [] text = text ≡ []
-AreFractions den (n ∷ ns) text = (price rest : List ℕ) × IsFractionText n den price × AreFractions den ns rest × (text ≡ 32 ∷ price ++ rest)
+AreFractions den (n ∷ ns) text = (price rest : List ℕ) × IsFractionText n den price × AreFractions den ns rest
+    × (text ≡ 32 ∷ price ++ rest)

@@ -23,7 +23,8 @@ use wide_num::Text;
 /// The only error is want of memory.
 pub fn outcome_text(alloc: Global, book: &BidBook, facts: &CertFacts) -> Result<Text, AllocError>
     requires facts { (c : CertValue) × AreFacts book.now c facts.now }
-    ensures { (c : CertValue) → AreFacts book.now c facts.now → IfOk result (λ text. IsPriceText book.now c.choice (cert_prices book.now c) (cert_point c) text) }
+    ensures { (c : CertValue) → AreFacts book.now c facts.now
+        → IfOk result (λ text. IsPriceText book.now c.choice (cert_prices book.now c) (cert_point c) text) }
 {
     book.kept();
     printed(alloc, book, facts)
@@ -32,7 +33,9 @@ pub fn outcome_text(alloc: Global, book: &BidBook, facts: &CertFacts) -> Result<
 // The same for facts of which no more holds than the text needs; v are their Vickrey prices.
 pub(crate) fn printed(alloc: Global, book: &BidBook, facts: &CertFacts) -> Result<Text, AllocError>
     requires { IsPrintable book.now facts.now }
-    ensures { IfOk result (λ text. (v : ℕ → ℤ) → HavePrices v facts.now.singles → IsPriceText book.now facts.now.choice v (point_of facts.now) text) }
+    ensures { IfOk result
+        (λ text. (v : ℕ → ℤ) → HavePrices v facts.now.singles
+        → IsPriceText book.now facts.now.choice v (point_of facts.now) text) }
 {
     let prices = winner_prices(alloc, book, facts)?;
     let mut text = Text::new(alloc);
@@ -46,7 +49,8 @@ pub(crate) fn printed(alloc: Global, book: &BidBook, facts: &CertFacts) -> Resul
 pub(crate) fn paid_in_all(book: &BidBook, facts: &CertFacts, prices: &[WinnerPrice]) -> Fraction
     requires facts { IsPrintable book.now facts.now }
     requires prices { AreWinnerPrices book.now facts.now.choice (point_of facts.now) facts.now.singles prices.now }
-    ensures { IsFractionOf (revenue_of book.now facts.now.choice (point_of facts.now) (bidders_of book.now)) facts.now.den result }
+    ensures { IsFractionOf
+        (revenue_of book.now facts.now.choice (point_of facts.now) (bidders_of book.now)) facts.now.den result }
 {
     book.kept();
     revenue(prices, facts.den, facts.pay.items())

@@ -37,7 +37,9 @@ pub fn outcome_json(
 ) -> Result<Text, AllocError>
     requires facts { (c : CertValue) × AreFacts book.now c facts.now }
     requires turns { IfSome turns (λ t. AllByRecursion (CanPrintTurn facts.now.choice) t.now) }
-    ensures { (c : CertValue) → AreFacts book.now c facts.now → IfOk result (λ text. IsOutcomeJson book.now c.choice (cert_prices book.now c) (cert_point c) (option_map (λ t. turns_of c.choice t.now) turns.entry) text) }
+    ensures { (c : CertValue) → AreFacts book.now c facts.now
+        → IfOk result (λ text. IsOutcomeJson book.now c.choice (cert_prices book.now c) (cert_point c)
+        (option_map (λ t. turns_of c.choice t.now) turns.entry) text) }
 {
     book.kept();
     json_line(alloc, book, facts, turns)
@@ -52,7 +54,10 @@ pub(crate) fn json_line(
 ) -> Result<Text, AllocError>
     requires facts { IsPrintable book.now facts.now }
     requires turns { IfSome turns (λ t. AllByRecursion (CanPrintTurn facts.now.choice) t.now) }
-    ensures { IfOk result (λ text. (v : ℕ → ℤ) → HavePrices v facts.now.singles → IsOutcomeJson book.now facts.now.choice v (point_of facts.now) (option_map (λ t. turns_of facts.now.choice t.now) turns.entry) text) }
+    ensures { IfOk result
+        (λ text. (v : ℕ → ℤ) → HavePrices v facts.now.singles
+        → IsOutcomeJson book.now facts.now.choice v (point_of facts.now)
+        (option_map (λ t. turns_of facts.now.choice t.now) turns.entry) text) }
 {
     let value = outcome_value(alloc, book, facts, turns)?;
     compact_line(alloc, &value)
@@ -77,7 +82,11 @@ fn outcome_value(
 ) -> Result<Value, AllocError>
     requires facts { IsPrintable book.now facts.now }
     requires turns { IfSome turns (λ t. AllByRecursion (CanPrintTurn facts.now.choice) t.now) }
-    ensures { IfOk result (λ value. IsFalse (has_float (view value)) × ((v : ℕ → ℤ) → HavePrices v facts.now.singles → IsOutcome book.now facts.now.choice v (point_of facts.now) (option_map (λ t. turns_of facts.now.choice t.now) turns.entry) (view value))) }
+    ensures { IfOk result
+        (λ value. IsFalse (has_float (view value))
+        × ((v : ℕ → ℤ) → HavePrices v facts.now.singles
+        → IsOutcome book.now facts.now.choice v (point_of facts.now)
+        (option_map (λ t. turns_of facts.now.choice t.now) turns.entry) (view value))) }
 {
     book.kept();
     let prices = winner_prices(alloc, book, facts)?;

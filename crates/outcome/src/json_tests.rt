@@ -15,8 +15,13 @@ const DAY_CRAMTON: &str =
     "book 1\nsupply 1 1\nreserve 0 0\nbidder b1\nbid 1 0 28\nbidder b2\nbid 0 1 20\nbidder b3\nbid 1 1 32\nbidder b4\nbid 1 0 14\nbidder b5\nbid 0 1 12\nend\n";
 
 fn day_cramton(alloc: Global) -> Result<CertFacts, AllocError>
-    ensures numbers { IfOk result (λ f. (f.den ≡ pos 1) × (f.value ≡ pos 48) × (f.choice ≡ 1 ∷ 1 ∷ 0 ∷ 0 ∷ 0 ∷ []) × (f.pay ≡ pos 17 ∷ pos 15 ∷ pos 0 ∷ pos 0 ∷ pos 0 ∷ [])) }
-    ensures singles { IfOk result (λ f. f.singles ≡ record { winner = 1; price = pos 14; choice = 0 ∷ 1 ∷ 0 ∷ 1 ∷ 0 ∷ [] } ∷ record { winner = 2; price = pos 12; choice = 1 ∷ 0 ∷ 0 ∷ 0 ∷ 1 ∷ [] } ∷ []) }
+    ensures numbers { IfOk result
+        (λ f. (f.den ≡ pos 1) × (f.value ≡ pos 48) × (f.choice ≡ 1 ∷ 1 ∷ 0 ∷ 0 ∷ 0 ∷ [])
+        × (f.pay ≡ pos 17 ∷ pos 15 ∷ pos 0 ∷ pos 0 ∷ pos 0 ∷ [])) }
+    ensures singles { IfOk result
+        (λ f. f.singles
+        ≡ record { winner = 1; price = pos 14; choice = 0 ∷ 1 ∷ 0 ∷ 1 ∷ 0 ∷ [] }
+        ∷ record { winner = 2; price = pos 12; choice = 1 ∷ 0 ∷ 0 ∷ 0 ∷ 1 ∷ [] } ∷ []) }
 {
     let mut singles = Singles::new(alloc);
     singles.push(Single {

@@ -124,7 +124,9 @@ pub(crate) fn round_values(
 ) -> Result<Value, AllocError>
     requires turns { AllByRecursion (CanPrintTurn winners.now) turns.now }
     requires few { length winners.now < 2 ^ 16 }
-    ensures { IfOk result (λ v. (rounds : List Data) × AreRounds winners.now 0 (turns_of winners.now turns.now) rounds × (view v ≡ array (items_of rounds))) }
+    ensures { IfOk result
+        (λ v. (rounds : List Data) × AreRounds winners.now 0 (turns_of winners.now turns.now) rounds
+        × (view v ≡ array (items_of rounds))) }
 {
     let mut values = Vec::new(alloc);
     for (i, turn) in turns.iter().enumerate() {

@@ -34,7 +34,8 @@ pub(crate) fn winner_prices(
     facts: &CertFacts,
 ) -> Result<Vec<WinnerPrice>, AllocError>
     requires { IsPrintable book.now facts.now }
-    ensures { IfOk result (λ list. AreWinnerPrices book.now facts.now.choice (point_of facts.now) facts.now.singles list.items) }
+    ensures { IfOk result
+        (λ list. AreWinnerPrices book.now facts.now.choice (point_of facts.now) facts.now.singles list.items) }
 {
     let mut prices = Vec::new(alloc);
     for single in facts.singles.items() {

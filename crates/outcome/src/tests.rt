@@ -130,7 +130,8 @@ fn prints_the_turn_of_nobody(rt: HostRuntime) -> Result<(), Fail> {
 
 // Of one bidder that wins with its first bid, of net amount 15, and pays 21 over 2.
 pub fn one_winner(alloc: Global) -> Result<CertFacts, AllocError>
-    ensures numbers { IfOk result (λ f. (f.den ≡ pos 2) × (f.value ≡ pos 15) × (f.choice ≡ 1 ∷ []) × (f.pay ≡ pos 21 ∷ [])) }
+    ensures numbers { IfOk result
+        (λ f. (f.den ≡ pos 2) × (f.value ≡ pos 15) × (f.choice ≡ 1 ∷ []) × (f.pay ≡ pos 21 ∷ [])) }
     ensures singles { IfOk result (λ f. f.singles ≡ record { winner = 1; price = pos 0; choice = 0 ∷ [] } ∷ []) }
 {
     let mut singles = Singles::new(alloc);

@@ -70,7 +70,9 @@ fn add_payments(text: &mut Text, den: i128, at: &[i128]) -> Result<(), AllocErro
 fn add_end(alloc: Global, text: &mut Text, winners: &Choice, turn: &Turn) -> Result<(), AllocError>
     requires turn { CanPrintTurn winners.now turn.now }
     requires few { length winners.now < 2 ^ 16 }
-    ensures { OnOk result (Grows text.old text.new (IsTurnEnd (length winners.now) turn.now.den (turn_of winners.now turn.now).block)) }
+    ensures { OnOk result
+        (Grows text.old text.new
+        (IsTurnEnd (length winners.now) turn.now.den (turn_of winners.now turn.now).block)) }
 {
     match &turn.block {
         Some(block) => add_block(alloc, text, winners, turn.den, block),
@@ -88,7 +90,8 @@ fn add_block(
     requires den { (pos 1 ≤ℤ den) × InRange den }
     requires excess { pos 0 ≤ℤ block.now.excess }
     requires few { length winners.now < 2 ^ 16 }
-    ensures { OnOk result (Grows text.old text.new (IsTurnEnd (length winners.now) den (Some (block_of winners.now block.now)))) }
+    ensures { OnOk result
+        (Grows text.old text.new (IsTurnEnd (length winners.now) den (Some (block_of winners.now block.now)))) }
 {
     text.add(b" row")?;
     let members = members_of(alloc, winners, block.row.members)?;

@@ -41,7 +41,8 @@ fn add_winners(text: &mut Text, book: &BidBook, choice: &Choice) -> Result<(), A
 }
 
 fn add_winner(text: &mut Text, name: &str, bid: &Bid) -> Result<(), AllocError>
-    ensures { OnOk result (text.new ≡ text.old ++ winner_line name.now (record { lots = bid.now.package; amount = bid.now.amount })) }
+    ensures { OnOk result
+        (text.new ≡ text.old ++ winner_line name.now (record { lots = bid.now.package; amount = bid.now.amount })) }
 {
     text.add(b"winner ")?;
     text.add(name.as_bytes())?;

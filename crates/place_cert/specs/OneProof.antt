@@ -6,7 +6,8 @@ use Rattle.cert_form.specs.OneProof.{AllInRange-prop, AtMost-prop, AreTableLines
 use Rattle.cert_form.specs.PlaceCert.{PlaceCertValue}
 use Rattle.place_cert.specs.PlaceText.{AreOrderedRows, AreOrderedWithouts, IsPlaceCertificate}
 
-AreOrderedWithouts-prop : (bidders j : ℕ) (choice : List ℕ) (ws : List WithoutValue) (orders : List (List ℕ)) → IsProp (AreOrderedWithouts bidders j choice ws orders)
+AreOrderedWithouts-prop : (bidders j : ℕ) (choice : List ℕ) (ws : List WithoutValue) (orders : List (List ℕ))
+    → IsProp (AreOrderedWithouts bidders j choice ws orders)
 AreOrderedWithouts-prop bidders j [] [] [] = Prim.hlevel logic.props
 AreOrderedWithouts-prop bidders j [] [] (order ∷ orders) = Prim.hlevel
 AreOrderedWithouts-prop bidders j [] (w ∷ ws) orders = Prim.hlevel
@@ -15,7 +16,8 @@ AreOrderedWithouts-prop bidders j (suc n ∷ ns) [] orders = Prim.hlevel
 AreOrderedWithouts-prop bidders j (suc n ∷ ns) (w ∷ ws) [] = Prim.hlevel
 AreOrderedWithouts-prop bidders j (suc n ∷ ns) (w ∷ ws) (order ∷ orders) = Prim.hlevel (logic.props, AtMost-prop, AreTableLines-prop, AreOrderedWithouts-prop bidders (suc j) ns ws orders)
 
-AreOrderedRows-prop : (bidders : ℕ) (rows : List RowValue) (orders : List (List ℕ)) → IsProp (AreOrderedRows bidders rows orders)
+AreOrderedRows-prop : (bidders : ℕ) (rows : List RowValue) (orders : List (List ℕ))
+    → IsProp (AreOrderedRows bidders rows orders)
 AreOrderedRows-prop bidders [] [] = Prim.hlevel logic.props
 AreOrderedRows-prop bidders [] (order ∷ orders) = Prim.hlevel
 AreOrderedRows-prop bidders (r ∷ rows) [] = Prim.hlevel

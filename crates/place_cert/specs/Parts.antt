@@ -18,7 +18,8 @@ row_value r = record { members = r.members; first = r.first; second = r.second; 
 abbrev pub row_order : PlaceRow → List ℕ
 row_order r = r.order
 
-abbrev pub place_cert_from : ℤ → ℤ → List ℕ → List ℕ → List (List ℤ) → List PlaceWithout → List ℤ → List PlaceRow → List (List ℤ) → PlaceCertValue
+abbrev pub place_cert_from : ℤ → ℤ → List ℕ → List ℕ → List (List ℤ) → List PlaceWithout → List ℤ → List PlaceRow
+    → List (List ℤ) → PlaceCertValue
 place_cert_from den value choice order table withouts pay rows lowered = record {
   cert = record { den = den; value = value; choice = choice; table = table; withouts = map part_value withouts; pay = pay; rows = map row_value rows; lowered = lowered };
   order = order;

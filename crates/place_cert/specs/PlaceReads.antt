@@ -20,10 +20,12 @@ ordered_lines order choice = order_line order ∷ choice_line choice ∷ []
 -- they are read at the place, whether the choice is the head's or another
 abbrev pub LeadsOrdered : List ℕ → ℕ → ℕ → ℕ → List ℕ → List ℕ → Type 0
 LeadsOrdered bytes place bidders next order choice =
-    (n : Numbers) → AreChosen bidders n → Leads bytes place (ordered_kinds bidders n) next (after_numbers n (as_numbers choice)) (ordered_lines order choice)
+    (n : Numbers) → AreChosen bidders n
+    → Leads bytes place (ordered_kinds bidders n) next (after_numbers n (as_numbers choice)) (ordered_lines order choice)
 
 abbrev pub HaltsOrdered : List ℕ → ℕ → ℕ → CertStop → Type 0
-HaltsOrdered bytes place bidders stop = (n : Numbers) → AreChosen bidders n → Halts bytes place (ordered_kinds bidders n) stop
+HaltsOrdered bytes place bidders stop = (n : Numbers) → AreChosen bidders n
+    → Halts bytes place (ordered_kinds bidders n) stop
 
 -- the lines of one part
 abbrev pub own_part : PlaceWithout → List Line
@@ -61,4 +63,5 @@ pub record AddsPart (bytes : List ℕ) (place bidders j number : ℕ) (old new :
   pub part : List PlaceWithout
   pub added : new ≡ old ++ part
   pub leads : Leads bytes place (unless_zero (pos number) (ordered_part_plan bidders j)) next [] (part_lines part)
-  pub are : (ns : List ℕ) (rest : List PlaceWithout) → AreParts bidders (suc j) ns rest → AreParts bidders j (number ∷ ns) (part ++ rest)
+  pub are : (ns : List ℕ) (rest : List PlaceWithout) → AreParts bidders (suc j) ns rest
+      → AreParts bidders j (number ∷ ns) (part ++ rest)

@@ -12,6 +12,7 @@ place_text c = text_of (lines (place_lines c))
 -- For so many bidders: the certificate that the bytes are the text of; or the place where the first faulty line begins; or the
 -- place where the first line begins that has a number out of range, the lines up to it being of right form.
 abbrev pub PlaceCertSays : ℕ → List ℕ → Said PlaceCertValue ℕ → Type 0
-PlaceCertSays bidders bytes (stated c) = IsPlaceCertificate bidders c × IsTextOf (IsPlacesText bidders) lines bytes (place_lines c)
+PlaceCertSays bidders bytes (stated c) = IsPlaceCertificate bidders c
+    × IsTextOf (IsPlacesText bidders) lines bytes (place_lines c)
 PlaceCertSays bidders bytes (faulty place) = FaultAt (IsPlacesText bidders) lines bytes place
 PlaceCertSays bidders bytes (beyond place) = Exceeds (IsPlacesText bidders) lines bytes place

@@ -54,14 +54,16 @@ AreOrderedWithouts bidders j [] (w ∷ ws) orders = ⊥
 AreOrderedWithouts bidders j (zero ∷ ns) ws orders = AreOrderedWithouts bidders (suc j) ns ws orders
 AreOrderedWithouts bidders j (suc n ∷ ns) [] orders = ⊥
 AreOrderedWithouts bidders j (suc n ∷ ns) (w ∷ ws) [] = ⊥
-AreOrderedWithouts bidders j (suc n ∷ ns) (w ∷ ws) (order ∷ orders) = IsOrderedWithout bidders j w order × AreOrderedWithouts bidders (suc j) ns ws orders
+AreOrderedWithouts bidders j (suc n ∷ ns) (w ∷ ws) (order ∷ orders) = IsOrderedWithout bidders j w order
+    × AreOrderedWithouts bidders (suc j) ns ws orders
 
 -- an order for each row
 abbrev pub AreOrderedRows : ℕ → List RowValue → List (List ℕ) → Type 0
 AreOrderedRows bidders [] [] = Unit {0}
 AreOrderedRows bidders [] (order ∷ orders) = ⊥
 AreOrderedRows bidders (r ∷ rows) [] = ⊥
-AreOrderedRows bidders (r ∷ rows) (order ∷ orders) = IsRow bidders r × IsChoice bidders order × AreOrderedRows bidders rows orders
+AreOrderedRows bidders (r ∷ rows) (order ∷ orders) = IsRow bidders r × IsChoice bidders order
+    × AreOrderedRows bidders rows orders
 
 -- What the type of a placement certificate keeps, for so many bidders. An order has one number of at most 65,535 for each bidder.
 pub record IsPlaceCertificate (bidders : ℕ) (c : PlaceCertValue) : Type 0 where

@@ -58,5 +58,7 @@ pub struct PlaceCertificate {
     pub rows: PlaceRows,
     /// The table of the amounts times the denominator, those of each winner lowered by what it gains.
     pub lowered: Grid,
-    pub ghost rules: { IsPlaceCertificate (length choice) (place_cert_from den value choice order table withouts pay rows lowered) } by { IsPlaceCertificate-prop (length choice) (place_cert_from den value choice order table withouts pay rows lowered) },
+    pub ghost rules: { IsPlaceCertificate (length choice)
+        (place_cert_from den value choice order table withouts pay rows lowered) } by { IsPlaceCertificate-prop
+            (length choice) (place_cert_from den value choice order table withouts pay rows lowered) },
 }

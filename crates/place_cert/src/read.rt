@@ -45,8 +45,10 @@ fn certificate(
     payments: Payments,
     lowered: Grid,
 ) -> PlaceCertificate
-    requires { IsPlaceCertificate (length placing.choice) (place_cert_from opening.den opening.value placing.choice placing.order placing.table placing.withouts payments.pay payments.rows lowered) }
-    ensures { place_cert_value result ≡ place_cert_from opening.den opening.value placing.choice placing.order placing.table placing.withouts payments.pay payments.rows lowered }
+    requires { IsPlaceCertificate (length placing.choice)
+        (place_cert_from opening.den opening.value placing.choice placing.order placing.table placing.withouts payments.pay payments.rows lowered) }
+    ensures { place_cert_value result
+        ≡ place_cert_from opening.den opening.value placing.choice placing.order placing.table placing.withouts payments.pay payments.rows lowered }
 {
     PlaceCertificate {
         den: opening.den,

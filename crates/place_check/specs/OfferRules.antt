@@ -14,13 +14,16 @@ worth_with slots den gains j i = (den *ℤ amount_of slots j i) -ℤ of_bidder g
 -- no bid that can be given behind a set counts more than a number of the range, and each bidder has a gain of the range
 pub record HasSmallWorths (slots : SlotList) (skip : ℕ) (den : ℤ) (gains : List ℤ) : Type 0 where
   pub count : length slots.bidders ≤ length gains
-  pub bids : (bits j i : ℕ) → bits < 2 ^ length slots.bidders → 0 < j → j ≤ length slots.bidders → IsFalse (holds bits j) → 0 < i
-      → i ≤ (board_without slots skip).bids j → IsTrue ((board_without slots skip).may (holds bits) j i) → unsigned_abs (den *ℤ amount_of slots j i) < 2 ^ 120
+  pub bids : (bits j i : ℕ) → bits < 2 ^ length slots.bidders → 0 < j → j ≤ length slots.bidders
+      → IsFalse (holds bits j) → 0 < i
+      → i ≤ (board_without slots skip).bids j → IsTrue ((board_without slots skip).may (holds bits) j i)
+      → unsigned_abs (den *ℤ amount_of slots j i) < 2 ^ 120
   pub gained : (j : ℕ) → 0 < j → j ≤ length slots.bidders → unsigned_abs (of_bidder gains j) < 2 ^ 120
 
 -- what bid i of bidder j, which is outside a set, asks of the entry of the set
 abbrev pub KeepsBid : Board → (ℕ → ℕ → ℤ) → List (List ℤ) → ℕ → ℕ → ℕ → Type 0
-KeepsBid b worth table bits j i = IsTrue (b.may (holds bits) j i) → (worth j i +ℤ entry_at table 0 (bits + 2 ^ (j - 1))) ≤ℤ entry_at table 0 bits
+KeepsBid b worth table bits j i = IsTrue (b.may (holds bits) j i)
+    → (worth j i +ℤ entry_at table 0 (bits + 2 ^ (j - 1))) ≤ℤ entry_at table 0 bits
 
 -- what bidder j asks of the entry of a set, by its first `some` bids
 pub record KeepsBidder (b : Board) (worth : ℕ → ℕ → ℤ) (table : List (List ℤ)) (bits j some : ℕ) : Type 0 where

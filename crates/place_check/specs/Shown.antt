@@ -26,7 +26,8 @@ IsRowFor slots row = IsRow (length slots.bidders) (row_value row)
 -- the denominator times what a bidder wins stays in the range, and isn't below 0
 abbrev pub HasSmallProducts : SlotList → PlaceCertValue → Type 0
 HasSmallProducts slots p = (j : ℕ) → 0 < j → j ≤ length slots.bidders
-    → (pos 0 ≤ℤ (p.cert.den *ℤ worth_in (market_of slots) p.cert.choice j)) × (unsigned_abs (p.cert.den *ℤ worth_in (market_of slots) p.cert.choice j) < 2 ^ 120)
+    → (pos 0 ≤ℤ (p.cert.den *ℤ worth_in (market_of slots) p.cert.choice j))
+    × (unsigned_abs (p.cert.den *ℤ worth_in (market_of slots) p.cert.choice j) < 2 ^ 120)
 
 -- a row as P6 asks for it, with the order beside it
 pub record IsTightPlaced (slots : SlotList) (c : CertValue) (row : RowValue) (order : List ℕ) : Type 0 where
@@ -41,5 +42,7 @@ gain_in slots p j = if uses p.cert.choice j then (p.cert.den *ℤ worth_in (mark
 pub record CanLower (slots : SlotList) (p : PlaceCertValue) : Type 0 where
   pub products : HasSmallProducts slots p
   pub pays : (place : ℕ) → P5 slots p place
-  pub bids : (bits j i : ℕ) → bits < 2 ^ length slots.bidders → 0 < j → j ≤ length slots.bidders → IsFalse (holds bits j) → 0 < i
-      → i ≤ (board_of slots).bids j → IsTrue ((board_of slots).may (holds bits) j i) → unsigned_abs (p.cert.den *ℤ amount_of slots j i) < 2 ^ 120
+  pub bids : (bits j i : ℕ) → bits < 2 ^ length slots.bidders → 0 < j → j ≤ length slots.bidders
+      → IsFalse (holds bits j) → 0 < i
+      → i ≤ (board_of slots).bids j → IsTrue ((board_of slots).may (holds bits) j i)
+      → unsigned_abs (p.cert.den *ℤ amount_of slots j i) < 2 ^ 120

@@ -57,7 +57,8 @@ pub(crate) fn row_holds(slots: &Slots, cert: &PlaceCertificate, place: usize) ->
 fn is_tight_row(slots: &Slots, cert: &PlaceCertificate, row: &PlaceRow) -> bool
     requires shape { IsFor slots.now cert.now }
     requires row { IsRowFor slots.now row.now }
-    ensures { IsTrue result ↔ IsTightPlaced slots.now (place_cert_value cert.now).cert (row_value row.now) (row_order row.now) }
+    ensures { IsTrue result
+        ↔ IsTightPlaced slots.now (place_cert_value cert.now).cert (row_value row.now) (row_order row.now) }
 {
     let members = row.members.items();
     let winning = cert.choice.numbers();
@@ -79,7 +80,10 @@ fn pays_just(slots: &Slots, cert: &PlaceCertificate, row: &PlaceRow) -> bool
     requires shape { IsFor slots.now cert.now }
     requires row { IsRowFor slots.now row.now }
     ensures { IsTrue result ↔ (sum_over (is_member row.now.members) (of_bidder cert.now.pay) (length slots.now.bidders)
-        ≡ cert.now.den *ℤ (value_of (market_of slots.now) row.now.choice -ℤ sum_over (λ j. not (is_member row.now.members j)) (worth_in (market_of slots.now) cert.now.choice) (length slots.now.bidders))) }
+        ≡ cert.now.den
+        *ℤ (value_of (market_of slots.now) row.now.choice
+        -ℤ sum_over (λ j. not (is_member row.now.members j)) (worth_in (market_of slots.now) cert.now.choice)
+        (length slots.now.bidders))) }
 {
     let members = row.members.items();
     let _bidders = slots.bidders();
@@ -107,7 +111,10 @@ pub(crate) fn least_holds(slots: &Slots, cert: &PlaceCertificate, place: usize) 
 fn is_least(slots: &Slots, cert: &PlaceCertificate, j: u16) -> bool
     requires shape { IsFor slots.now cert.now }
     requires bidder { (0 < j) × (j ≤ length slots.now.bidders) }
-    ensures { IsTrue result ↔ (IsTrue (uses cert.now.choice j) → sum_holding (map row_value cert.now.rows) j (λ row. row.first) (length (map row_value cert.now.rows)) ≡ cert.now.den) }
+    ensures { IsTrue result
+        ↔ (IsTrue (uses cert.now.choice j)
+        → sum_holding (map row_value cert.now.rows) j (λ row. row.first) (length (map row_value cert.now.rows))
+        ≡ cert.now.den) }
 {
     if cert.choice.number(j) == 0 {
         return true;
@@ -137,7 +144,10 @@ fn is_nearest(slots: &Slots, cert: &PlaceCertificate, j: u16) -> bool
     requires shape { IsFor slots.now cert.now }
     requires bidder { (0 < j) × (j ≤ length slots.now.bidders) }
     ensures { IsTrue result ↔ (IsTrue (uses cert.now.choice j)
-        → of_bidder cert.now.pay j -ℤ (cert.now.den *ℤ vickrey_in (market_of slots.now) (place_cert_value cert.now).cert j) ≡ pos 1 *ℤ sum_holding (map row_value cert.now.rows) j (λ row. row.second) (length (map row_value cert.now.rows))) }
+        → of_bidder cert.now.pay j
+        -ℤ (cert.now.den *ℤ vickrey_in (market_of slots.now) (place_cert_value cert.now).cert j)
+        ≡ pos 1 *ℤ sum_holding (map row_value cert.now.rows) j (λ row. row.second)
+        (length (map row_value cert.now.rows))) }
 {
     if cert.choice.number(j) == 0 {
         return true;

@@ -89,7 +89,8 @@ fn put_gains(slots: &Slots, cert: &PlaceCertificate, gains: &mut [i128])
     requires lower { CanLower slots.now (place_cert_value cert.now) }
     requires room { length slots.now.bidders ≤ length gains.old }
     ensures room { length gains.new ≡ length gains.old }
-    ensures gains { (j : ℕ) → 0 < j → j ≤ length slots.now.bidders → of_bidder gains.new j ≡ gain_in slots.now (place_cert_value cert.now) j }
+    ensures gains { (j : ℕ) → 0 < j → j ≤ length slots.now.bidders
+        → of_bidder gains.new j ≡ gain_in slots.now (place_cert_value cert.now) j }
 {
     for k in 0..slots.bidders() {
         gains[k] = gain(slots, cert, k as u16 + 1);

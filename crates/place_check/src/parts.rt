@@ -36,7 +36,9 @@ pub(crate) fn part_holds(slots: &Slots, cert: &PlaceCertificate, place: usize) -
 fn has_part(slots: &Slots, cert: &PlaceCertificate, j: u16) -> bool
     requires shape { IsFor slots.now cert.now }
     requires bidder { (0 < j) × (j ≤ length slots.now.bidders) }
-    ensures { IsTrue result ↔ IsPlacedPart slots.now j (part_of (map part_value cert.now.withouts) j) (order_without (map part_value cert.now.withouts) (map part_order cert.now.withouts) j) }
+    ensures { IsTrue result
+        ↔ IsPlacedPart slots.now j (part_of (map part_value cert.now.withouts) j)
+        (order_without (map part_value cert.now.withouts) (map part_order cert.now.withouts) j) }
 {
     for part in cert.withouts.items() {
         if part.winner == j {

@@ -43,7 +43,9 @@ pub(crate) fn won(slots: &Slots, choice: &Choice, j: u16) -> i128
 /// What the bids of the others count in the choice.
 pub(crate) fn won_beside(slots: &Slots, choice: &Choice, members: &[u16]) -> i128
     requires numbers { length choice.now ≡ length slots.now.bidders }
-    ensures sum { result ≡ sum_over (λ j. not (is_member members.now j)) (worth_in (market_of slots.now) choice.now) (length slots.now.bidders) }
+    ensures sum { result
+        ≡ sum_over (λ j. not (is_member members.now j)) (worth_in (market_of slots.now) choice.now)
+        (length slots.now.bidders) }
     ensures least { pos 0 ≤ℤ result }
     ensures most { result ≤ℤ pos (MOST_PLACED * MOST_AMOUNT) }
 {

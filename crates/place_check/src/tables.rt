@@ -14,7 +14,9 @@ use slot_places::sets::{is_in, weight};
 /// Whether the rules hold at a place of a table, which is a set, or behind all sets the most that the entry of nobody may be.
 pub(crate) fn table_holds(offers: &Offers, table: &Grid, most: i128, place: usize) -> bool
     requires shape { HasSets (length offers.now.slots.now.bidders) table.now }
-    ensures { IsTrue result ↔ SetTableAt (board_without offers.now.slots.now offers.now.skip) (worth_with offers.now.slots.now offers.now.den offers.now.gains.now) table.now most place }
+    ensures { IsTrue result
+        ↔ SetTableAt (board_without offers.now.slots.now offers.now.skip)
+        (worth_with offers.now.slots.now offers.now.den offers.now.gains.now) table.now most place }
 {
     let sets: usize = 1 << offers.slots.bidders();
     if place < sets {
@@ -35,7 +37,9 @@ pub(crate) fn is_at_most(entry: i128, most: i128) -> bool
 /// Whether the rules hold at all sets.
 pub(crate) fn obeys_sets(offers: &Offers, table: &Grid) -> bool
     requires shape { HasSets (length offers.now.slots.now.bidders) table.now }
-    ensures { IsTrue result ↔ ObeysSets (board_without offers.now.slots.now offers.now.skip) (worth_with offers.now.slots.now offers.now.den offers.now.gains.now) table.now }
+    ensures { IsTrue result
+        ↔ ObeysSets (board_without offers.now.slots.now offers.now.skip)
+        (worth_with offers.now.slots.now offers.now.den offers.now.gains.now) table.now }
 {
     let sets: usize = 1 << offers.slots.bidders();
     for set in 0..sets {
@@ -50,7 +54,9 @@ pub(crate) fn obeys_sets(offers: &Offers, table: &Grid) -> bool
 fn obeys_set(offers: &Offers, table: &Grid, set: usize) -> bool
     requires shape { HasSets (length offers.now.slots.now.bidders) table.now }
     requires set { set < 2 ^ length offers.now.slots.now.bidders }
-    ensures { IsTrue result ↔ ObeysSet (board_without offers.now.slots.now offers.now.skip) (worth_with offers.now.slots.now offers.now.den offers.now.gains.now) table.now set }
+    ensures { IsTrue result
+        ↔ ObeysSet (board_without offers.now.slots.now offers.now.skip)
+        (worth_with offers.now.slots.now offers.now.den offers.now.gains.now) table.now set }
 {
     let bidders = offers.slots.bidders() as u16;
     if !is_last_kept(offers, table, set) {
@@ -82,7 +88,10 @@ fn keeps_bidder(offers: &Offers, table: &Grid, set: usize, j: u16) -> bool
     requires shape { HasSets (length offers.now.slots.now.bidders) table.now }
     requires set { set < 2 ^ length offers.now.slots.now.bidders }
     requires bidder { (0 < j) × (j ≤ length offers.now.slots.now.bidders) }
-    ensures { IsTrue result ↔ KeepsBidder (board_without offers.now.slots.now offers.now.skip) (worth_with offers.now.slots.now offers.now.den offers.now.gains.now) table.now set j ((board_without offers.now.slots.now offers.now.skip).bids j) }
+    ensures { IsTrue result
+        ↔ KeepsBidder (board_without offers.now.slots.now offers.now.skip)
+        (worth_with offers.now.slots.now offers.now.den offers.now.gains.now) table.now set j
+        ((board_without offers.now.slots.now offers.now.skip).bids j) }
 {
     let _bidders = offers.slots.bidders();
     if is_in(set, j) {
@@ -106,7 +115,9 @@ fn keeps_bid(offers: &Offers, table: &Grid, set: usize, j: u16, i: u16) -> bool
     requires bidder { (0 < j) × (j ≤ length offers.now.slots.now.bidders) }
     requires new { IsFalse (holds set j) }
     requires bid { (0 < i) × (i ≤ (board_without offers.now.slots.now offers.now.skip).bids j) }
-    ensures { IsTrue result ↔ KeepsBid (board_without offers.now.slots.now offers.now.skip) (worth_with offers.now.slots.now offers.now.den offers.now.gains.now) table.now set j i }
+    ensures { IsTrue result
+        ↔ KeepsBid (board_without offers.now.slots.now offers.now.skip)
+        (worth_with offers.now.slots.now offers.now.den offers.now.gains.now) table.now set j i }
 {
     let _bidders = offers.slots.bidders();
     if !starts_behind(offers, set, j, i) {

@@ -30,7 +30,8 @@ pub record IsPricedPlaceCert (slots : SlotList) (p : PlaceCertValue) : Type 0 wh
   pub table : IsSetTable (board_of slots) (amount_of slots) p.cert.table
   pub parts : (j : ℕ) → 0 < j → j ≤ length slots.bidders → IsTrue (uses p.cert.choice j)
       → IsBestPlacedPart slots j (part_of p.cert.withouts j) (order_without p.cert.withouts p.part_orders j)
-  pub row_placements : (r : ℕ) → 0 < r → r ≤ length p.cert.rows → IsPlacement slots (row_of p.cert.rows r).choice (order_in_row p.row_orders r)
+  pub row_placements : (r : ℕ) → 0 < r → r ≤ length p.cert.rows
+      → IsPlacement slots (row_of p.cert.rows r).choice (order_in_row p.row_orders r)
   pub outcome : IsCoreOutcome (market_of slots) alike p.cert.choice (cert_point p.cert)
   pub table_lowered : IsSetTable (board_of slots) (lowered p.cert.den (amount_of slots) (surpluses_of (market_of slots) p.cert.choice p.cert.den p.cert.pay)) p.cert.lowered
 

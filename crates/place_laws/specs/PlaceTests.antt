@@ -19,8 +19,10 @@ use Rattle.cert_form.specs.PlaceCert.{PlaceCertValue, order_without, order_in_ro
 -- it can be given right behind the set.
 pub record ObeysSet (b : Board) (worth : ℕ → ℕ → ℤ) (table : List (List ℤ)) (bits : ℕ) : Type 0 where
   pub last : bits ≡ 2 ^ b.bidders - 1 → pos 0 ≤ℤ entry_at table 0 bits
-  pub none : (j : ℕ) → 0 < j → j ≤ b.bidders → IsFalse (holds bits j) → entry_at table 0 (bits + 2 ^ (j - 1)) ≤ℤ entry_at table 0 bits
-  pub bid : (j i : ℕ) → 0 < j → j ≤ b.bidders → IsFalse (holds bits j) → 0 < i → i ≤ b.bids j → IsTrue (b.may (holds bits) j i)
+  pub none : (j : ℕ) → 0 < j → j ≤ b.bidders → IsFalse (holds bits j)
+      → entry_at table 0 (bits + 2 ^ (j - 1)) ≤ℤ entry_at table 0 bits
+  pub bid : (j i : ℕ) → 0 < j → j ≤ b.bidders → IsFalse (holds bits j) → 0 < i → i ≤ b.bids j
+      → IsTrue (b.may (holds bits) j i)
       → (worth j i +ℤ entry_at table 0 (bits + 2 ^ (j - 1))) ≤ℤ entry_at table 0 bits
 
 -- the rules at the entries of all sets
@@ -56,7 +58,8 @@ P5 slots p = PaysWithinBids (market_of slots) p.cert
 
 pub record P6 (slots : SlotList) (p : PlaceCertValue) (place : ℕ) : Type 0 where
   pub row : HasTightRow (market_of slots) p.cert place
-  pub order : 0 < place → place ≤ length p.cert.rows → IsTrue (allows slots (order_in_row p.row_orders place) (row_of p.cert.rows place).choice)
+  pub order : 0 < place → place ≤ length p.cert.rows
+      → IsTrue (allows slots (order_in_row p.row_orders place) (row_of p.cert.rows place).choice)
 
 abbrev pub P7 : SlotList → PlaceCertValue → ℕ → Type 0
 P7 slots p = ShowsLeastSum (market_of slots) p.cert
@@ -70,13 +73,16 @@ abbrev pub lowered_in : Market → CertValue → ℕ → ℕ → ℤ
 lowered_in m c j i = (c.den *ℤ m.worth j i) -ℤ (if uses c.choice j then (c.den *ℤ won_in m c j) -ℤ of_bidder c.pay j else pos 0)
 
 pub record P9 (slots : SlotList) (p : PlaceCertValue) (place : ℕ) : Type 0 where
-  pub rules : place < 2 ^ length slots.bidders → ObeysSet (board_of slots) (lowered_in (market_of slots) p.cert) p.cert.lowered place
-  pub top : place ≡ 2 ^ length slots.bidders → entry_at p.cert.lowered 0 0 ≤ℤ sum_over everyone (of_bidder p.cert.pay) (length slots.bidders)
+  pub rules : place < 2 ^ length slots.bidders
+      → ObeysSet (board_of slots) (lowered_in (market_of slots) p.cert) p.cert.lowered place
+  pub top : place ≡ 2 ^ length slots.bidders
+      → entry_at p.cert.lowered 0 0 ≤ℤ sum_over everyone (of_bidder p.cert.pay) (length slots.bidders)
 
 -- what test t asks at a place
 abbrev pub Asks : SlotList → PlaceCertValue → ℕ → ℕ → Type 0
 Asks slots p t place =
-    (t ≡ 1 → P1 p place) × (t ≡ 2 → P2 slots p place) × (t ≡ 3 → P3 slots p place) × (t ≡ 4 → P4 slots p place) × (t ≡ 5 → P5 slots p place)
+    (t ≡ 1 → P1 p place) × (t ≡ 2 → P2 slots p place) × (t ≡ 3 → P3 slots p place) × (t ≡ 4 → P4 slots p place)
+    × (t ≡ 5 → P5 slots p place)
     × (t ≡ 6 → P6 slots p place) × (t ≡ 7 → P7 slots p place) × (t ≡ 8 → P8 slots p place) × (t ≡ 9 → P9 slots p place)
 
 -- all tests hold at all places

@@ -34,4 +34,5 @@ pub record IsRestOf (c : List ℕ) (before : ℕ) (numbers : List ℕ) : Type 0 
 abbrev pub IsLineOf : SlotList → (ℕ → ℤ) → Point → ℕ → ℕ → List ℕ → Type 0
 IsLineOf slots v p j zero line = line ≡ []
 IsLineOf slots v p j (suc i) line =
-    (pays : List ℕ) × IsFractionText (of_bidder p.at j) p.den pays × (line ≡ priced_line (bidder_of slots j).name (bid_of slots j (suc i)) (v j) pays)
+    (pays : List ℕ) × IsFractionText (of_bidder p.at j) p.den pays
+    × (line ≡ priced_line (bidder_of slots j).name (bid_of slots j (suc i)) (v j) pays)

@@ -10,8 +10,10 @@ use print_form::one_fraction;
 /// The text of a placement depends on the order, the choice, the points and the Vickrey prices alone. The choice has a number for each
 /// bidder.
 pub fn one_place_text()
-    ensures { (slots : SlotList) (order z : List ℕ) (v w : ℕ → ℤ) (p q : Point) (t u : List ℕ) → length z ≡ length slots.bidders → pos 1 ≤ℤ p.den → pos 1 ≤ℤ q.den
-        → SamePoint (market_of slots) p q → ((j : ℕ) → 0 < j → j ≤ length slots.bidders → v j ≡ w j) → IsPlaceText slots order z v p t → IsPlaceText slots order z w q u → t ≡ u }
+    ensures { (slots : SlotList) (order z : List ℕ) (v w : ℕ → ℤ) (p q : Point) (t u : List ℕ)
+        → length z ≡ length slots.bidders → pos 1 ≤ℤ p.den → pos 1 ≤ℤ q.den
+        → SamePoint (market_of slots) p q → ((j : ℕ) → 0 < j → j ≤ length slots.bidders → v j ≡ w j)
+        → IsPlaceText slots order z v p t → IsPlaceText slots order z w q u → t ≡ u }
 {
     one_fraction();
 }

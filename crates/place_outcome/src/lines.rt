@@ -62,7 +62,10 @@ pub(crate) fn add_winners(
     requires can { CanPrint slots.now cert.now }
     requires few { length slots.now.bidders < 2 ^ 15 }
     requires rest { IsRestOf cert.now.choice before numbers.now }
-    ensures { OnOk result ((lines : List ℕ) × ArePricedLines slots.now (prices_in (market_of slots.now) (place_cert_value cert.now).cert) (cert_point (place_cert_value cert.now).cert) before numbers.now lines × (text.new ≡ text.old ++ lines)) }
+    ensures { OnOk result
+        ((lines : List ℕ)
+        × ArePricedLines slots.now (prices_in (market_of slots.now) (place_cert_value cert.now).cert)
+        (cert_point (place_cert_value cert.now).cert) before numbers.now lines × (text.new ≡ text.old ++ lines)) }
 {
     match numbers {
         [] => Ok(()),
@@ -82,7 +85,11 @@ fn add_line_of(
 ) -> Result<(), AllocError>
     requires can { CanPrint slots.now cert.now }
     requires bidder { IsBidder slots.now j }
-    ensures { OnOk result ((line : List ℕ) × IsLineOf slots.now (prices_in (market_of slots.now) (place_cert_value cert.now).cert) (cert_point (place_cert_value cert.now).cert) j (number_of cert.now.choice j) line × (text.new ≡ text.old ++ line)) }
+    ensures { OnOk result
+        ((line : List ℕ)
+        × IsLineOf slots.now (prices_in (market_of slots.now) (place_cert_value cert.now).cert)
+        (cert_point (place_cert_value cert.now).cert) j (number_of cert.now.choice j) line
+        × (text.new ≡ text.old ++ line)) }
 {
     if cert.choice.number(j) == 0 {
         return Ok(());
@@ -100,7 +107,11 @@ fn add_winner(
     requires can { CanPrint slots.now cert.now }
     requires bidder { IsBidder slots.now j }
     requires wins { 0 < number_of cert.now.choice j }
-    ensures { OnOk result ((line : List ℕ) × IsLineOf slots.now (prices_in (market_of slots.now) (place_cert_value cert.now).cert) (cert_point (place_cert_value cert.now).cert) j (number_of cert.now.choice j) line × (text.new ≡ text.old ++ line)) }
+    ensures { OnOk result
+        ((line : List ℕ)
+        × IsLineOf slots.now (prices_in (market_of slots.now) (place_cert_value cert.now).cert)
+        (cert_point (place_cert_value cert.now).cert) j (number_of cert.now.choice j) line
+        × (text.new ≡ text.old ++ line)) }
 {
     let place = slots.place(j, cert.choice.number(j));
     text.add(b"winner ")?;

@@ -27,7 +27,10 @@ use wide_num::Text;
 pub fn place_text(alloc: Global, slots: &Slots, cert: &PlaceCertificate) -> Result<Text, AllocError>
     requires shape { length cert.now.choice ≡ length slots.now.bidders }
     requires holds { Holds slots.now (place_cert_value cert.now) }
-    ensures { IfOk result (λ text. IsPlaceText slots.now cert.now.order cert.now.choice (prices_in (market_of slots.now) (place_cert_value cert.now).cert) (cert_point (place_cert_value cert.now).cert) text) }
+    ensures { IfOk result
+        (λ text. IsPlaceText slots.now cert.now.order cert.now.choice
+        (prices_in (market_of slots.now) (place_cert_value cert.now).cert)
+        (cert_point (place_cert_value cert.now).cert) text) }
 {
     printed(alloc, slots, cert)
 }
@@ -35,7 +38,10 @@ pub fn place_text(alloc: Global, slots: &Slots, cert: &PlaceCertificate) -> Resu
 // The same for a certificate of which no more holds than the text needs.
 fn printed(alloc: Global, slots: &Slots, cert: &PlaceCertificate) -> Result<Text, AllocError>
     requires { CanPrint slots.now cert.now }
-    ensures { IfOk result (λ text. IsPlaceText slots.now cert.now.order cert.now.choice (prices_in (market_of slots.now) (place_cert_value cert.now).cert) (cert_point (place_cert_value cert.now).cert) text) }
+    ensures { IfOk result
+        (λ text. IsPlaceText slots.now cert.now.order cert.now.choice
+        (prices_in (market_of slots.now) (place_cert_value cert.now).cert)
+        (cert_point (place_cert_value cert.now).cert) text) }
 {
     let mut text = Text::new(alloc);
     let _bidders = slots.bidders();

@@ -32,7 +32,8 @@ pub(crate) fn each_winner(
     value: i128,
 ) -> Result<Alone, AllocError>
     requires { value ≡ value_of (market_of chooser.now.slots.now) chooser.now.winners }
-    ensures singles { IfOk result (λ a. AreSingles (market_of chooser.now.slots.now) chooser.now.winners a.singles.items) }
+    ensures singles { IfOk result
+        (λ a. AreSingles (market_of chooser.now.slots.now) chooser.now.winners a.singles.items) }
     ensures parts { IfOk result (λ a. ArePartsOf chooser.now.slots.now a.singles.items a.parts) }
 {
     let mut singles = Vec::new(alloc);

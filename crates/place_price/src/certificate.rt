@@ -27,7 +27,8 @@ pub(crate) fn certificate(
 ) -> Result<PricedPlaces, AllocError>
     requires { (singles : List Single) × AreFound slots.now whole singles parts priced }
     ensures choice { IfOk result (λ p. p.cert.choice ≡ whole.choice) }
-    ensures point { IfOk result (λ p. cert_point (place_cert_value p.cert).cert ≡ point_of whole.choice priced.den priced.at) }
+    ensures point { IfOk result
+        (λ p. cert_point (place_cert_value p.cert).cert ≡ point_of whole.choice priced.den priced.at) }
     ensures cert { IfOk result (λ p. IsPricedPlaceCert slots.now (place_cert_value p.cert)) }
     ensures turns { IfOk result (λ p. p.turns ≡ priced.turns) }
 {

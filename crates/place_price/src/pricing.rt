@@ -44,9 +44,11 @@ pub struct PricedPlaces {
 pub fn priced_places(alloc: Global, slots: &Slots) -> Result<PricedPlaces, AllocError>
     ensures shape { IfOk result (λ p. length p.cert.choice ≡ length slots.now.bidders) }
     ensures cert { IfOk result (λ p. IsPricedPlaceCert slots.now (place_cert_value p.cert)) }
-    ensures run { IfOk result (λ p. IsPricingRun (market_of slots.now) alike p.cert.choice (turns_of p.cert.choice p.turns)) }
+    ensures run { IfOk result
+        (λ p. IsPricingRun (market_of slots.now) alike p.cert.choice (turns_of p.cert.choice p.turns)) }
     ensures each_turn { IfOk result (λ p. AllByRecursion (IsPointOfTurn p.cert.choice (ones slots.now)) p.turns) }
-    ensures last_turn { IfOk result (λ p. IsLastPoint (turns_of p.cert.choice p.turns) (cert_point (place_cert_value p.cert).cert)) }
+    ensures last_turn { IfOk result
+        (λ p. IsLastPoint (turns_of p.cert.choice p.turns) (cert_point (place_cert_value p.cert).cert)) }
 {
     let whole = place_best(alloc, slots)?;
     let chooser = SlotChooser::new(slots, whole.choice.copied(alloc)?);
@@ -67,7 +69,9 @@ pub fn price_places(alloc: Global, slots: &Slots) -> Result<PlaceCertificate, Al
 
 /// The turns of the same pricing, of the winning choice. The only error is want of memory.
 pub fn place_rounds(alloc: Global, slots: &Slots) -> Result<TurnList, AllocError>
-    ensures { IfOk result (λ turns. (z : List ℕ) × IsWinning (market_of slots.now) z × IsPricingRun (market_of slots.now) alike z (turns_of z turns)
+    ensures { IfOk result
+        (λ turns. (z : List ℕ) × IsWinning (market_of slots.now) z
+        × IsPricingRun (market_of slots.now) alike z (turns_of z turns)
         × AllByRecursion (IsPointOfTurn z (ones slots.now)) turns) }
 {
     let priced = priced_places(alloc, slots)?;
@@ -81,9 +85,13 @@ fn priced_alike(
     singles: &[Single],
 ) -> Result<Priced<Grid>, AllocError>
     requires { AreSingles (market_of chooser.now.slots.now) chooser.now.winners singles.now }
-    ensures priced { IfOk result (λ p. IsPriced (market_of chooser.now.slots.now) chooser.now.winners (ones chooser.now.slots.now) singles.now p) }
-    ensures table { IfOk result (λ p. IsSetTable (board_of chooser.now.slots.now) (lowered p.den (amount_of chooser.now.slots.now)
-        (surpluses_of (market_of chooser.now.slots.now) chooser.now.winners p.den (for_bidders chooser.now.winners p.at))) p.last.table) }
+    ensures priced { IfOk result
+        (λ p. IsPriced (market_of chooser.now.slots.now) chooser.now.winners
+        (ones chooser.now.slots.now) singles.now p) }
+    ensures table { IfOk result
+        (λ p. IsSetTable (board_of chooser.now.slots.now) (lowered p.den (amount_of chooser.now.slots.now)
+        (surpluses_of (market_of chooser.now.slots.now) chooser.now.winners p.den
+        (for_bidders chooser.now.winners p.at))) p.last.table) }
 {
     let weights = vec![in alloc; 1u32; chooser.slots.bidders()]?;
     match price(alloc, chooser, singles, &weights) {

@@ -18,14 +18,20 @@ ghost use Rattle.std.specs.Prelude.{pos, ℕ, ℤ, ◌≤ℤ◌};
 ///
 /// Where the first multipliers of a coordinate have another sum, both hold among the points that are the same there.
 pub fn multipliers()
-    ensures least { (m r : ℕ) (a : ℕ → ℕ → ℤ) (bound : ℕ → ℤ) (d : ℤ) (n first : ℕ → ℤ) → AreFirst m r a bound d n first → SumsTo m r a d first
+    ensures least { (m r : ℕ) (a : ℕ → ℕ → ℤ) (bound : ℕ → ℤ)
+        (d : ℤ) (n first : ℕ → ℤ) → AreFirst m r a bound d n first → SumsTo m r a d first
         → HasLeastSum m (MeetsRows m r a bound) d n }
-    ensures nearest { (m r : ℕ) (a : ℕ → ℕ → ℤ) (bound : ℕ → ℤ) (d : ℤ) (n first second target weight : ℕ → ℤ) (l : ℤ) (share : ℕ → ℤ)
-        → AreFirst m r a bound d n first → SumsTo m r a d first → AreSecond m r a bound d n first second target weight → AreShares m l share weight
+    ensures nearest { (m r : ℕ) (a : ℕ → ℕ → ℤ) (bound : ℕ → ℤ) (d : ℤ) (n first second target weight : ℕ → ℤ) (l : ℤ)
+        (share : ℕ → ℤ)
+        → AreFirst m r a bound d n first → SumsTo m r a d first → AreSecond m r a bound d n first second target weight
+        → AreShares m l share weight
         → IsNearestTo m share target (MeetsRows m r a bound) d n }
-    ensures least_where_same { (m r : ℕ) (a : ℕ → ℕ → ℤ) (bound : ℕ → ℤ) (d : ℤ) (n first : ℕ → ℤ) → AreFirst m r a bound d n first
+    ensures least_where_same { (m r : ℕ) (a : ℕ → ℕ → ℤ) (bound : ℕ → ℤ) (d : ℤ) (n first : ℕ → ℤ)
+        → AreFirst m r a bound d n first
         → HasLeastSum m (λ e x. MeetsRows m r a bound e x × SumsToOrStands m r a d n first e x) d n }
-    ensures nearest_where_same { (m r : ℕ) (a : ℕ → ℕ → ℤ) (bound : ℕ → ℤ) (d : ℤ) (n first second target weight : ℕ → ℤ) (l : ℤ) (share : ℕ → ℤ)
-        → AreFirst m r a bound d n first → AreSecond m r a bound d n first second target weight → AreShares m l share weight
+    ensures nearest_where_same { (m r : ℕ) (a : ℕ → ℕ → ℤ) (bound : ℕ → ℤ) (d : ℤ)
+        (n first second target weight : ℕ → ℤ) (l : ℤ) (share : ℕ → ℤ)
+        → AreFirst m r a bound d n first → AreSecond m r a bound d n first second target weight
+        → AreShares m l share weight
         → IsNearestTo m share target (λ e x. MeetsRows m r a bound e x × SumsToOrStands m r a d n first e x) d n }
 {}

@@ -15,4 +15,5 @@ parts_text whole (suc rest) parts = decimal whole ++ 43 ∷ decimal (suc rest) +
 
 -- the text of n over d
 abbrev pub IsFractionText : ℤ → ℤ → List ℕ → Type 0
-IsFractionText n d text = (whole rest parts : ℕ) × IsFraction n d whole rest parts × (text ≡ parts_text whole rest parts)
+IsFractionText n d text = (whole rest parts : ℕ) × IsFraction n d whole rest parts
+    × (text ≡ parts_text whole rest parts)

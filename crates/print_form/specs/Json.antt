@@ -30,7 +30,8 @@ abbrev pub AreWinners : Book → List ℕ → (ℕ → ℤ) → Point → ℕ �
 AreWinners book z v p k [] winners = winners ≡ []
 AreWinners book z v p k (zero ∷ c) winners = AreWinners book z v p (suc k) c winners
 AreWinners book z v p k (suc i ∷ c) winners =
-    (pays : List ℕ) × (rest : List Data) × IsFractionText (gross_of book z p (suc k)) p.den pays × AreWinners book z v p (suc k) c rest
+    (pays : List ℕ) × (rest : List Data) × IsFractionText (gross_of book z p (suc k)) p.den pays
+    × AreWinners book z v p (suc k) c rest
     × (winners ≡ winner_json (bidder_of book (suc k)).name (bid_of book (suc k) (suc i)) (v (suc k) +ℤ reserve_of book (suc k) (suc i)) pays ∷ rest)
 
 -- the line of turn n, without its line feed
@@ -40,7 +41,8 @@ IsRound z n turn round = (line : List ℕ) × IsTurnLine z n turn (line ++ codes
 -- those of these turns of pricing the winners of z, behind so many others
 abbrev pub AreRounds : List ℕ → ℕ → List Turn → List Data → Type 0
 AreRounds z before [] rounds = rounds ≡ []
-AreRounds z before (t ∷ turns) rounds = (round : Data) × (rest : List Data) × IsRound z (suc before) t round × AreRounds z (suc before) turns rest × (rounds ≡ round ∷ rest)
+AreRounds z before (t ∷ turns) rounds = (round : Data) × (rest : List Data) × IsRound z (suc before) t round
+    × AreRounds z (suc before) turns rest × (rounds ≡ round ∷ rest)
 
 abbrev pub with_winners : List Data → Members
 with_winners winners = member (codes "winners") (array (items_of winners)) no_members
@@ -48,7 +50,8 @@ with_winners winners = member (codes "winners") (array (items_of winners)) no_me
 -- the members behind the revenue: the rounds, where there are turns, and the winners
 abbrev pub AreLastMembers : List ℕ → Option (List Turn) → List Data → Members → Type 0
 AreLastMembers z None winners members = members ≡ with_winners winners
-AreLastMembers z (Some turns) winners members = (rounds : List Data) × AreRounds z 0 turns rounds × (members ≡ member (codes "rounds") (array (items_of rounds)) (with_winners winners))
+AreLastMembers z (Some turns) winners members = (rounds : List Data) × AreRounds z 0 turns rounds
+    × (members ≡ member (codes "rounds") (array (items_of rounds)) (with_winners winners))
 
 -- the prices p of the winners of z, with the turns that led to them where there are any
 pub record IsOutcome (book : Book) (z : List ℕ) (v : ℕ → ℤ) (p : Point) (turns : Option (List Turn)) (outcome : Data) : Type 0 where

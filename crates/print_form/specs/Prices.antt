@@ -29,7 +29,8 @@ abbrev pub ArePricedLines : Book → List ℕ → (ℕ → ℤ) → Point → �
 ArePricedLines book z v p k [] text = text ≡ []
 ArePricedLines book z v p k (zero ∷ c) text = ArePricedLines book z v p (suc k) c text
 ArePricedLines book z v p k (suc i ∷ c) text =
-    (pays rest : List ℕ) × IsFractionText (gross_of book z p (suc k)) p.den pays × ArePricedLines book z v p (suc k) c rest
+    (pays rest : List ℕ) × IsFractionText (gross_of book z p (suc k)) p.den pays
+    × ArePricedLines book z v p (suc k) c rest
     × (text ≡ priced_line (bidder_of book (suc k)).name (bid_of book (suc k) (suc i)) (v (suc k) +ℤ reserve_of book (suc k) (suc i)) pays ++ rest)
 
 -- what all winners pay, gross, times the denominator
@@ -39,5 +40,6 @@ revenue_of book z p bidders = sum_over everyone (gross_of book z p) bidders
 -- the whole text of the prices p of the winners of z
 abbrev pub IsPriceText : Book → List ℕ → (ℕ → ℤ) → Point → List ℕ → Type 0
 IsPriceText book z v p text =
-    (lines revenue : List ℕ) × ArePricedLines book z v p 0 z lines × IsFractionText (revenue_of book z p (market_of book).bidders) p.den revenue
+    (lines revenue : List ℕ) × ArePricedLines book z v p 0 z lines
+    × IsFractionText (revenue_of book z p (market_of book).bidders) p.den revenue
     × (text ≡ lines ++ net_line (value_of (market_of book) z) ++ codes "revenue " ++ revenue ++ codes "\n")

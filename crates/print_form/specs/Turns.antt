@@ -13,7 +13,8 @@ abbrev pub ArePoints : Point → ℕ → List ℕ → List ℕ → Type 0
 ArePoints p k [] text = text ≡ []
 ArePoints p k (zero ∷ c) text = ArePoints p (suc k) c text
 ArePoints p k (suc i ∷ c) text =
-    (price rest : List ℕ) × IsFractionText (of_bidder p.at (suc k)) p.den price × ArePoints p (suc k) c rest × (text ≡ 32 ∷ price ++ rest)
+    (price rest : List ℕ) × IsFractionText (of_bidder p.at (suc k)) p.den price × ArePoints p (suc k) c rest
+    × (text ≡ 32 ∷ price ++ rest)
 
 -- what stands behind the point: the block with its excess, or the end
 abbrev pub IsTurnEnd : ℕ → ℤ → Option Block → List ℕ → Type 0
@@ -31,4 +32,5 @@ IsTurnLine z number t text =
 -- the lines of these turns of pricing the winners of z, behind so many others
 abbrev pub AreTurnLines : List ℕ → ℕ → List Turn → List ℕ → Type 0
 AreTurnLines z before [] text = text ≡ []
-AreTurnLines z before (t ∷ turns) text = (line rest : List ℕ) × IsTurnLine z (suc before) t line × AreTurnLines z (suc before) turns rest × (text ≡ line ++ rest)
+AreTurnLines z before (t ∷ turns) text = (line rest : List ℕ) × IsTurnLine z (suc before) t line
+    × AreTurnLines z (suc before) turns rest × (text ≡ line ++ rest)

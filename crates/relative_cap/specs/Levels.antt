@@ -19,15 +19,18 @@ peak_from history j k = peak_of (rounds_of j (drop k history))
 
 -- the greatest eligibilities from the place on
 abbrev pub ArePeaksFrom : ℕ → List Round → ℕ → List ℕ → Type 0
-ArePeaksFrom place history j peaks = (k : ℕ) → place ≤ k → k < length history → slice_index peaks k ≡ peak_from history j k
+ArePeaksFrom place history j peaks = (k : ℕ) → place ≤ k → k < length history
+    → slice_index peaks k ≡ peak_from history j k
 
 -- the highest amount for what bidder j held in the round at place k
 abbrev pub IsHigh : List Round → ℕ → List BookBid → ℕ → ℕ → Type 0
-IsHigh history j bids k high = (high ≡ highest (rounds_of j history) bids (own_in history j (k + 1)).held) × (high ≤ MOST_AMOUNT)
+IsHigh history j bids k high = (high ≡ highest (rounds_of j history) bids (own_in history j (k + 1)).held)
+    × (high ≤ MOST_AMOUNT)
 
 -- the highest amounts over the clock alone from the place on
 abbrev pub AreHighsFrom : ℕ → List Round → ℕ → List ℕ → Type 0
-AreHighsFrom place history j highs = (k : ℕ) → place ≤ k → k < length history → IsHigh history j [] k (slice_index highs k)
+AreHighsFrom place history j highs = (k : ℕ) → place ≤ k → k < length history
+    → IsHigh history j [] k (slice_index highs k)
 
 -- the greatest eligibility from each round on
 pub record ArePeaks (history : List Round) (j : ℕ) (peaks : List ℕ) : Type 0 where

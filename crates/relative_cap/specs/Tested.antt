@@ -42,7 +42,8 @@ pub record IsHighest (rounds : List OwnRound) (bids : List BookBid) (lots : List
 -- at the first place at which a package was held stands what is highest for it
 pub record AreHighs (history : List Round) (j : ℕ) (bids : List BookBid) (highs : List ℕ) : Type 0 where
   pub room : length history ≤ length highs
-  pub each : (lots : List ℕ) → first_place (rounds_of j history) lots < length history → IsHighest (rounds_of j history) bids lots (slice_index highs (first_place (rounds_of j history) lots))
+  pub each : (lots : List ℕ) → first_place (rounds_of j history) lots < length history
+      → IsHighest (rounds_of j history) bids lots (slice_index highs (first_place (rounds_of j history) lots))
 
 -- what a tester keeps
 pub record Tester : Type 0 where

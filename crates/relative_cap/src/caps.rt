@@ -40,7 +40,8 @@ fn cap_by(history: &History, j: u16, r: u32, list: &[Bid], package: &Package) ->
     requires list { All (IsEntry (categories_in history.now)) list.now }
     requires order { InOrder (map entry_lots list.now) }
     requires categories { IsHeld (categories_in history.now) «package».now }
-    ensures { result ≡ cap_by (rounds_of j history.now) (map bid_value list.now) (own_in history.now j r) «package».now }
+    ensures { result
+        ≡ cap_by (rounds_of j history.now) (map bid_value list.now) (own_in history.now j r) «package».now }
 {
     let high = highest(history, j, list, history.package(r, j));
     cap_from(history, j, r, high, package)
@@ -64,7 +65,8 @@ pub fn cap(
     requires order { InOrder (map entry_lots list.now) }
     requires categories { IsHeld (categories_in history.now) «package».now }
     requires eligible { cost_of points.now «package».now ≤ eligibility_in history.now j 1 }
-    ensures { cap_value result ≡ cap_of final_cap points.now (rounds_of j history.now) (map bid_value list.now) «package».now }
+    ensures { cap_value result
+        ≡ cap_of final_cap points.now (rounds_of j history.now) (map bid_value list.now) «package».now }
 {
     let last = history.rounds();
     if is_same(package, history.package(last, j)) {
@@ -105,7 +107,8 @@ fn level_cap_by(
     requires room { length history.now ≤ length highs.now }
     requires high { IsHigh history.now j [] (r - 1) (slice_index highs.now (r - 1)) }
     requires categories { IsHeld (categories_in history.now) «package».now }
-    ensures { result ≡ cap_by (rounds_of j history.now) (map bid_value list.now) (own_in history.now j r) «package».now }
+    ensures { result
+        ≡ cap_by (rounds_of j history.now) (map bid_value list.now) (own_in history.now j r) «package».now }
 {
     let high = high_over(history, j, r, list, highs[r as usize - 1]);
     cap_from(history, j, r, high, package)
@@ -129,7 +132,8 @@ fn level_cap(
     requires order { InOrder (map entry_lots list.now) }
     requires categories { IsHeld (categories_in history.now) «package».now }
     requires eligible { cost_of points.now «package».now ≤ eligibility_in history.now j 1 }
-    ensures { cap_value result ≡ cap_of final_cap points.now (rounds_of j history.now) (map bid_value list.now) «package».now }
+    ensures { cap_value result
+        ≡ cap_of final_cap points.now (rounds_of j history.now) (map bid_value list.now) «package».now }
 {
     let last = history.rounds();
     if is_same(package, history.package(last, j)) {
@@ -161,7 +165,8 @@ fn first_fault(
     requires order { InOrder (map entry_lots list.now) }
     requires eligible { All (IsEligible points.now history.now j) list.now }
     requires few { length list.now < 2 ^ 32 }
-    ensures { option_map excess_value result ≡ list_fault final_cap points.now (rounds_of j history.now) (map bid_value list.now) }
+    ensures { option_map excess_value result
+        ≡ list_fault final_cap points.now (rounds_of j history.now) (map bid_value list.now) }
 {
     for (index, bid) in list.iter().enumerate() {
         let cap = level_cap(
@@ -201,7 +206,8 @@ pub fn list_fault(
     requires order { InOrder (map entry_lots list.now) }
     requires eligible { All (IsEligible points.now history.now j) list.now }
     requires few { length list.now < 2 ^ 32 }
-    ensures { option_map excess_value result ≡ list_fault final_cap points.now (rounds_of j history.now) (map bid_value list.now) }
+    ensures { option_map excess_value result
+        ≡ list_fault final_cap points.now (rounds_of j history.now) (map bid_value list.now) }
 {
     let mut peaks = [0; ROUNDS];
     let mut highs = [0; ROUNDS];

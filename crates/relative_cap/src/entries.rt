@@ -61,7 +61,8 @@ fn comes_before(entries: &[TestedEntry], place: usize, package: &Package) -> boo
 /// Whether there is an entry at the place for this package.
 fn stands_at(entries: &[TestedEntry], place: usize, package: &Package) -> bool
     requires { All (λ e. length e.bid.«package» ≡ length «package».now) entries.now }
-    ensures { result ≡ true → (place < length entries.now) × (slice_index_or (map tested_lots entries.now) place [] ≡ «package».now) }
+    ensures { result ≡ true
+        → (place < length entries.now) × (slice_index_or (map tested_lots entries.now) place [] ≡ «package».now) }
 {
     place < entries.len() && is_same(&entries[place].bid.package, package)
 }
@@ -86,7 +87,8 @@ fn put_among(
     requires place { place ≤ length entries.old.items }
     requires entries { All (IsTested history.now points.now j) entries.old.items }
     ensures entries { All (IsTested history.now points.now j) entries.new.items }
-    ensures put { OnOk result (IsPutAt (map tested_bid entries.old.items) place (bid_value bid.now) (map tested_bid entries.new.items)) }
+    ensures put { OnOk result
+        (IsPutAt (map tested_bid entries.old.items) place (bid_value bid.now) (map tested_bid entries.new.items)) }
 {
     while comes_before(entries, place, &bid.package) {
         let _ = entries.remove(place);
@@ -120,7 +122,8 @@ fn put_at(
     requires place { place ≤ length entries.old.items }
     requires entries { All (IsTested history.now points.now j) entries.old.items }
     ensures entries { All (IsTested history.now points.now j) entries.new.items }
-    ensures put { OnOk result (IsPutAt (map tested_bid entries.old.items) place (bid_value bid.now) (map tested_bid entries.new.items)) }
+    ensures put { OnOk result
+        (IsPutAt (map tested_bid entries.old.items) place (bid_value bid.now) (map tested_bid entries.new.items)) }
 {
     if stands_at(entries, place, &bid.package) {
         entries[place].bid.amount = bid.amount;

@@ -75,7 +75,9 @@ impl ListTester {
         requires order { InOrder (map entry_lots list.now) }
         requires eligible { All (IsEligible points.now history.now j) list.now }
         requires few { length list.now < 2 ^ 32 }
-        ensures fault { IfOk result (λ over. option_map excess_value over ≡ list_fault final_cap points.now (rounds_of j history.now) (map bid_value list.now)) }
+        ensures fault { IfOk result
+            (λ over. option_map excess_value over
+            ≡ list_fault final_cap points.now (rounds_of j history.now) (map bid_value list.now)) }
         ensures tester { IsTester history.now points.now j self.new }
     {
         follow(
@@ -105,7 +107,8 @@ fn raise(highs: &mut Vec<u64>, place: u32, amount: u64)
 /// The highest amounts over the clock and the entries: at the first of the rounds in which a package was held stands what is
 /// highest for it. Those over the clock alone are given.
 fn highs_over(alloc: Global, clock: &[u64], entries: &[TestedEntry]) -> Result<Vec<u64>, AllocError>
-    ensures { (history : List Round) (points : List ℕ) (j : ℕ) → AreHighs history j [] clock.now → All (IsTested history points j) entries.now
+    ensures { (history : List Round) (points : List ℕ) (j : ℕ) → AreHighs history j [] clock.now
+        → All (IsTested history points j) entries.now
         → IfOk result (λ highs. AreHighs history j (map tested_bid entries.now) highs.items) }
 {
     let mut highs = Vec::from_slice(alloc, clock)?;
@@ -143,7 +146,8 @@ fn terms_cap(final_cap: bool, highs: &[u64], terms: &PackageTerms) -> Cap
 fn first_fault(final_cap: bool, highs: &[u64], entries: &[TestedEntry]) -> Option<OverCap>
     requires fits { All (λ e. FitsTerms highs.now e.terms) entries.now }
     requires few { length entries.now < 2 ^ 32 }
-    ensures { (cap : List ℕ → Option ℕ) → All (λ e. terms_cap final_cap highs.now e.terms ≡ cap e.bid.«package») entries.now
+    ensures { (cap : List ℕ → Option ℕ)
+        → All (λ e. terms_cap final_cap highs.now e.terms ≡ cap e.bid.«package») entries.now
         → option_map excess_value result ≡ first_excess cap 1 (map tested_bid entries.now) }
 {
     for (index, entry) in entries.iter().enumerate() {

@@ -124,7 +124,8 @@ fn first_over(counts: &[u16], supply: &[u16]) -> Option<u16>
 pub fn bid_for(book: &BidBook, j: u16, wanted: &Package) -> Option<u16>
     requires { (0 < j) × (j ≤ length book.now.bidders) }
     ensures own { IfSome result (λ i. IsBidFor book.now j wanted.now i) }
-    ensures amount { IfSome result (λ i. amount_for wanted.now (bids_of book.now j) ≡ Some (bid_of book.now j i).amount) }
+    ensures amount { IfSome result
+        (λ i. amount_for wanted.now (bids_of book.now j) ≡ Some (bid_of book.now j i).amount) }
     ensures none { IfNone result (amount_for wanted.now (bids_of book.now j) ≡ None) }
 {
     for i in 0..book.bids(j) {

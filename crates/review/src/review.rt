@@ -62,7 +62,8 @@ impl Review {
     /// it, or want of memory, which leave the review as it is.
     pub fn edit(&mut self, alloc: Global, edit: &Edit) -> EditReply
         requires { length (edit_lots edit.now) ≡ length self.old.book.supply }
-        ensures reply { (result ≡ edit_reply self.old.book edit.now) ⊎ ((result ≡ EditReply.Memory) × (edit_reply self.old.book edit.now ≡ EditReply.Ok)) }
+        ensures reply { (result ≡ edit_reply self.old.book edit.now)
+            ⊎ ((result ≡ EditReply.Memory) × (edit_reply self.old.book edit.now ≡ EditReply.Ok)) }
         ensures taken { result ≡ EditReply.Ok → self.new.book ≡ edited self.old.book edit.now }
         ensures unchanged { result ≢ EditReply.Ok → self.new ≡ self.old }
     {

@@ -59,7 +59,8 @@ behind_all book (e ∷ es) = behind_all (behind book e) es
 abbrev pub AreEditLines : ℕ → Book → List Edit → List ℕ → Type 0
 AreEditLines before book [] text = text ≡ []
 AreEditLines before book (e ∷ es) text =
-    (line rest : List ℕ) × IsReplyLine (edit_reply book e) (suc before) (behind book e) line × AreEditLines (suc before) (behind book e) es rest × (text ≡ line ++ rest)
+    (line rest : List ℕ) × IsReplyLine (edit_reply book e) (suc before) (behind book e) line
+    × AreEditLines (suc before) (behind book e) es rest × (text ≡ line ++ rest)
 
 -- The whole text of the edits of a book: the line of the book as it is, with number 0, the lines of the edits, and the winners of the book
 -- behind all of them.

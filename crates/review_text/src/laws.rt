@@ -11,7 +11,8 @@ use auction_model::{book_market, winning_choice};
 
 /// The edits of a book within the limits, whose packages have the book's number of categories, have one text.
 pub fn one_review_text()
-    ensures { (book : Book) (edits : List Edit) (a b : List ℕ) → IsBookWithinLimits book → AllByRecursion (λ e. length (edit_lots e) ≡ length book.supply) edits
+    ensures { (book : Book) (edits : List Edit) (a b : List ℕ) → IsBookWithinLimits book
+        → AllByRecursion (λ e. length (edit_lots e) ≡ length book.supply) edits
         → IsReviewText book edits a → IsReviewText book edits b → a ≡ b }
 {
     winning_choice();

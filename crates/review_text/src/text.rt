@@ -37,7 +37,10 @@ fn add_edit(
     edit: &Edit,
 ) -> Result<(), AllocError>
     requires { length (edit_lots edit.now) ≡ length review.old.book.supply }
-    ensures line { OnOk result ((line : List ℕ) × IsReplyLine (edit_reply review.old.book edit.now) n (behind review.old.book edit.now) line × (text.new ≡ text.old ++ line)) }
+    ensures line { OnOk result
+        ((line : List ℕ)
+        × IsReplyLine (edit_reply review.old.book edit.now) n (behind review.old.book edit.now) line
+        × (text.new ≡ text.old ++ line)) }
     ensures book { OnOk result (review.new.book ≡ behind review.old.book edit.now) }
 {
     match review.edit(alloc, edit) {

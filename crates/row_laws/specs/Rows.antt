@@ -22,7 +22,8 @@ pub record IsGivenBy (m : Market) (z : List ℕ) (row : Row) (c : List ℕ) : Ty
   pub allowed : IsTrue (m.allowed c)
   pub idle : IsIdleSet m z c (row_of z row.members)
   pub given : row.bound ≡ row_bound m z (row_of z row.members) c
-  pub greatest : (g : List ℕ) → IsTrue (m.allowed g) → IsIdleSet m z g (row_of z row.members) → row_bound m z (row_of z row.members) g ≤ℤ row.bound
+  pub greatest : (g : List ℕ) → IsTrue (m.allowed g) → IsIdleSet m z g (row_of z row.members)
+      → row_bound m z (row_of z row.members) g ≤ℤ row.bound
 
 -- a point with a number for each winner asks the row's bound of its members, or more
 abbrev pub Meets : List ℕ → Row → ℤ → List ℤ → Type 0

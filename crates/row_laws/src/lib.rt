@@ -25,35 +25,48 @@ ghost use Rattle.row_laws.specs.Rows.{HasWinners, IsGivenBy, Meets};
 /// The first choice of greatest lowered sum is the block that a turn takes, with the winners that it doesn't use and that
 /// pay no more than their bid. Its excess is what the sum is above all payments.
 pub fn taken_block()
-    ensures { (m : Market) (z : List ℕ) (p : Point) (f : List ℕ) → IsMarket m → AsksWinnersOnly m z p → IsFirstGreatest m.allowed (lowered_sum m z p) f
+    ensures { (m : Market) (z : List ℕ) (p : Point) (f : List ℕ) → IsMarket m → AsksWinnersOnly m z p
+        → IsFirstGreatest m.allowed (lowered_sum m z p) f
         → IsTakenBlock m z p f (idle_row m z p f) (lowered_sum m z p f -ℤ paid m p) }
 {}
 
 /// A point is unblocked exactly where the greatest lowered sum is at most what all bidders pay. At the winning choice it
 /// is never less.
 pub fn unblocked_points()
-    ensures free { (m : Market) (z : List ℕ) (p : Point) (f : List ℕ) → IsMarket m → AsksWinnersOnly m z p → IsFirstGreatest m.allowed (lowered_sum m z p) f
+    ensures free { (m : Market) (z : List ℕ) (p : Point) (f : List ℕ) → IsMarket m → AsksWinnersOnly m z p
+        → IsFirstGreatest m.allowed (lowered_sum m z p) f
         → lowered_sum m z p f ≤ℤ paid m p → IsUnblocked m z p }
-    ensures only { (m : Market) (z : List ℕ) (p : Point) (f : List ℕ) → IsMarket m → AsksWinnersOnly m z p → IsFirstGreatest m.allowed (lowered_sum m z p) f
+    ensures only { (m : Market) (z : List ℕ) (p : Point) (f : List ℕ) → IsMarket m → AsksWinnersOnly m z p
+        → IsFirstGreatest m.allowed (lowered_sum m z p) f
         → IsUnblocked m z p → lowered_sum m z p f ≤ℤ paid m p }
-    ensures least { (m : Market) (z : List ℕ) (p : Point) (f : List ℕ) → IsMarket m → AsksWinnersOnly m z p → IsFirstGreatest m.allowed (lowered_sum m z p) f
+    ensures least { (m : Market) (z : List ℕ) (p : Point) (f : List ℕ) → IsMarket m → AsksWinnersOnly m z p
+        → IsFirstGreatest m.allowed (lowered_sum m z p) f
         → IsWinning m z → paid m p ≤ℤ lowered_sum m z p f }
 {}
 
 /// The bits of a set of winners stand for that set, and what a row asks of the winners it asks of the bidders.
 pub fn rows_as_bits()
-    ensures members { (m : Market) (z : List ℕ) (p : Point) (f : List ℕ) (j : ℕ) → 0 < j → row_of z (bits_after z (idle_row m z p f) 0) j ≡ idle_row m z p f j }
-    ensures sums { (z : List ℕ) (at : List ℤ) (bits : ℕ) → sum_over (row_of z bits) (of_bidder (for_bidders z at)) (length z) ≡ dot (winners_in z) (holds bits) (nth at) }
+    ensures members { (m : Market) (z : List ℕ) (p : Point) (f : List ℕ) (j : ℕ) → 0 < j
+        → row_of z (bits_after z (idle_row m z p f) 0) j ≡ idle_row m z p f j }
+    ensures sums { (z : List ℕ) (at : List ℤ) (bits : ℕ)
+        → sum_over (row_of z bits) (of_bidder (for_bidders z at)) (length z)
+        ≡ dot (winners_in z) (holds bits) (nth at) }
 {}
 
 /// A block with an excess has a member. Its row is given by its choice: no choice that uses no member gives the set a greater
 /// bound. No row that the point meets has the same members, so no row comes twice. Each core point meets each such row.
 pub fn rows_of_blocks()
-    ensures some { (m : Market) (z : List ℕ) (p : Point) (f : List ℕ) (members : ℕ → Bool) (excess : ℤ) → IsMarket m → IsWinning m z → pos 1 ≤ℤ p.den
-        → IsTakenBlock m z p f members excess → pos 0 <ℤ excess → (j : ℕ) × (0 < j) × (j ≤ m.bidders) × IsTrue (members j) }
-    ensures given { (m : Market) (z : List ℕ) (p : Point) (f : List ℕ) (row : Row) (excess : ℤ) → pos 1 ≤ℤ p.den → IsTakenBlock m z p f (row_of z row.members) excess → HasWinners z row.members
+    ensures some { (m : Market) (z : List ℕ) (p : Point) (f : List ℕ) (members : ℕ → Bool) (excess : ℤ) → IsMarket m
+        → IsWinning m z → pos 1 ≤ℤ p.den
+        → IsTakenBlock m z p f members excess → pos 0 <ℤ excess → (j : ℕ) × (0 < j) × (j ≤ m.bidders)
+        × IsTrue (members j) }
+    ensures given { (m : Market) (z : List ℕ) (p : Point) (f : List ℕ) (row : Row) (excess : ℤ) → pos 1 ≤ℤ p.den
+        → IsTakenBlock m z p f (row_of z row.members) excess → HasWinners z row.members
         → row.bound ≡ row_bound m z (row_of z row.members) f → IsGivenBy m z row f }
-    ensures new { (m : Market) (z : List ℕ) (den : ℤ) (at : List ℤ) (bits : ℕ) (old : Row) (c f : List ℕ) (excess : ℤ) → length z ≡ m.bidders → pos 1 ≤ℤ den → IsGivenBy m z old c → Meets z old den at
-        → IsTakenBlock m z (record { den = den; at = for_bidders z at }) f (row_of z bits) excess → pos 0 <ℤ excess → bits ≢ old.members }
-    ensures met { (m : Market) (z : List ℕ) (q : Point) (row : Row) (c : List ℕ) → IsMarket m → length z ≡ m.bidders → IsCorePoint m z q → IsGivenBy m z row c → Meets z row q.den (for_winners z q.at) }
+    ensures new { (m : Market) (z : List ℕ) (den : ℤ) (at : List ℤ) (bits : ℕ) (old : Row) (c f : List ℕ) (excess : ℤ)
+        → length z ≡ m.bidders → pos 1 ≤ℤ den → IsGivenBy m z old c → Meets z old den at
+        → IsTakenBlock m z (record { den = den; at = for_bidders z at }) f (row_of z bits) excess
+        → pos 0 <ℤ excess → bits ≢ old.members }
+    ensures met { (m : Market) (z : List ℕ) (q : Point) (row : Row) (c : List ℕ) → IsMarket m → length z ≡ m.bidders
+        → IsCorePoint m z q → IsGivenBy m z row c → Meets z row q.den (for_winners z q.at) }
 {}

@@ -67,7 +67,8 @@ pub(crate) fn words_of(alloc: Global, words: &[&str]) -> Result<Vec<String>, All
 
 /// Files that know the words, and are all missing. At most 100 bytes go in one call.
 pub(crate) fn no_files(alloc: Global, words: &[String]) -> Result<MemFiles, AllocError>
-    ensures { IfOk result (λ files. All (λ w. IsTrue ((mem_folder files.files.items).knows w)) (map string_bytes words.now)) }
+    ensures { IfOk result
+        (λ files. All (λ w. IsTrue ((mem_folder files.files.items).knows w)) (map string_bytes words.now)) }
 {
     no_files_in(alloc, words, 100)
 }
@@ -79,7 +80,8 @@ pub(crate) fn no_files_in(
     bite: usize,
 ) -> Result<MemFiles, AllocError>
     requires { 0 < bite }
-    ensures { IfOk result (λ files. All (λ w. IsTrue ((mem_folder files.files.items).knows w)) (map string_bytes words.now)) }
+    ensures { IfOk result
+        (λ files. All (λ w. IsTrue ((mem_folder files.files.items).knows w)) (map string_bytes words.now)) }
 {
     let files = MemFiles::new(alloc, words, bite)?;
     Ok(files)
@@ -94,7 +96,8 @@ fn set_at(
 ) -> Result<(), AllocError>
     requires place { place < length words.now }
     requires known { All (λ w. IsTrue ((mem_folder files.old.files.items).knows w)) (map string_bytes words.now) }
-    ensures { OnOk result (All (λ w. IsTrue ((mem_folder files.new.files.items).knows w)) (map string_bytes words.now)) }
+    ensures { OnOk result
+        (All (λ w. IsTrue ((mem_folder files.new.files.items).knows w)) (map string_bytes words.now)) }
 {
     files.set(words[place].as_str(), bytes)?;
     Ok(())
@@ -108,7 +111,8 @@ pub(crate) fn fill(
     bytes: Option<&[u8]>,
 ) -> Result<(), AllocError>
     requires { All (λ w. IsTrue ((mem_folder files.old.files.items).knows w)) (map string_bytes words.now) }
-    ensures { OnOk result (All (λ w. IsTrue ((mem_folder files.new.files.items).knows w)) (map string_bytes words.now)) }
+    ensures { OnOk result
+        (All (λ w. IsTrue ((mem_folder files.new.files.items).knows w)) (map string_bytes words.now)) }
 {
     match bytes {
         Some(bytes) if place < words.len() => set_at(files, words, place, bytes),
@@ -118,7 +122,8 @@ pub(crate) fn fill(
 
 // Files that know the words, with the bytes of the book and of the certificate.
 fn files_of(alloc: Global, words: &[String], setting: &Setting<'_>) -> Result<MemFiles, AllocError>
-    ensures { IfOk result (λ files. All (λ w. IsTrue ((mem_folder files.files.items).knows w)) (map string_bytes words.now)) }
+    ensures { IfOk result
+        (λ files. All (λ w. IsTrue ((mem_folder files.files.items).knows w)) (map string_bytes words.now)) }
 {
     let mut files = no_files(alloc, words)?;
     fill(&mut files, words, 1, setting.book)?;

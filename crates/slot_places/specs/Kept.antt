@@ -8,8 +8,10 @@ use Rattle.slot_places.specs.SlotForm.{AreSlotsWithinLimits}
 -- a bidder in a band: its starts rise within the band, so it has no more bids than there are slots
 pub record IsInBand (band : ℕ) (b : SlotBidder) : Type 0 where
   pub width : 1 ≤ b.width
-  pub starts : (i : ℕ) → i < length b.bids → (1 ≤ (slice_index_or b.bids i no_bid).start) × ((slice_index_or b.bids i no_bid).start + b.width ≤ band + 1)
-  pub rising : (i h : ℕ) → i < h → h < length b.bids → (slice_index_or b.bids i no_bid).start < (slice_index_or b.bids h no_bid).start
+  pub starts : (i : ℕ) → i < length b.bids
+      → (1 ≤ (slice_index_or b.bids i no_bid).start) × ((slice_index_or b.bids i no_bid).start + b.width ≤ band + 1)
+  pub rising : (i h : ℕ) → i < h → h < length b.bids
+      → (slice_index_or b.bids i no_bid).start < (slice_index_or b.bids h no_bid).start
   pub few : length b.bids ≤ MOST_LOTS
   pub amounts : (i : ℕ) → i < length b.bids → (slice_index_or b.bids i no_bid).amount ≤ MOST_AMOUNT
 

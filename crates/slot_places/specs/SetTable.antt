@@ -39,8 +39,10 @@ IsSetBest b counts s c = IsFirstGreatest (fits_behind b s) (sum_outside s counts
 pub record IsSetTable (b : Board) (counts : ℕ → ℕ → ℤ) (table : List (List ℤ)) : Type 0 where
   pub lines : length table ≡ 1
   pub sets : length (slice_index_or table 0 []) ≡ 2 ^ b.bidders
-  pub exact : (bits : ℕ) → bits < 2 ^ b.bidders → IsSetEntry b counts (holds bits) (slice_index_or (slice_index_or table 0 []) bits (pos 0))
+  pub exact : (bits : ℕ) → bits < 2 ^ b.bidders
+      → IsSetEntry b counts (holds bits) (slice_index_or (slice_index_or table 0 []) bits (pos 0))
 
 -- no sum of a placed choice leaves the range
 abbrev pub StaysInRange : Board → (ℕ → ℕ → ℤ) → ℤ → List ℤ → Type 0
-StaysInRange b worth den surplus = (c : List ℕ) → IsTrue (is_placed b c) → sum_to (λ j. unsigned_abs den * unsigned_abs (worth j (number_of c j)) + unsigned_abs (of_bidder surplus j)) b.bidders ≤ 2 ^ 120
+StaysInRange b worth den surplus = (c : List ℕ) → IsTrue (is_placed b c)
+    → sum_to (λ j. unsigned_abs den * unsigned_abs (worth j (number_of c j)) + unsigned_abs (of_bidder surplus j)) b.bidders ≤ 2 ^ 120

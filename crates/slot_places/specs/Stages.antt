@@ -80,8 +80,10 @@ Adds old new line = AddsBidder old new line ⊎ AddsPlace old new line
 
 abbrev pub Step : Stage → List ℕ → Stage → Type 0
 Step Start line next = (line ≡ codes "slots 1") × (next ≡ Headed)
-Step Headed line next = (band : ℕ) × (line ≡ (band_line band).0) × ((1 ≤ band) × (band ≤ MOST_COUNT)) × (next ≡ Listing (opened band))
-Step (Listing slots) line next = ((line ≡ codes "end") × (next ≡ Ended slots)) ⊎ ((new : SlotList) × Adds slots new line × (next ≡ Listing new))
+Step Headed line next = (band : ℕ) × (line ≡ (band_line band).0) × ((1 ≤ band) × (band ≤ MOST_COUNT))
+    × (next ≡ Listing (opened band))
+Step (Listing slots) line next = ((line ≡ codes "end") × (next ≡ Ended slots))
+    ⊎ ((new : SlotList) × Adds slots new line × (next ≡ Listing new))
 Step (Ended slots) line next = ⊥
 
 abbrev pub bids_excess : ℕ → List SlotBid → Option Excess

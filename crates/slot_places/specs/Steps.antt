@@ -41,7 +41,9 @@ pub record IsBestOf (l : Search) (set : ℕ) (best : Best) : Type 0 where
 
 -- no worse than each choice that fits behind the set, in which bidder j is next with a number that passes
 abbrev pub IsBestNext : Search → ℕ → ℕ → (ℕ → Type 0) → List ℕ → Type 0
-IsBestNext l set j Passes best = (c : List ℕ) → IsTrue (fits_behind (searched l) (holds set) c) → Next (searched l) c (outside (joined j (holds set)) (searched l).bidders) (holds set) j → Passes (number_of c j) → IsBefore (sum_outside (holds set) (counted l)) best c
+IsBestNext l set j Passes best = (c : List ℕ) → IsTrue (fits_behind (searched l) (holds set) c)
+    → Next (searched l) c (outside (joined j (holds set)) (searched l).bidders) (holds set) j → Passes (number_of c j)
+    → IsBefore (sum_outside (holds set) (counted l)) best c
 
 -- no worse than each in which one of the bidders 1 to k is next
 abbrev pub IsBestTo : Search → ℕ → ℕ → List ℕ → Type 0

@@ -95,8 +95,10 @@ fn with_bidder(
     requires behind { IsBestOf search.now (set + 2 ^ (j - 1)) behind.now }
     requires best { IsHeld search.now set best }
     ensures held { IfOk result (λ b. IsHeld search.now set b) }
-    ensures kept { IfOk result (λ b. IsBefore (sum_outside (holds set) (counted search.now)) b.numbers.items best.numbers.items) }
-    ensures best { IfOk result (λ b. IsBestNext search.now set j (λ n. n ≤ (searched search.now).bids j) b.numbers.items) }
+    ensures kept { IfOk result
+        (λ b. IsBefore (sum_outside (holds set) (counted search.now)) b.numbers.items best.numbers.items) }
+    ensures best { IfOk result
+        (λ b. IsBestNext search.now set j (λ n. n ≤ (searched search.now).bids j) b.numbers.items) }
 {
     let start = search.start(set);
     let next = with_number(alloc, search, set, j, 0, behind)?;

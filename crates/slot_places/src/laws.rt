@@ -16,13 +16,17 @@ pub fn slot_market()
 
 /// A choice is allowed exactly where some order of all bidders allows it.
 pub fn slot_orders()
-    ensures some { (slots : SlotList) (c : List ℕ) → IsTrue ((market_of slots).allowed c) → (order : List ℕ) × IsTrue (allows slots order c) }
-    ensures allowed { (slots : SlotList) (c order : List ℕ) → IsTrue (allows slots order c) → IsTrue ((market_of slots).allowed c) }
+    ensures some { (slots : SlotList) (c : List ℕ) → IsTrue ((market_of slots).allowed c)
+        → (order : List ℕ) × IsTrue (allows slots order c) }
+    ensures allowed { (slots : SlotList) (c order : List ℕ) → IsTrue (allows slots order c)
+        → IsTrue ((market_of slots).allowed c) }
 {}
 
 /// Bytes say one thing of slots: slots, where the first faulty line begins, or what exceeds its limit first. So each answer of
 /// `read_slots` comes exactly where the bytes say so. And slots within the limits have one text.
 pub fn one_slots()
-    ensures one { (bytes : List ℕ) (x y : Said SlotList Excess) → Says IsSlotText slot_lines bytes x → Says IsSlotText slot_lines bytes y → x ≡ y }
-    ensures text { (bytes other : List ℕ) (slots : SlotList) → Says IsSlotText slot_lines bytes (stated slots) → Says IsSlotText slot_lines other (stated slots) → bytes ≡ other }
+    ensures one { (bytes : List ℕ) (x y : Said SlotList Excess) → Says IsSlotText slot_lines bytes x
+        → Says IsSlotText slot_lines bytes y → x ≡ y }
+    ensures text { (bytes other : List ℕ) (slots : SlotList) → Says IsSlotText slot_lines bytes (stated slots)
+        → Says IsSlotText slot_lines other (stated slots) → bytes ≡ other }
 {}

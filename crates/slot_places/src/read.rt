@@ -33,8 +33,10 @@ pub enum Stage {
 /// of form comes before a limit.
 pub fn read_slots(alloc: Global, bytes: &[u8]) -> Result<Slots, SlotStop>
     ensures text { IfOk result (λ slots. Says IsSlotText slot_lines bytes.now (stated slots)) }
-    ensures form { (place : ℕ) → result ≡ Err (SlotStop.Form place) → Says IsSlotText slot_lines bytes.now (faulty place) }
-    ensures limit { (kind : LimitKind) (count : ℕ) → result ≡ Err (SlotStop.Limit kind count) → Says IsSlotText slot_lines bytes.now (beyond (kind, count)) }
+    ensures form { (place : ℕ) → result ≡ Err (SlotStop.Form place)
+        → Says IsSlotText slot_lines bytes.now (faulty place) }
+    ensures limit { (kind : LimitKind) (count : ℕ) → result ≡ Err (SlotStop.Limit kind count)
+        → Says IsSlotText slot_lines bytes.now (beyond (kind, count)) }
 {
     let mut stage = Stage::Start;
     let mut place = 0;
@@ -58,7 +60,8 @@ pub fn read_slots(alloc: Global, bytes: &[u8]) -> Result<Slots, SlotStop>
 fn take_line(alloc: Global, stage: Stage, line: &[u8]) -> Result<Stage, LineStop>
     ensures ok { IfOk result (λ next. Step stage line.now next × (excess next ≡ None)) }
     ensures form { result ≡ Err LineStop.Form → (t : Stage) → Step stage line.now t → ⊥ }
-    ensures limit { (kind : LimitKind) (count : ℕ) → result ≡ Err (LineStop.Limit kind count) → (t : Stage) × Step stage line.now t × (excess t ≡ Some (kind, count)) }
+    ensures limit { (kind : LimitKind) (count : ℕ) → result ≡ Err (LineStop.Limit kind count)
+        → (t : Stage) × Step stage line.now t × (excess t ≡ Some (kind, count)) }
 {
     match stage {
         Stage::Start => take_first(line),
@@ -84,7 +87,8 @@ fn take_first(line: &[u8]) -> Result<Stage, LineStop>
 fn take_band(alloc: Global, line: &[u8]) -> Result<Stage, LineStop>
     ensures ok { IfOk result (λ next. Step Stage.Headed line.now next × (excess next ≡ None)) }
     ensures form { result ≡ Err LineStop.Form → (t : Stage) → Step Stage.Headed line.now t → ⊥ }
-    ensures limit { (kind : LimitKind) (count : ℕ) → result ≡ Err (LineStop.Limit kind count) → (t : Stage) × Step Stage.Headed line.now t × (excess t ≡ Some (kind, count)) }
+    ensures limit { (kind : LimitKind) (count : ℕ) → result ≡ Err (LineStop.Limit kind count)
+        → (t : Stage) × Step Stage.Headed line.now t × (excess t ≡ Some (kind, count)) }
 {
     let Some(band) = read_band(line) else {
         return Err(LineStop::Form);
@@ -108,7 +112,8 @@ fn read_band(line: &[u8]) -> Option<u64>
 fn take_listed(alloc: Global, mut slots: Slots, line: &[u8]) -> Result<Stage, LineStop>
     ensures ok { IfOk result (λ next. Step (Stage.Listing slots) line.now next × (excess next ≡ None)) }
     ensures form { result ≡ Err LineStop.Form → (t : Stage) → Step (Stage.Listing slots) line.now t → ⊥ }
-    ensures limit { (kind : LimitKind) (count : ℕ) → result ≡ Err (LineStop.Limit kind count) → (t : Stage) × Step (Stage.Listing slots) line.now t × (excess t ≡ Some (kind, count)) }
+    ensures limit { (kind : LimitKind) (count : ℕ) → result ≡ Err (LineStop.Limit kind count)
+        → (t : Stage) × Step (Stage.Listing slots) line.now t × (excess t ≡ Some (kind, count)) }
 {
     if line == b"end".as_slice() {
         return Ok(Stage::Ended(slots));

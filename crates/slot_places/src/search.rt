@@ -41,7 +41,8 @@ impl<'a> Search<'a> {
     pub fn worth(&self, j: u16, i: u16) -> i128
         requires bidder { (0 < j) × (j ≤ length self.now.slots.now.bidders) }
         requires bid { i ≤ (searched self.now).bids j }
-        requires size { unsigned_abs self.now.den * unsigned_abs (amount_of self.now.slots.now j i) + unsigned_abs (of_bidder self.now.surplus.now j) ≤ 2 ^ 120 }
+        requires size { unsigned_abs self.now.den * unsigned_abs (amount_of self.now.slots.now j i)
+            + unsigned_abs (of_bidder self.now.surplus.now j) ≤ 2 ^ 120 }
         ensures worth { result ≡ counted self.now j i }
         ensures size { unsigned_abs result ≤ 2 ^ 120 }
     {

@@ -42,9 +42,12 @@ impl<'a> SlotChooser<'a> {
     /// has no bids. The only error is want of memory.
     pub fn best_without(&self, alloc: Global, j: u16) -> Result<Found<Grid>, AllocError>
         requires { (0 < j) × (j ≤ length self.now.slots.now.bidders) }
-        ensures choice { IfOk result (λ f. IsFirstGreatest (allowed_without (market_of self.now.slots.now) j) (value_of (market_of self.now.slots.now)) f.choice) }
+        ensures choice { IfOk result
+            (λ f. IsFirstGreatest (allowed_without (market_of self.now.slots.now) j)
+            (value_of (market_of self.now.slots.now)) f.choice) }
         ensures sum { IfOk result (λ f. f.sum ≡ value_of (market_of self.now.slots.now) f.choice) }
-        ensures table { IfOk result (λ f. IsSetTable (board_without self.now.slots.now j) (amount_of self.now.slots.now) f.table) }
+        ensures table { IfOk result
+            (λ f. IsSetTable (board_without self.now.slots.now j) (amount_of self.now.slots.now) f.table) }
     {
         let found = plain_search(alloc, self.slots, j)?;
         Ok(found)
@@ -62,7 +65,9 @@ fn zeros(alloc: Global, count: usize) -> Result<Vec<i128>, AllocError>
 
 /// The first of the greatest placed choices in which bidder `skip` has no bids, or any bidder has where `skip` is 0.
 fn plain_search(alloc: Global, slots: &Slots, skip: u16) -> Result<Found<Grid>, AllocError>
-    ensures choice { IfOk result (λ f. IsFirstGreatest (is_placed (board_without slots.now skip)) (value_of (market_of slots.now)) f.choice) }
+    ensures choice { IfOk result
+        (λ f. IsFirstGreatest (is_placed (board_without slots.now skip))
+        (value_of (market_of slots.now)) f.choice) }
     ensures sum { IfOk result (λ f. f.sum ≡ value_of (market_of slots.now) f.choice) }
     ensures table { IfOk result (λ f. IsSetTable (board_without slots.now skip) (amount_of slots.now) f.table) }
 {
@@ -108,7 +113,8 @@ impl<'a> Chooser for SlotChooser<'a> {
 
     ghost chosen = { λ s. s.winners };
 
-    ghost is_table = { λ s den surplus table. IsSetTable (board_of s.slots.now) (lowered den (amount_of s.slots.now) surplus) table };
+    ghost is_table = { λ s den surplus table. IsSetTable (board_of s.slots.now)
+        (lowered den (amount_of s.slots.now) surplus) table };
 
     fn members(&self) -> usize {
         self.slots.bidders()

@@ -76,7 +76,8 @@ pub record HasRoom (b s : ℕ) (c : CertValue) (due : Due) (members : ℕ) (room
   pub value : 2 ≤ fields_come due → segment b s Value room ≡ c.value ∷ []
   pub choice : 3 ≤ fields_come due → segment b s Choice room ≡ as_numbers c.choice
   pub pay : 4 ≤ fields_come due → segment b s Payments room ≡ c.pay
-  pub parts : (j : ℕ) → 0 < j → j ≤ b → j < parts_come b due → IsTrue (uses c.choice j) → segment b s (PartChoice j) room ≡ as_numbers (part_of c.withouts j).choice
+  pub parts : (j : ℕ) → 0 < j → j ≤ b → j < parts_come b due → IsTrue (uses c.choice j)
+      → segment b s (PartChoice j) room ≡ as_numbers (part_of c.withouts j).choice
   pub before : HasLineBefore b s c due room
   pub members_are : HasMembers b s c due members room
 

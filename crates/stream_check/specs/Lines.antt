@@ -39,10 +39,13 @@ pub record IsLeft (book : Book) (w : ℕ → ℕ) (c : CertValue) (rest : List L
   pub known : IsOpen book w c due late members totals room
 
 -- that, or what fails first
-abbrev pub HasCome : Book → (ℕ → ℕ) → CertValue → List Line → Due → Option Failure → Option ℕ → ℕ → RowTotals → List ℤ → Type 0
+abbrev pub HasCome : Book → (ℕ → ℕ) → CertValue → List Line → Due → Option Failure → Option ℕ → ℕ → RowTotals → List ℤ
+    → Type 0
 HasCome book w c rest due (Some f) late members totals room = FailsFirst book w c f.test f.place
 HasCome book w c rest due None late members totals room = IsLeft book w c rest due late members totals room
 
 -- of each certificate that begins with these lines
 abbrev pub IsKnown : Book → (ℕ → ℕ) → Due → Option Failure → Option ℕ → ℕ → RowTotals → List ℤ → List Line → Type 0
-IsKnown book w due failed late members totals room items = (c : CertValue) → IsCertificate (bidders_of book) (states book) c → (rest : List Line) → cert_lines c ≡ items ++ rest → HasCome book w c rest due failed late members totals room
+IsKnown book w due failed late members totals room items = (c : CertValue)
+    → IsCertificate (bidders_of book) (states book) c → (rest : List Line) → cert_lines c ≡ items ++ rest
+    → HasCome book w c rest due failed late members totals room

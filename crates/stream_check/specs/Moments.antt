@@ -25,7 +25,8 @@ IsPossible at = (c : CertValue) × IsAt at c
 
 -- this is what the tests have shown when the next line is due
 abbrev pub Shows : Moment → Finding → Type 0
-Shows at f = (c : CertValue) (next : Due) → IsAt at c → IsNext at.book.now c at.due next → IsFound at.book.now (weight_of at.weights.now) c next f.failed f.late
+Shows at f = (c : CertValue) (next : Due) → IsAt at c → IsNext at.book.now c at.due next
+    → IsFound at.book.now (weight_of at.weights.now) c next f.failed f.late
 
 -- the claim is that of each such certificate
 pub record IsClaimOf (at : Moment) (a : Claim) : Type 0 where
@@ -48,4 +49,5 @@ pub record ArePlain (at : Moment) (o : Offers) (skip : ℕ) : Type 0 where
 pub record AreLowered (at : Moment) (o : Offers) : Type 0 where
   pub book : o.book.now ≡ at.book.now
   pub nobody : o.skip ≡ 0
-  pub net : (c : CertValue) → IsAt at c → (j i : ℕ) → 0 < j → j ≤ bidders_of o.book.now → worth_of o j i ≡ lowered_net o.book.now c j i
+  pub net : (c : CertValue) → IsAt at c → (j i : ℕ) → 0 < j → j ≤ bidders_of o.book.now
+      → worth_of o j i ≡ lowered_net o.book.now c j i

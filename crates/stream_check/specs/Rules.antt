@@ -20,4 +20,5 @@ lines_tested b k = if nat_lt k b then k else suc b
 pub record HasTwoLines (book : Book) (table : Table) (k : ℕ) (room : List ℤ) (t : List (List ℤ)) : Type 0 where
   pub whole : IsTable (bidders_of book) (states book) t
   pub line : segment (bidders_of book) (states book) (Entries table k) room ≡ slice_index_or t k []
-  pub before : 0 < k → segment (bidders_of book) (states book) (Entries table (k - 1)) room ≡ slice_index_or t (k - 1) []
+  pub before : 0 < k
+      → segment (bidders_of book) (states book) (Entries table (k - 1)) room ≡ slice_index_or t (k - 1) []

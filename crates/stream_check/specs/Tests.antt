@@ -71,7 +71,8 @@ IsLateDue book w c due late = late ≡ None
 pub record IsPartTo (book : Book) (j : ℕ) (part : WithoutValue) (k : ℕ) : Type 0 where
   pub allowed : IsTrue ((market_of book).allowed part.choice)
   pub unused : number_of part.choice j ≡ 0
-  pub rules : (l s : ℕ) → suc l < k → s < states book → ObeysAt (without (menu_of book) j) (net_of book) book.supply part.table l s
+  pub rules : (l s : ℕ) → suc l < k → s < states book
+      → ObeysAt (without (menu_of book) j) (net_of book) book.supply part.table l s
   pub top : 0 < k → entry_at part.table 0 (full book) ≤ℤ value_of (market_of book) part.choice
 
 -- so it is with the part that is read, if one is

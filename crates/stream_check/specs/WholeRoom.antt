@@ -17,7 +17,8 @@ pub record HasAll (book : Book) (c : CertValue) (room : List ℤ) : Type 0 where
   pub value : segment (bidders_of book) (states book) Value room ≡ c.value ∷ []
   pub choice : segment (bidders_of book) (states book) Choice room ≡ as_numbers c.choice
   pub pay : segment (bidders_of book) (states book) Payments room ≡ c.pay
-  pub parts : (j : ℕ) → 0 < j → j ≤ bidders_of book → IsTrue (uses c.choice j) → segment (bidders_of book) (states book) (PartChoice j) room ≡ as_numbers (part_of c.withouts j).choice
+  pub parts : (j : ℕ) → 0 < j → j ≤ bidders_of book → IsTrue (uses c.choice j)
+      → segment (bidders_of book) (states book) (PartChoice j) room ≡ as_numbers (part_of c.withouts j).choice
 
 -- winner j alone, by the part without it
 abbrev pub single_at : Book → CertValue → ℕ → Single

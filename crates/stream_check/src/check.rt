@@ -79,8 +79,10 @@ impl<'a> StreamCheck<'a> {
     /// Feeds the next bytes. However a text is cut into pieces, the checker then stands for the text.
     pub fn feed(&mut self, room: &mut [i128], piece: &[u8])
         requires room { length room.old ≡ room_size (bidders_of self.old.book.now) (states self.old.book.now) }
-        requires stands { (text : List ℕ) × StandsFor self.old room.old text × (length text + length piece.now < 2 ^ 40) }
-        ensures stands { (text : List ℕ) → StandsFor self.old room.old text → StandsFor self.new room.new (text ++ piece.now) }
+        requires stands { (text : List ℕ) × StandsFor self.old room.old text
+            × (length text + length piece.now < 2 ^ 40) }
+        ensures stands { (text : List ℕ) → StandsFor self.old room.old text
+            → StandsFor self.new room.new (text ++ piece.now) }
         ensures book { self.new.book.now ≡ self.old.book.now }
         ensures weights { self.new.weights.now ≡ self.old.weights.now }
         ensures room { length room.new ≡ length room.old }
@@ -100,9 +102,13 @@ impl<'a> StreamCheck<'a> {
     /// The verdict is that of `check`: the first test that fails, with the first of its places, and else yes; then the choice is the
     /// winning one, and with the payments it is the core outcome for these weights.
     pub fn finish(&self, room: &[i128]) -> Result<Verdict, TextStop>
-        ensures verdict { (text : List ℕ) → StandsFor self.now room.now text → IfOk result (λ v. (c : CertValue) × CertSays (bidders_of self.now.book.now) (states self.now.book.now) text (stated c)
-            × IsVerdict self.now.book.now (weight_of self.now.weights.now) c v × (v ≡ Verdict.Yes → IsSound self.now.book.now (weight_of self.now.weights.now) c)) }
-        ensures stops { (text : List ℕ) → StandsFor self.now room.now text → IfErr result (SaysStop (bidders_of self.now.book.now) (states self.now.book.now) text) }
+        ensures verdict { (text : List ℕ) → StandsFor self.now room.now text
+            → IfOk result (λ v. (c : CertValue)
+            × CertSays (bidders_of self.now.book.now) (states self.now.book.now) text (stated c)
+            × IsVerdict self.now.book.now (weight_of self.now.weights.now) c v
+            × (v ≡ Verdict.Yes → IsSound self.now.book.now (weight_of self.now.weights.now) c)) }
+        ensures stops { (text : List ℕ) → StandsFor self.now room.now text
+            → IfErr result (SaysStop (bidders_of self.now.book.now) (states self.now.book.now) text) }
     {
         sound_yes();
         match self.reader.finish() {
@@ -114,8 +120,13 @@ impl<'a> StreamCheck<'a> {
     /// The facts of the certificate whose text was fed. The condition is that `finish` answers yes. The only error is want of memory.
     pub fn read_facts(&self, alloc: Global, room: &[i128]) -> Result<CertFacts, AllocError>
         requires room { length room.now ≡ room_size (bidders_of self.now.book.now) (states self.now.book.now) }
-        requires yes { (text : List ℕ) × StandsFor self.now room.now text × ((c : CertValue) × CertSays (bidders_of self.now.book.now) (states self.now.book.now) text (stated c) × Holds self.now.book.now (weight_of self.now.weights.now) c) }
-        ensures { (text : List ℕ) → StandsFor self.now room.now text → IfOk result (λ f. (c : CertValue) × CertSays (bidders_of self.now.book.now) (states self.now.book.now) text (stated c) × AreFacts self.now.book.now c f) }
+        requires yes { (text : List ℕ) × StandsFor self.now room.now text
+            × ((c : CertValue) × CertSays (bidders_of self.now.book.now) (states self.now.book.now) text (stated c)
+            × Holds self.now.book.now (weight_of self.now.weights.now) c) }
+        ensures { (text : List ℕ) → StandsFor self.now room.now text
+            → IfOk result (λ f. (c : CertValue)
+            × CertSays (bidders_of self.now.book.now) (states self.now.book.now) text (stated c)
+            × AreFacts self.now.book.now c f) }
     {
         one_cert();
         one_verdict();
@@ -125,10 +136,12 @@ impl<'a> StreamCheck<'a> {
     /// Feeds the bytes of a piece from a place on, up to the end of the line at most. Gives the place behind them.
     fn feed_line(&mut self, room: &mut [i128], piece: &[u8], at: usize) -> usize
         requires room { length room.old ≡ room_size (bidders_of self.old.book.now) (states self.old.book.now) }
-        requires stands { (text : List ℕ) × StandsFor self.old room.old text × (length text + length piece.now < at + 2 ^ 40) }
+        requires stands { (text : List ℕ) × StandsFor self.old room.old text
+            × (length text + length piece.now < at + 2 ^ 40) }
         requires reading { self.old.reader.stop ≡ None }
         requires at { at < length piece.now }
-        ensures stands { (text : List ℕ) → StandsFor self.old room.old text → StandsFor self.new room.new (text ++ between at result piece.now) }
+        ensures stands { (text : List ℕ) → StandsFor self.old room.old text
+            → StandsFor self.new room.new (text ++ between at result piece.now) }
         ensures from { at < result }
         ensures to { result ≤ length piece.now }
         ensures book { self.new.book.now ≡ self.old.book.now }
@@ -149,7 +162,8 @@ impl<'a> StreamCheck<'a> {
         requires room { length room.now ≡ room_size (bidders_of self.old.book.now) (states self.old.book.now) }
         requires ends { (text : List ℕ) × (items : List Line) × EndsFor self.old room.now text items }
         requires reading { self.old.reader.stop ≡ None }
-        ensures stands { (text : List ℕ) (items : List Line) → EndsFor self.old room.now text items → StandsFor self.new room.now (text ++ 10 ∷ []) }
+        ensures stands { (text : List ℕ) (items : List Line) → EndsFor self.old room.now text items
+            → StandsFor self.new room.now (text ++ 10 ∷ []) }
         ensures book { self.new.book.now ≡ self.old.book.now }
         ensures weights { self.new.weights.now ≡ self.old.weights.now }
     {

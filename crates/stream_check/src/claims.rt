@@ -100,7 +100,9 @@ fn lowered_failure(at: &Moment, offers: &Offers, k: u16) -> Option<Failure>
     requires due { at.now.due ≡ Due.Entries Table.Lowered k }
     requires some { IsPossible at.now }
     requires offers { AreLowered at.now offers.now }
-    ensures { (c : CertValue) → IsAt at.now c → IsJudged at.now.book.now (weight_of at.now.weights.now) c 9 (lines_tested (bidders_of at.now.book.now) k * states at.now.book.now) result }
+    ensures { (c : CertValue) → IsAt at.now c
+        → IsJudged at.now.book.now (weight_of at.now.weights.now) c 9
+        (lines_tested (bidders_of at.now.book.now) k * states at.now.book.now) result }
 {
     of_test(9, rules_fault(offers, Table::Lowered, k, at.room))
 }
@@ -109,7 +111,9 @@ fn lowered_failure(at: &Moment, offers: &Offers, k: u16) -> Option<Failure>
 fn late_sum(at: &Moment, k: u16) -> Option<u64>
     requires due { at.now.due ≡ Due.Entries Table.Lowered k }
     requires some { IsPossible at.now }
-    ensures { (c : CertValue) → IsAt at.now c → IsLate at.now.book.now (weight_of at.now.weights.now) c 9 ((bidders_of at.now.book.now + 1) * states at.now.book.now) 1 result }
+    ensures { (c : CertValue) → IsAt at.now c
+        → IsLate at.now.book.now (weight_of at.now.weights.now) c 9
+        ((bidders_of at.now.book.now + 1) * states at.now.book.now) 1 result }
 {
     if k != 0 {
         return at.late;
@@ -121,7 +125,10 @@ fn late_sum(at: &Moment, k: u16) -> Option<u64>
 fn keeps_sum(at: &Moment) -> bool
     requires due { at.now.due ≡ Due.Entries Table.Lowered 0 }
     requires some { IsPossible at.now }
-    ensures { (c : CertValue) → IsAt at.now c → IsTrue result ↔ Asks at.now.book.now (weight_of at.now.weights.now) c 9 ((bidders_of at.now.book.now + 1) * states at.now.book.now + 0) }
+    ensures { (c : CertValue) → IsAt at.now c
+        → IsTrue result
+        ↔ Asks at.now.book.now (weight_of at.now.weights.now) c 9
+        ((bidders_of at.now.book.now + 1) * states at.now.book.now + 0) }
 {
     let _bidders = at.book.bidders();
     let paid = sum_paid(numbers_in(at.book, Due::Payments, at.room));

@@ -51,7 +51,8 @@ fn singles_in(
 ) -> Result<Singles, AllocError>
     requires room { length room.now ≡ room_size (bidders_of book.now) (states book.now) }
     requires some { (c : CertValue) × HasAll book.now c room.now × (c.choice ≡ choice.now) }
-    ensures { (c : CertValue) → HasAll book.now c room.now → c.choice ≡ choice.now → IfOk result (λ list. list ≡ map (single_of book.now c) c.withouts) }
+    ensures { (c : CertValue) → HasAll book.now c room.now → c.choice ≡ choice.now
+        → IfOk result (λ list. list ≡ map (single_of book.now c) c.withouts) }
 {
     let _bidders = book.bidders();
     let mut singles = Singles::new(alloc);
@@ -77,7 +78,8 @@ fn single_in(
     requires bidder { (0 < j) × (j ≤ bidders_of book.now) }
     requires wins { 0 < number }
     requires some { (c : CertValue) × HasAll book.now c room.now × (number_of c.choice j ≡ number) }
-    ensures { (c : CertValue) → HasAll book.now c room.now → number_of c.choice j ≡ number → IfOk result (λ single. single ≡ single_at book.now c j) }
+    ensures { (c : CertValue) → HasAll book.now c room.now → number_of c.choice j ≡ number
+        → IfOk result (λ single. single ≡ single_at book.now c j) }
 {
     let choice = choice_in(alloc, book, Due::PartChoice(j), room)?;
     let value = number_in(book, Due::Value, room);
@@ -104,8 +106,10 @@ fn price(book: &BidBook, value: i128, without: &[u16], j: u16, i: u16) -> i128
 fn choice_in(alloc: Global, book: &BidBook, due: Due, room: &[i128]) -> Result<Choice, AllocError>
     requires due { IsDue (bidders_of book.now) due }
     requires room { length room.now ≡ room_size (bidders_of book.now) (states book.now) }
-    requires choice { (ns : List ℕ) × (segment (bidders_of book.now) (states book.now) due room.now ≡ as_numbers ns) × IsChoice (bidders_of book.now) ns }
-    ensures { (ns : List ℕ) → segment (bidders_of book.now) (states book.now) due room.now ≡ as_numbers ns → IfOk result (λ choice. choice ≡ ns) }
+    requires choice { (ns : List ℕ) × (segment (bidders_of book.now) (states book.now) due room.now ≡ as_numbers ns)
+        × IsChoice (bidders_of book.now) ns }
+    ensures { (ns : List ℕ) → segment (bidders_of book.now) (states book.now) due room.now ≡ as_numbers ns
+        → IfOk result (λ choice. choice ≡ ns) }
 {
     let mut numbers = [0u16; BIDDER_ROOM];
     let bidders = book.bidders();

@@ -17,7 +17,8 @@ use cert_pieces::Due;
 
 /// How many members the row has that is read, behind a line.
 pub(crate) fn members_behind(at: &Moment) -> usize
-    ensures { (c : CertValue) (next : Due) → IsAt at.now c → IsNext at.now.book.now c at.now.due next → HasMembers (bidders_of at.now.book.now) (states at.now.book.now) c next result at.now.room.now }
+    ensures { (c : CertValue) (next : Due) → IsAt at.now c → IsNext at.now.book.now c at.now.due next
+        → HasMembers (bidders_of at.now.book.now) (states at.now.book.now) c next result at.now.room.now }
 {
     match at.due {
         Due::Version => at.members,
@@ -42,7 +43,8 @@ pub(crate) fn members_behind(at: &Moment) -> usize
 /// The totals of the rows, behind a line.
 pub(crate) fn totals_behind(at: &Moment) -> RowTotals
     requires { IsPossible at.now }
-    ensures { (c : CertValue) (next : Due) → IsAt at.now c → IsNext at.now.book.now c at.now.due next → HasTotals c next result }
+    ensures { (c : CertValue) (next : Due) → IsAt at.now c → IsNext at.now.book.now c at.now.due next
+        → HasTotals c next result }
 {
     match at.due {
         Due::Version => *at.totals,
@@ -68,7 +70,8 @@ pub(crate) fn totals_behind(at: &Moment) -> RowTotals
 fn one_more(at: &Moment, left: u16) -> RowTotals
     requires due { at.now.due ≡ Due.Multipliers left }
     requires some { IsPossible at.now }
-    ensures { (c : CertValue) (next : Due) → IsAt at.now c → IsNext at.now.book.now c at.now.due next → HasTotals c next result }
+    ensures { (c : CertValue) (next : Due) → IsAt at.now c → IsNext at.now.book.now c at.now.due next
+        → HasTotals c next result }
 {
     let pair = numbers_in(at.book, Due::Multipliers(left), at.room);
     let mut numbers = [0u16; BIDDER_ROOM];

@@ -84,7 +84,10 @@ fn part_rules(at: &Moment, offers: &Offers, j: u16, k: u16) -> Finding
 fn keeps_top(at: &Moment, j: u16, k: u16) -> bool
     requires due { at.now.due ≡ Due.Entries (Table.Part j) k }
     requires some { IsPossible at.now }
-    ensures { (c : CertValue) → IsAt at.now c → IsTrue result ↔ (k ≡ 0 → entry_at (part_of c.withouts j).table 0 (full at.now.book.now) ≤ℤ value_of (market_of at.now.book.now) (part_of c.withouts j).choice) }
+    ensures { (c : CertValue) → IsAt at.now c
+        → IsTrue result
+        ↔ (k ≡ 0 → entry_at (part_of c.withouts j).table 0 (full at.now.book.now)
+        ≤ℤ value_of (market_of at.now.book.now) (part_of c.withouts j).choice) }
 {
     if k != 0 {
         return true;

@@ -35,8 +35,10 @@ pub(crate) fn put_choice(book: &BidBook, due: Due, room: &[i128], to: &mut [u16]
     requires due { IsDue (bidders_of book.now) due }
     requires room { length room.now ≡ room_size (bidders_of book.now) (states book.now) }
     requires to { bidders_of book.now ≤ length to.old }
-    requires choice { (ns : List ℕ) × (segment (bidders_of book.now) (states book.now) due room.now ≡ as_numbers ns) × IsChoice (bidders_of book.now) ns }
-    ensures choice { (ns : List ℕ) → segment (bidders_of book.now) (states book.now) due room.now ≡ as_numbers ns → take (bidders_of book.now) to.new ≡ ns }
+    requires choice { (ns : List ℕ) × (segment (bidders_of book.now) (states book.now) due room.now ≡ as_numbers ns)
+        × IsChoice (bidders_of book.now) ns }
+    ensures choice { (ns : List ℕ) → segment (bidders_of book.now) (states book.now) due room.now ≡ as_numbers ns
+        → take (bidders_of book.now) to.new ≡ ns }
     ensures to { length to.new ≡ length to.old }
 {
     let bidders = book.bidders();

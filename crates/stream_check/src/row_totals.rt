@@ -32,9 +32,11 @@ pub(crate) fn no_totals() -> RowTotals
 
 /// The totals with one row more.
 pub(crate) fn with_row(totals: RowTotals, members: &[u16], first: i128, second: i128) -> RowTotals
-    requires some { (c : CertValue) × (b n : ℕ) × AreTotals c n totals × AreRows b c.rows × (n < length c.rows) × (length c.rows ≤ 10) }
+    requires some { (c : CertValue) × (b n : ℕ) × AreTotals c n totals × AreRows b c.rows × (n < length c.rows)
+        × (length c.rows ≤ 10) }
     requires range { (unsigned_abs first < 2 ^ 120) × (unsigned_abs second < 2 ^ 120) }
-    ensures { (c : CertValue) (n : ℕ) → AreTotals c n totals → (row_of c.rows (suc n)).members ≡ members.now → (row_of c.rows (suc n)).first ≡ first → (row_of c.rows (suc n)).second ≡ second
+    ensures { (c : CertValue) (n : ℕ) → AreTotals c n totals → (row_of c.rows (suc n)).members ≡ members.now
+        → (row_of c.rows (suc n)).first ≡ first → (row_of c.rows (suc n)).second ≡ second
         → AreTotals c (suc n) result }
 {
     let mut now = totals;

@@ -91,7 +91,8 @@ fn last_tests(at: &Moment, claim: &Claim) -> Option<Failure>
     requires some { IsPossible at.now }
     requires claim { IsClaimOf at.now claim.now }
     requires rows { HasAllRows at.now }
-    ensures { (c : CertValue) → IsAt at.now c → HoldsTo at.now.book.now (weight_of at.now.weights.now) c 7 0 → IsJudged at.now.book.now (weight_of at.now.weights.now) c 9 0 result }
+    ensures { (c : CertValue) → IsAt at.now c → HoldsTo at.now.book.now (weight_of at.now.weights.now) c 7 0
+        → IsJudged at.now.book.now (weight_of at.now.weights.now) c 9 0 result }
 {
     at.book.kept();
     let first = Column {
@@ -109,7 +110,8 @@ fn nearest(at: &Moment, claim: &Claim) -> Option<u64>
     requires some { IsPossible at.now }
     requires claim { IsClaimOf at.now claim.now }
     requires rows { HasAllRows at.now }
-    ensures { (c : CertValue) → IsAt at.now c → IsFirstFailing (Asks at.now.book.now (weight_of at.now.weights.now) c 8) result }
+    ensures { (c : CertValue) → IsAt at.now c
+        → IsFirstFailing (Asks at.now.book.now (weight_of at.now.weights.now) c 8) result }
 {
     at.book.kept();
     let mut values = [0i128; BIDDER_ROOM];

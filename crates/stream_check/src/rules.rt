@@ -19,7 +19,8 @@ pub(crate) fn rules_fault(offers: &Offers, table: Table, k: u16, room: &[i128]) 
     requires room { length room.now ≡ room_size (bidders_of offers.now.book.now) (states offers.now.book.now) }
     requires lines { (t : List (List ℤ)) × HasTwoLines offers.now.book.now table k room.now t }
     ensures { (t : List (List ℤ)) → HasTwoLines offers.now.book.now table k room.now t
-        → IsFirstBetween (RulesAt offers.now t) ((k - 1) * states offers.now.book.now) (lines_tested (bidders_of offers.now.book.now) k * states offers.now.book.now) result }
+        → IsFirstBetween (RulesAt offers.now t) ((k - 1) * states offers.now.book.now)
+        (lines_tested (bidders_of offers.now.book.now) k * states offers.now.book.now) result }
 {
     match before_fault(offers, table, k, room) {
         Some(place) => Some(place),
@@ -34,7 +35,8 @@ fn before_fault(offers: &Offers, table: Table, k: u16, room: &[i128]) -> Option<
     requires room { length room.now ≡ room_size (bidders_of offers.now.book.now) (states offers.now.book.now) }
     requires lines { (t : List (List ℤ)) × HasTwoLines offers.now.book.now table k room.now t }
     ensures { (t : List (List ℤ)) → HasTwoLines offers.now.book.now table k room.now t
-        → IsFirstBetween (RulesAt offers.now t) ((k - 1) * states offers.now.book.now) (k * states offers.now.book.now) result }
+        → IsFirstBetween (RulesAt offers.now t) ((k - 1) * states offers.now.book.now)
+        (k * states offers.now.book.now) result }
 {
     if k == 0 {
         return None;
@@ -52,7 +54,8 @@ fn own_fault(offers: &Offers, table: Table, k: u16, room: &[i128]) -> Option<u64
     requires room { length room.now ≡ room_size (bidders_of offers.now.book.now) (states offers.now.book.now) }
     requires lines { (t : List (List ℤ)) × HasTwoLines offers.now.book.now table k room.now t }
     ensures { (t : List (List ℤ)) → HasTwoLines offers.now.book.now table k room.now t
-        → IsFirstBetween (RulesAt offers.now t) (k * states offers.now.book.now) (lines_tested (bidders_of offers.now.book.now) k * states offers.now.book.now) result }
+        → IsFirstBetween (RulesAt offers.now t) (k * states offers.now.book.now)
+        (lines_tested (bidders_of offers.now.book.now) k * states offers.now.book.now) result }
 {
     if (k as usize) < offers.book.bidders() {
         return None;

@@ -39,7 +39,9 @@ fn head_failure(at: &Moment, offers: &Offers, k: u16) -> Option<Failure>
     requires due { at.now.due ≡ Due.Entries Table.Head k }
     requires some { IsPossible at.now }
     requires offers { ArePlain at.now offers.now 0 }
-    ensures { (c : CertValue) → IsAt at.now c → IsJudged at.now.book.now (weight_of at.now.weights.now) c 3 (lines_tested (bidders_of at.now.book.now) k * states at.now.book.now) result }
+    ensures { (c : CertValue) → IsAt at.now c
+        → IsJudged at.now.book.now (weight_of at.now.weights.now) c 3
+        (lines_tested (bidders_of at.now.book.now) k * states at.now.book.now) result }
 {
     of_test(3, rules_fault(offers, Table::Head, k, at.room))
 }
@@ -49,7 +51,10 @@ fn head_failure(at: &Moment, offers: &Offers, k: u16) -> Option<Failure>
 fn keeps_value(at: &Moment, k: u16) -> bool
     requires due { at.now.due ≡ Due.Entries Table.Head k }
     requires some { IsPossible at.now }
-    ensures { (c : CertValue) → IsAt at.now c → IsTrue result ↔ Asks at.now.book.now (weight_of at.now.weights.now) c 3 ((bidders_of at.now.book.now + 1) * states at.now.book.now + k) }
+    ensures { (c : CertValue) → IsAt at.now c
+        → IsTrue result
+        ↔ Asks at.now.book.now (weight_of at.now.weights.now) c 3
+        ((bidders_of at.now.book.now + 1) * states at.now.book.now + k) }
 {
     let value = number_in(at.book, Due::Value, at.room);
     let line = numbers_in(at.book, Due::Entries(Table::Head, k), at.room);
@@ -80,8 +85,10 @@ pub(crate) fn behind_entries(
     requires late { IsSmallPlace late }
     requires test { test < 10 }
     ensures inside { k < bidders_of book.now → (result.failed ≡ failed) × (result.late ≡ late) }
-    ensures whole { k ≡ bidders_of book.now → (w : ℕ → ℕ) (c : CertValue) (n : ℕ) → IsJudged book.now w c test ((bidders_of book.now + 1) * states book.now) failed
-        → IsLate book.now w c test ((bidders_of book.now + 1) * states book.now) n late → ((q : ℕ) → (bidders_of book.now + 1) * states book.now + n ≤ q → Asks book.now w c test q)
+    ensures whole { k ≡ bidders_of book.now → (w : ℕ → ℕ) (c : CertValue) (n : ℕ)
+        → IsJudged book.now w c test ((bidders_of book.now + 1) * states book.now) failed
+        → IsLate book.now w c test ((bidders_of book.now + 1) * states book.now) n late
+        → ((q : ℕ) → (bidders_of book.now + 1) * states book.now + n ≤ q → Asks book.now w c test q)
         → IsJudged book.now w c (test + 1) 0 result.failed }
     ensures none { k ≡ bidders_of book.now → result.late ≡ None }
 {

@@ -5,7 +5,9 @@ use Rattle.auction_model.specs.Place.{states_of, place_of, left_at}
 
 -- where more is left of each category, the line has at least as much
 abbrev pub Grows : List ℕ → List ℤ → Type 0
-Grows supply line = (s t : ℕ) → s < states_of supply → t < states_of supply → IsTrue (is_within (left_at supply s) (left_at supply t)) → slice_index_or line s (pos 0) ≤ℤ slice_index_or line t (pos 0)
+Grows supply line = (s t : ℕ) → s < states_of supply → t < states_of supply
+    → IsTrue (is_within (left_at supply s) (left_at supply t))
+    → slice_index_or line s (pos 0) ≤ℤ slice_index_or line t (pos 0)
 
 -- lots that fit have the place `first`, and neither line falls: then the corners tell whether a bid for them changes anything
 pub record HasCorners (supply lots : List ℕ) (first : ℕ) (line below : List ℤ) : Type 0 where

@@ -12,4 +12,5 @@ IsRightLine book k line = IsLine (menu_of book) (net_of book) book.supply k line
 -- at each place the greatest value of a choice of the bidders up to k
 pub record IsLeftLine (book : Book) (k : ℕ) (line : List ℤ) : Type 0 where
   pub places : length line ≡ states_of book.supply
-  pub exact : (s : ℕ) → s < states_of book.supply → IsLeftEntry book k (left_at book.supply s) (slice_index_or line s (pos 0))
+  pub exact : (s : ℕ) → s < states_of book.supply
+      → IsLeftEntry book k (left_at book.supply s) (slice_index_or line s (pos 0))

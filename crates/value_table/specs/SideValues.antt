@@ -53,5 +53,7 @@ pub record AreFullSides (sides : SidesValue) : Type 0 where
 
 -- the greatest sum of a number of one line and the number of the other as far from its end
 pub record IsGreatestPair (states : ℕ) (before after : List ℤ) (most : ℤ) : Type 0 where
-  pub reached : (s : ℕ) × (s < states) × (most ≡ slice_index_or before s (pos 0) +ℤ slice_index_or after (states - 1 - s) (pos 0))
-  pub bound : (s : ℕ) → s < states → (slice_index_or before s (pos 0) +ℤ slice_index_or after (states - 1 - s) (pos 0)) ≤ℤ most
+  pub reached : (s : ℕ) × (s < states)
+      × (most ≡ slice_index_or before s (pos 0) +ℤ slice_index_or after (states - 1 - s) (pos 0))
+  pub bound : (s : ℕ) → s < states
+      → (slice_index_or before s (pos 0) +ℤ slice_index_or after (states - 1 - s) (pos 0)) ≤ℤ most

@@ -21,7 +21,10 @@ pub trait Amount: Copy {
         requires places { length line.old ≡ length below.now }
         requires worth { unsigned_abs (number worth) ≤ most }
         requires sizes { (s : ℕ) → unsigned_abs (slice_index_or (map number below.now) s (pos 0)) ≤ most }
-        ensures { (s : ℕ) → s < length line.old → slice_index_or (map number line.new) s (pos 0) ≡ int_max (slice_index_or (map number line.old) s (pos 0)) (number worth +ℤ slice_index_or (map number below.now) s (pos 0)) };
+        ensures { (s : ℕ) → s < length line.old
+            → slice_index_or (map number line.new) s (pos 0)
+            ≡ int_max (slice_index_or (map number line.old) s (pos 0))
+            (number worth +ℤ slice_index_or (map number below.now) s (pos 0)) };
 }
 
 impl Amount for i128 {

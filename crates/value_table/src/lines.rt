@@ -17,7 +17,9 @@ fn idle_line(alloc: Global, below: &[i128], idle: i128) -> Result<Vec<i128>, All
     requires idle { unsigned_abs idle ≤ 2 ^ 120 }
     requires sizes { (s : ℕ) → unsigned_abs (slice_index_or below.now s (pos 0)) ≤ 2 ^ 120 }
     ensures places { IfOk result (λ v. length v.items ≡ length below.now) }
-    ensures entries { IfOk result (λ v. (s : ℕ) → s < length below.now → slice_index_or v.items s (pos 0) ≡ slice_index_or below.now s (pos 0) +ℤ idle) }
+    ensures entries { IfOk result
+        (λ v. (s : ℕ) → s < length below.now
+        → slice_index_or v.items s (pos 0) ≡ slice_index_or below.now s (pos 0) +ℤ idle) }
 {
     let mut line = Vec::from_slice(alloc, below)?;
     add_to_each(&mut line, idle);
@@ -27,7 +29,8 @@ fn idle_line(alloc: Global, below: &[i128], idle: i128) -> Result<Vec<i128>, All
 fn add_to_each(line: &mut [i128], idle: i128)
     requires idle { unsigned_abs idle ≤ 2 ^ 120 }
     requires sizes { (s : ℕ) → unsigned_abs (slice_index_or line.old s (pos 0)) ≤ 2 ^ 120 }
-    ensures { (s : ℕ) → s < length line.old → slice_index_or line.new s (pos 0) ≡ slice_index_or line.old s (pos 0) +ℤ idle }
+    ensures { (s : ℕ) → s < length line.old
+        → slice_index_or line.new s (pos 0) ≡ slice_index_or line.old s (pos 0) +ℤ idle }
 {
     for place in 0..line.len() {
         line[place] += idle;
@@ -39,7 +42,8 @@ fn count_bids(lowering: &Lowering, j: u16, line: &mut [i128], below: &[i128])
     requires bidder { (0 < j) × (j ≤ length lowering.now.book.now.bidders) }
     requires below { IsCountedLine lowering.now j below.now }
     requires places { length line.old ≡ length below.now }
-    requires line { (s : ℕ) → s < length below.now → slice_index_or line.old s (pos 0) ≡ slice_index_or below.now s (pos 0) +ℤ counted lowering.now j 0 }
+    requires line { (s : ℕ) → s < length below.now
+        → slice_index_or line.old s (pos 0) ≡ slice_index_or below.now s (pos 0) +ℤ counted lowering.now j 0 }
     ensures { IsCountedLine lowering.now (j - 1) line.new }
 {
     for i in 0..lowering.bids(j) {

@@ -53,7 +53,8 @@ fn count_narrow_bids(lowering: &Lowering, j: u16, line: &mut [i64], below: &[i64
     requires narrow { IsNarrow lowering.now }
     requires below { IsCountedLine lowering.now j below.now }
     requires places { length line.old ≡ length below.now }
-    requires line { (s : ℕ) → s < length below.now → slice_index_or line.old s (pos 0) ≡ slice_index_or below.now s (pos 0) +ℤ counted lowering.now j 0 }
+    requires line { (s : ℕ) → s < length below.now
+        → slice_index_or line.old s (pos 0) ≡ slice_index_or below.now s (pos 0) +ℤ counted lowering.now j 0 }
     ensures { IsCountedLine lowering.now (j - 1) line.new }
 {
     for i in 0..lowering.bids(j) {
@@ -78,7 +79,8 @@ pub fn count_narrow(
     requires narrow { IsNarrow lowering.now }
     requires below { IsCountedLine lowering.now j below.now }
     requires places { length line.now ≡ length below.now }
-    requires line { (s : ℕ) → s < length below.now → slice_index_or line.now s (pos 0) ≡ slice_index_or below.now s (pos 0) +ℤ counted lowering.now j 0 }
+    requires line { (s : ℕ) → s < length below.now
+        → slice_index_or line.now s (pos 0) ≡ slice_index_or below.now s (pos 0) +ℤ counted lowering.now j 0 }
     ensures { IfOk result (λ v. IsCountedLine lowering.now (j - 1) v.items) }
 {
     let _states = lowering.book.supply().states();

@@ -28,7 +28,10 @@ fn raise_one<A: Amount>(
     requires line { length line.old ≡ states_of supply.now }
     requires worth { unsigned_abs (A.number worth) ≤ A.most }
     requires sizes { (s : ℕ) → unsigned_abs (slice_index_or (map A.number below.now) s (pos 0)) ≤ A.most }
-    ensures { (s : ℕ) → s < length line.old → slice_index_or (map A.number line.new) s (pos 0) ≡ raised supply.now (map A.number below.now) counts.now (A.number worth) s (slice_index_or (map A.number line.old) s (pos 0)) }
+    ensures { (s : ℕ) → s < length line.old
+        → slice_index_or (map A.number line.new) s (pos 0)
+        ≡ raised supply.now (map A.number below.now) counts.now (A.number worth) s
+        (slice_index_or (map A.number line.old) s (pos 0)) }
 {
     let from = counts[0] as usize * widths[0];
     let all = line.len();
@@ -54,7 +57,10 @@ fn raise_two<A: Amount>(
     requires line { length line.old ≡ states_of supply.now }
     requires worth { unsigned_abs (A.number worth) ≤ A.most }
     requires sizes { (s : ℕ) → unsigned_abs (slice_index_or (map A.number below.now) s (pos 0)) ≤ A.most }
-    ensures { (s : ℕ) → s < length line.old → slice_index_or (map A.number line.new) s (pos 0) ≡ raised supply.now (map A.number below.now) counts.now (A.number worth) s (slice_index_or (map A.number line.old) s (pos 0)) }
+    ensures { (s : ℕ) → s < length line.old
+        → slice_index_or (map A.number line.new) s (pos 0)
+        ≡ raised supply.now (map A.number below.now) counts.now (A.number worth) s
+        (slice_index_or (map A.number line.old) s (pos 0)) }
 {
     let width = widths[0];
     let count = counts[0] as usize;
@@ -79,7 +85,9 @@ fn is_reached<A: Amount>(first: usize, line: &[A], below: &[A], worth: A) -> boo
     requires first { first < length line.now }
     requires worth { unsigned_abs (A.number worth) ≤ A.most }
     requires sizes { (s : ℕ) → unsigned_abs (slice_index_or (map A.number below.now) s (pos 0)) ≤ A.most }
-    ensures { IsTrue result ↔ (A.number worth +ℤ slice_index_or (map A.number below.now) (length line.now - 1 - first) (pos 0)) ≤ℤ slice_index_or (map A.number line.now) first (pos 0) }
+    ensures { IsTrue result
+        ↔ (A.number worth +ℤ slice_index_or (map A.number below.now) (length line.now - 1 - first) (pos 0))
+        ≤ℤ slice_index_or (map A.number line.now) first (pos 0) }
 {
     A::is_at_least(line[first], worth, below[line.len() - 1 - first])
 }
@@ -103,7 +111,10 @@ fn raise_block<A: Amount>(
     requires line { length line.old ≡ states_of supply.now }
     requires worth { unsigned_abs (A.number worth) ≤ A.most }
     requires sizes { (s : ℕ) → unsigned_abs (slice_index_or (map A.number below.now) s (pos 0)) ≤ A.most }
-    ensures { (s : ℕ) → s < length line.old → slice_index_or (map A.number line.new) s (pos 0) ≡ raised supply.now (map A.number below.now) counts.now (A.number worth) s (slice_index_or (map A.number line.old) s (pos 0)) }
+    ensures { (s : ℕ) → s < length line.old
+        → slice_index_or (map A.number line.new) s (pos 0)
+        ≡ raised supply.now (map A.number below.now) counts.now (A.number worth) s
+        (slice_index_or (map A.number line.old) s (pos 0)) }
 {
     if is_reached(first, line, below, worth) {
         return;
@@ -142,7 +153,10 @@ pub fn add_bid<A: Amount>(supply: &Supply, line: &mut [A], below: &[A], lots: &P
     requires line_grows { Grows supply.now (map A.number line.old) }
     requires worth { unsigned_abs (A.number worth) ≤ A.most }
     requires sizes { (s : ℕ) → unsigned_abs (slice_index_or (map A.number below.now) s (pos 0)) ≤ A.most }
-    ensures { (s : ℕ) → s < length line.old → slice_index_or (map A.number line.new) s (pos 0) ≡ raised supply.now (map A.number below.now) lots.now (A.number worth) s (slice_index_or (map A.number line.old) s (pos 0)) }
+    ensures { (s : ℕ) → s < length line.old
+        → slice_index_or (map A.number line.new) s (pos 0)
+        ≡ raised supply.now (map A.number below.now) lots.now (A.number worth) s
+        (slice_index_or (map A.number line.old) s (pos 0)) }
 {
     let _states = supply.states();
     let radices = supply.counts();

@@ -67,9 +67,11 @@ fn plain_line(
     requires bidder { (0 < j) × (j ≤ length book.now.bidders) }
     requires count { length surplus.now ≡ length book.now.bidders }
     requires zeros { (k : ℕ) → slice_index_or surplus.now k (pos 0) ≡ pos 0 }
-    requires below { IsLine (in_order turned (menu_of book.now)) (worths_in_order turned (length book.now.bidders) (net_of book.now)) book.now.supply j below.now }
+    requires below { IsLine (in_order turned (menu_of book.now))
+        (worths_in_order turned (length book.now.bidders) (net_of book.now)) book.now.supply j below.now }
     requires places { length line.old ≡ states_of book.now.supply }
-    ensures { IsLine (in_order turned (menu_of book.now)) (worths_in_order turned (length book.now.bidders) (net_of book.now)) book.now.supply (j - 1) line.new }
+    ensures { IsLine (in_order turned (menu_of book.now))
+        (worths_in_order turned (length book.now.bidders) (net_of book.now)) book.now.supply (j - 1) line.new }
 {
     book.kept();
     let lowering = Lowering {

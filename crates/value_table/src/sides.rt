@@ -33,7 +33,8 @@ impl Model for Sides {
 
     ghost view = { λ s. record { bidders = s.bidders; states = s.states; right = s.right; left = s.left } };
 
-    ghost invariant = { λ s. AreFullSides (record { bidders = s.bidders; states = s.states; right = s.right; left = s.left }) };
+    ghost invariant = { λ s. AreFullSides
+        (record { bidders = s.bidders; states = s.states; right = s.right; left = s.left }) };
 }
 
 impl Sides {
@@ -74,7 +75,8 @@ impl Sides {
     /// The greatest value of a choice that doesn't use bidder `j`.
     pub fn without(&self, j: u16) -> i128
         requires { (0 < j) × (j ≤ self.now.bidders) }
-        ensures most { (book : Book) → AreSidesOf book self.now → IsGreatestValue (allowed_without (market_of book) j) (value_of (market_of book)) result }
+        ensures most { (book : Book) → AreSidesOf book self.now
+            → IsGreatestValue (allowed_without (market_of book) j) (value_of (market_of book)) result }
         ensures size { unsigned_abs result ≤ 2 ^ 121 }
     {
         let before = self.left.line(self.bidders - (j as usize - 1));

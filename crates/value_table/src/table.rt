@@ -116,7 +116,8 @@ impl ValueTable {
     /// The greatest sum: the entry of line 0 at the place of the whole supply.
     pub fn most(&self, book: &BidBook) -> i128
         requires { IsTableOf book.now self.now }
-        ensures most { IsEntry (menu_without book.now self.now.skip) (lowered self.now.den (net_of book.now) self.now.surplus) 0 book.now.supply result }
+        ensures most { IsEntry (menu_without book.now self.now.skip)
+            (lowered self.now.den (net_of book.now) self.now.surplus) 0 book.now.supply result }
         ensures size { unsigned_abs result ≤ 2 ^ 120 }
     {
         let lowering = Lowering {
@@ -132,7 +133,9 @@ impl ValueTable {
     /// The first choice of the greatest sum. The book is the one that the table was built from.
     pub fn trace(&self, alloc: Global, book: &BidBook) -> Result<Choice, AllocError>
         requires { IsTableOf book.now self.now }
-        ensures { IfOk result (λ c. IsFirstGreatest (fits_after (menu_without book.now self.now.skip) 0 book.now.supply) (sum_after (lowered self.now.den (net_of book.now) self.now.surplus) 0) c) }
+        ensures { IfOk result
+            (λ c. IsFirstGreatest (fits_after (menu_without book.now self.now.skip) 0 book.now.supply)
+            (sum_after (lowered self.now.den (net_of book.now) self.now.surplus) 0) c) }
     {
         let lowering = Lowering {
             book,

@@ -19,9 +19,14 @@ fn sum_at(lowering: &Lowering, j: u16, i: u16, place: usize, below: &[i128]) -> 
     requires bid { (0 < i) × (i ≤ (counted_bids lowering.now).bids j) }
     requires place { place < states_of lowering.now.book.now.supply }
     requires below { IsCountedLine lowering.now j below.now }
-    ensures fits { IfSome result (λ _. IsTrue (is_within ((counted_bids lowering.now).lots j i) (left_at lowering.now.book.now.supply place))) }
-    ensures sum { IfSome result (λ z. z ≡ sum_with (counted_bids lowering.now) (counted lowering.now) lowering.now.book.now.supply j place below.now i) }
-    ensures exceeds { IfNone result (IsFalse (is_within ((counted_bids lowering.now).lots j i) (left_at lowering.now.book.now.supply place))) }
+    ensures fits { IfSome result
+        (λ _. IsTrue (is_within ((counted_bids lowering.now).lots j i)
+        (left_at lowering.now.book.now.supply place))) }
+    ensures sum { IfSome result
+        (λ z. z ≡ sum_with (counted_bids lowering.now)
+        (counted lowering.now) lowering.now.book.now.supply j place below.now i) }
+    ensures exceeds { IfNone result
+        (IsFalse (is_within ((counted_bids lowering.now).lots j i) (left_at lowering.now.book.now.supply place))) }
 {
     let bid = lowering.bid(j, i);
     match lowering.book.supply().minus(place, &bid.package) {
@@ -34,10 +39,12 @@ fn sum_at(lowering: &Lowering, j: u16, i: u16, place: usize, below: &[i128]) -> 
 pub fn first_number(lowering: &Lowering, j: u16, place: usize, here: i128, below: &[i128]) -> u16
     requires bidder { (0 < j) × (j ≤ length lowering.now.book.now.bidders) }
     requires place { place < states_of lowering.now.book.now.supply }
-    requires here { IsEntry (counted_bids lowering.now) (counted lowering.now) (j - 1) (left_at lowering.now.book.now.supply place) here }
+    requires here { IsEntry (counted_bids lowering.now) (counted lowering.now) (j - 1)
+        (left_at lowering.now.book.now.supply place) here }
     requires below { IsCountedLine lowering.now j below.now }
     ensures known { result ≤ (counted_bids lowering.now).bids j }
-    ensures first { IsFirstNumber (counted_bids lowering.now) (counted lowering.now) lowering.now.book.now.supply j place here below.now result }
+    ensures first { IsFirstNumber (counted_bids lowering.now)
+        (counted lowering.now) lowering.now.book.now.supply j place here below.now result }
 {
     for i in 0..lowering.bids(j) {
         if let Some(sum) = sum_at(lowering, j, i + 1, place, below) {
@@ -54,8 +61,11 @@ fn place_left(lowering: &Lowering, j: u16, i: u16, place: usize) -> usize
     requires bidder { (0 < j) × (j ≤ length lowering.now.book.now.bidders) }
     requires bid { i ≤ (counted_bids lowering.now).bids j }
     requires place { place < states_of lowering.now.book.now.supply }
-    requires fits { IsTrue (is_within ((counted_bids lowering.now).lots j i) (left_at lowering.now.book.now.supply place)) }
-    ensures place { result ≡ place_of lowering.now.book.now.supply (less (left_at lowering.now.book.now.supply place) ((counted_bids lowering.now).lots j i)) }
+    requires fits { IsTrue
+        (is_within ((counted_bids lowering.now).lots j i) (left_at lowering.now.book.now.supply place)) }
+    ensures place { result
+        ≡ place_of lowering.now.book.now.supply
+        (less (left_at lowering.now.book.now.supply place) ((counted_bids lowering.now).lots j i)) }
     ensures below { result < states_of lowering.now.book.now.supply }
 {
     let _bids = lowering.bids(j);
@@ -65,7 +75,9 @@ fn place_left(lowering: &Lowering, j: u16, i: u16, place: usize) -> usize
 /// The first of the greatest choices, from the lines of its table.
 pub fn trace_lines(alloc: Global, lowering: &Lowering, lines: &Grid) -> Result<Numbers, AllocError>
     requires { IsCountedTable lowering.now lines.now }
-    ensures { IfOk result (λ v. IsFirstGreatest (fits_after (counted_bids lowering.now) 0 lowering.now.book.now.supply) (sum_after (counted lowering.now) 0) v) }
+    ensures { IfOk result
+        (λ v. IsFirstGreatest (fits_after (counted_bids lowering.now) 0 lowering.now.book.now.supply)
+        (sum_after (counted lowering.now) 0) v) }
 {
     let mut numbers = Numbers::new(alloc);
     let mut place = lowering.book.supply().states() - 1;

@@ -13,7 +13,9 @@ use Rattle.weights_file.specs.declared.read.Stage.TheVariants.{Start, Listing, E
 -- the line of the bidder behind those that have a weight
 abbrev pub Weighs : Book → List ℕ → List ℕ → Stage → Type 0
 Weighs book given line next =
-    (length given < length book.bidders) × ((w : ℕ) × IsWeight w × (line ≡ (weight_line (bidder_of book (length given + 1)).name w).0) × (next ≡ Listing (given ++ w ∷ [])))
+    (length given < length book.bidders)
+    × ((w : ℕ) × IsWeight w × (line ≡ (weight_line (bidder_of book (length given + 1)).name w).0)
+    × (next ≡ Listing (given ++ w ∷ [])))
 
 -- the last line, behind those of all bidders
 abbrev pub Ends : Book → List ℕ → List ℕ → Stage → Type 0

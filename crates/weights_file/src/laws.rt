@@ -8,10 +8,12 @@ ghost use Rattle.weights_file.specs.WeightsForm.{WeightsSay};
 /// Bytes say one thing of the weights of a book: a list, or where the first faulty line begins. So each answer of `read_weights` comes
 /// exactly where the bytes say so.
 pub fn one_weighing()
-    ensures { (book : Book) (bytes : List ℕ) (x y : Said (List ℕ) ⊥) → IsBook book → WeightsSay book bytes x → WeightsSay book bytes y → x ≡ y }
+    ensures { (book : Book) (bytes : List ℕ) (x y : Said (List ℕ) ⊥) → IsBook book → WeightsSay book bytes x
+        → WeightsSay book bytes y → x ≡ y }
 {}
 
 /// The weights of a book have one text.
 pub fn one_text()
-    ensures { (book : Book) (bytes other weights : List ℕ) → WeightsSay book bytes (stated weights) → WeightsSay book other (stated weights) → bytes ≡ other }
+    ensures { (book : Book) (bytes other weights : List ℕ) → WeightsSay book bytes (stated weights)
+        → WeightsSay book other (stated weights) → bytes ≡ other }
 {}

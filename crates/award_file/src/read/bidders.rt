@@ -27,7 +27,9 @@ const MOST_HOLDING: u16 = MOST_COUNT as u16;
 
 /// Reads the bidders that a table states, where there are so many categories.
 pub fn read_bidders(alloc: Global, table: &Table, categories: usize) -> Result<Entrants, AwardStop>
-    ensures ok { IfOk result (λ bidders. (walk.bidders_fault categories (table_view table.now) ≡ None) × (bidders ≡ walk.entrants_of categories (table_view table.now))) }
+    ensures ok { IfOk result
+        (λ bidders. (walk.bidders_fault categories (table_view table.now) ≡ None)
+        × (bidders ≡ walk.entrants_of categories (table_view table.now))) }
     ensures err { IfErr result (IsFault (walk.bidders_fault categories (table_view table.now))) }
 {
     let Some(tables) = list_at(table, "bidder") else {
@@ -38,9 +40,13 @@ pub fn read_bidders(alloc: Global, table: &Table, categories: usize) -> Result<E
 
 /// Reads the bidders of these tables.
 fn read_listed(alloc: Global, tables: &[Value], categories: usize) -> Result<Entrants, AwardStop>
-    ensures ok { IfOk result (λ bidders. (walk.tables_fault (walk.bidder_fault categories) walk.name_or_none [] (stated.tables_of (items_view tables.now)) ≡ None)
+    ensures ok { IfOk result
+        (λ bidders. (walk.tables_fault (walk.bidder_fault categories) walk.name_or_none []
+        (stated.tables_of (items_view tables.now)) ≡ None)
         × (bidders ≡ map (walk.entrant_of categories) (stated.tables_of (items_view tables.now)))) }
-    ensures err { IfErr result (IsFault (walk.tables_fault (walk.bidder_fault categories) walk.name_or_none [] (stated.tables_of (items_view tables.now)))) }
+    ensures err { IfErr result
+        (IsFault (walk.tables_fault (walk.bidder_fault categories) walk.name_or_none []
+        (stated.tables_of (items_view tables.now)))) }
 {
     let mut bidders = Entrants::new(alloc);
     'tables: for element in tables {

@@ -33,7 +33,9 @@ pub struct Category {
 
 /// Reads the categories that a table states.
 pub fn read_categories(alloc: Global, table: &Table) -> Result<Vec<Category>, AwardStop>
-    ensures ok { IfOk result (λ v. (walk.categories_fault (table_view table.now) ≡ None) × (category_values v.items ≡ walk.categories_of (table_view table.now))) }
+    ensures ok { IfOk result
+        (λ v. (walk.categories_fault (table_view table.now) ≡ None)
+        × (category_values v.items ≡ walk.categories_of (table_view table.now))) }
     ensures err { IfErr result (IsFault (walk.categories_fault (table_view table.now))) }
 {
     let Some(tables) = list_at(table, "category") else {
@@ -47,9 +49,13 @@ pub fn read_categories(alloc: Global, table: &Table) -> Result<Vec<Category>, Aw
 
 /// Reads the categories of these tables.
 fn read_listed(alloc: Global, tables: &[Value]) -> Result<Vec<Category>, AwardStop>
-    ensures ok { IfOk result (λ v. (walk.tables_fault walk.category_fault walk.name_or_none [] (stated.tables_of (items_view tables.now)) ≡ None)
+    ensures ok { IfOk result
+        (λ v. (walk.tables_fault walk.category_fault walk.name_or_none []
+        (stated.tables_of (items_view tables.now)) ≡ None)
         × (category_values v.items ≡ map walk.category_of (stated.tables_of (items_view tables.now)))) }
-    ensures err { IfErr result (IsFault (walk.tables_fault walk.category_fault walk.name_or_none [] (stated.tables_of (items_view tables.now)))) }
+    ensures err { IfErr result
+        (IsFault (walk.tables_fault walk.category_fault walk.name_or_none []
+        (stated.tables_of (items_view tables.now)))) }
 {
     let mut categories = Vec::new(alloc);
     'tables: for element in tables {
@@ -64,7 +70,9 @@ fn read_listed(alloc: Global, tables: &[Value]) -> Result<Vec<Category>, AwardSt
 
 /// Reads the category of a table behind these.
 fn read_category(alloc: Global, table: &Table, before: &[Category]) -> Result<Category, AwardStop>
-    ensures ok { IfOk result (λ c. (walk.category_fault (category_names before.now) (table_view table.now) ≡ None) × (category_value c ≡ walk.category_of (table_view table.now))) }
+    ensures ok { IfOk result
+        (λ c. (walk.category_fault (category_names before.now) (table_view table.now) ≡ None)
+        × (category_value c ≡ walk.category_of (table_view table.now))) }
     ensures err { IfErr result (IsFault (walk.category_fault (category_names before.now) (table_view table.now))) }
 {
     let Some(name) = name_at(table) else {

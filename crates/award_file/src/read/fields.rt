@@ -130,7 +130,8 @@ fn are_tables(values: &[Value]) -> bool
 
 /// The elements of a value that is an array of tables.
 fn tables_of(value: &Value) -> Option<&[Value]>
-    ensures tables { option_map (λ values. spec.tables_of (items_view values.now)) result ≡ spec.list_of (Some (view value.now)) }
+    ensures tables { option_map (λ values. spec.tables_of (items_view values.now)) result
+        ≡ spec.list_of (Some (view value.now)) }
     ensures count { IfSome result (λ values. length (spec.tables_of (items_view values.now)) ≡ length values.now) }
 {
     let Value::Array(array) = value else {
@@ -141,7 +142,8 @@ fn tables_of(value: &Value) -> Option<&[Value]>
 
 /// The tables that a key states: none where it is missing. `None` where it states anything else than an array of tables.
 pub fn list_at<'a>(table: &'a Table, key: &str) -> Option<&'a [Value]>
-    ensures tables { option_map (λ values. spec.tables_of (items_view values.now)) result ≡ spec.list_of (get_member key.now (table_view table.now)) }
+    ensures tables { option_map (λ values. spec.tables_of (items_view values.now)) result
+        ≡ spec.list_of (get_member key.now (table_view table.now)) }
     ensures count { IfSome result (λ values. length (spec.tables_of (items_view values.now)) ≡ length values.now) }
 {
     match value_at(table, key) {

@@ -26,7 +26,9 @@ const MOST_PERMILLE: u64 = 1000;
 
 /// Reads the steps that a table states, each an excess and its permille.
 pub fn read_steps(alloc: Global, table: &Table) -> Result<Vec<(u64, u64)>, AwardStop>
-    ensures ok { IfOk result (λ v. (walk.steps_fault (table_view table.now) ≡ None) × (v.items ≡ walk.thresholds_of (table_view table.now))) }
+    ensures ok { IfOk result
+        (λ v. (walk.steps_fault (table_view table.now) ≡ None)
+        × (v.items ≡ walk.thresholds_of (table_view table.now))) }
     ensures err { IfErr result (IsFault (walk.steps_fault (table_view table.now))) }
 {
     let Some(tables) = list_at(table, "step") else {
@@ -40,9 +42,13 @@ pub fn read_steps(alloc: Global, table: &Table) -> Result<Vec<(u64, u64)>, Award
 
 /// Reads the steps of these tables.
 fn read_listed(alloc: Global, tables: &[Value]) -> Result<Vec<(u64, u64)>, AwardStop>
-    ensures ok { IfOk result (λ v. (walk.tables_fault walk.step_fault walk.excess_or_none [] (stated.tables_of (items_view tables.now)) ≡ None)
+    ensures ok { IfOk result
+        (λ v. (walk.tables_fault walk.step_fault walk.excess_or_none [] (stated.tables_of (items_view tables.now))
+        ≡ None)
         × (v.items ≡ map walk.threshold_of (stated.tables_of (items_view tables.now)))) }
-    ensures err { IfErr result (IsFault (walk.tables_fault walk.step_fault walk.excess_or_none [] (stated.tables_of (items_view tables.now)))) }
+    ensures err { IfErr result
+        (IsFault (walk.tables_fault walk.step_fault walk.excess_or_none []
+        (stated.tables_of (items_view tables.now)))) }
 {
     let mut steps = Vec::new(alloc);
     'tables: for element in tables {
@@ -57,7 +63,9 @@ fn read_listed(alloc: Global, tables: &[Value]) -> Result<Vec<(u64, u64)>, Award
 
 /// Reads the step of a table behind these.
 fn read_step(table: &Table, before: &[(u64, u64)]) -> Result<(u64, u64), AwardStop>
-    ensures ok { IfOk result (λ s. (walk.step_fault (excesses before.now) (table_view table.now) ≡ None) × (s ≡ walk.threshold_of (table_view table.now))) }
+    ensures ok { IfOk result
+        (λ s. (walk.step_fault (excesses before.now) (table_view table.now) ≡ None)
+        × (s ≡ walk.threshold_of (table_view table.now))) }
     ensures err { IfErr result (IsFault (walk.step_fault (excesses before.now) (table_view table.now))) }
 {
     let Some(excess) = number_at(table, "excess", 1, MOST_EXCESS) else {

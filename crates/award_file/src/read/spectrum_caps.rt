@@ -32,7 +32,9 @@ pub fn read_caps(
     table: &Table,
     categories: usize,
 ) -> Result<Vec<SpectrumCap>, AwardStop>
-    ensures ok { IfOk result (λ v. (walk.caps_fault categories (table_view table.now) ≡ None) × (cap_values v.items ≡ walk.caps_of categories (table_view table.now))) }
+    ensures ok { IfOk result
+        (λ v. (walk.caps_fault categories (table_view table.now) ≡ None)
+        × (cap_values v.items ≡ walk.caps_of categories (table_view table.now))) }
     ensures err { IfErr result (IsFault (walk.caps_fault categories (table_view table.now))) }
 {
     let Some(tables) = list_at(table, "cap") else {
@@ -50,9 +52,13 @@ fn read_listed(
     tables: &[Value],
     categories: usize,
 ) -> Result<Vec<SpectrumCap>, AwardStop>
-    ensures ok { IfOk result (λ v. (walk.tables_fault (walk.cap_fault categories) walk.limit_or_none [] (stated.tables_of (items_view tables.now)) ≡ None)
+    ensures ok { IfOk result
+        (λ v. (walk.tables_fault (walk.cap_fault categories) walk.limit_or_none []
+        (stated.tables_of (items_view tables.now)) ≡ None)
         × (cap_values v.items ≡ map (walk.cap_of categories) (stated.tables_of (items_view tables.now)))) }
-    ensures err { IfErr result (IsFault (walk.tables_fault (walk.cap_fault categories) walk.limit_or_none [] (stated.tables_of (items_view tables.now)))) }
+    ensures err { IfErr result
+        (IsFault (walk.tables_fault (walk.cap_fault categories) walk.limit_or_none []
+        (stated.tables_of (items_view tables.now)))) }
 {
     let mut caps = Vec::new(alloc);
     'tables: for element in tables {
@@ -72,7 +78,9 @@ fn read_cap(
     categories: usize,
     before: &[SpectrumCap],
 ) -> Result<SpectrumCap, AwardStop>
-    ensures ok { IfOk result (λ c. (walk.cap_fault categories (limits before.now) (table_view table.now) ≡ None) × (cap_value c ≡ walk.cap_of categories (table_view table.now))) }
+    ensures ok { IfOk result
+        (λ c. (walk.cap_fault categories (limits before.now) (table_view table.now) ≡ None)
+        × (cap_value c ≡ walk.cap_of categories (table_view table.now))) }
     ensures err { IfErr result (IsFault (walk.cap_fault categories (limits before.now) (table_view table.now))) }
 {
     let Some(weights) = weights_at(alloc, table, categories)? else {

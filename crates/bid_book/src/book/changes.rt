@@ -32,7 +32,8 @@ pub fn put_entry(bids: &mut Vec<Entry>, entry: Entry) -> Result<(), AllocError>
     requires order { InPackageOrder (map bid_value bids.old.items) }
     ensures put { OnOk result (IsPutIn bids.old.items entry bids.new.items) }
     ensures unchanged { OnErr result (bids.new.items ≡ bids.old.items) }
-    ensures known { (i : ℕ) → i < length bids.old.items → (slice_index_or (map bid_value bids.old.items) i no_bid).lots ≡ entry.bid.package → IsOk result }
+    ensures known { (i : ℕ) → i < length bids.old.items
+        → (slice_index_or (map bid_value bids.old.items) i no_bid).lots ≡ entry.bid.package → IsOk result }
 {
     let place = place_of(bids, &entry.bid.package);
     if is_there(bids, place, &entry.bid.package) {
@@ -67,7 +68,8 @@ fn place_of(bids: &[Entry], wanted: &Package) -> usize
 
 /// Whether the bid at a place is for the package.
 fn is_there(bids: &[Entry], place: usize, wanted: &Package) -> bool
-    ensures { IsTrue result ↔ ((place < length bids.now) × ((slice_index_or (map bid_value bids.now) place no_bid).lots ≡ wanted.now)) }
+    ensures { IsTrue result
+        ↔ ((place < length bids.now) × ((slice_index_or (map bid_value bids.now) place no_bid).lots ≡ wanted.now)) }
 {
     if place >= bids.len() {
         return false;

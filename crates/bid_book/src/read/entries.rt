@@ -26,7 +26,8 @@ pub fn take_entry(
 ) -> Result<(), LineStop>
     ensures ok { OnOk result (Adds book.old book.new line.now × (last_excess 0 book.new.bidders ≡ None)) }
     ensures form { result ≡ Err LineStop.Form → (new : Book) → Adds book.old new line.now → ⊥ }
-    ensures limit { (kind : LimitKind) (count : ℕ) → result ≡ Err (LineStop.Limit kind count) → (new : Book) × Adds book.old new line.now × (last_excess 0 new.bidders ≡ Some (kind, count)) }
+    ensures limit { (kind : LimitKind) (count : ℕ) → result ≡ Err (LineStop.Limit kind count)
+        → (new : Book) × Adds book.old new line.now × (last_excess 0 new.bidders ≡ Some (kind, count)) }
 {
     match line.strip_prefix(b"bidder ") {
         Some(name) => {
@@ -89,7 +90,8 @@ fn take_bid(
 ) -> Result<(), LineStop>
     ensures ok { OnOk result (AddsBid book.old book.new line.now × (last_excess 0 book.new.bidders ≡ None)) }
     ensures form { result ≡ Err LineStop.Form → (new : Book) → AddsBid book.old new line.now → ⊥ }
-    ensures limit { (kind : LimitKind) (count : ℕ) → result ≡ Err (LineStop.Limit kind count) → (new : Book) × AddsBid book.old new line.now × (last_excess 0 new.bidders ≡ Some (kind, count)) }
+    ensures limit { (kind : LimitKind) (count : ℕ) → result ≡ Err (LineStop.Limit kind count)
+        → (new : Book) × AddsBid book.old new line.now × (last_excess 0 new.bidders ≡ Some (kind, count)) }
 {
     if book.bidders() == 0 {
         return Err(LineStop::Form);
@@ -106,8 +108,12 @@ fn take_bid(
 /// The bid that a line states, with its net amount, where it may follow the bids of the last bidder.
 fn read_bid(alloc: Global, book: &BidBook, line: &[u8]) -> Result<Entry, LineStop>
     requires { 0 < length book.now.bidders }
-    ensures ok { IfOk result (λ entry. (line.now ≡ (bid_line 0 (bid_value entry)).0) × IsBid book.now.supply book.now.reserves (lots_before book.now) (bid_value entry) × HasNet book.now.reserves entry) }
-    ensures form { result ≡ Err LineStop.Form → (bid : BookBid) → line.now ≡ (bid_line 0 bid).0 → IsBid book.now.supply book.now.reserves (lots_before book.now) bid → ⊥ }
+    ensures ok { IfOk result
+        (λ entry. (line.now ≡ (bid_line 0 (bid_value entry)).0)
+        × IsBid book.now.supply book.now.reserves (lots_before book.now) (bid_value entry)
+        × HasNet book.now.reserves entry) }
+    ensures form { result ≡ Err LineStop.Form → (bid : BookBid) → line.now ≡ (bid_line 0 bid).0
+        → IsBid book.now.supply book.now.reserves (lots_before book.now) bid → ⊥ }
     ensures no_limit { (kind : LimitKind) (count : ℕ) → result ≡ Err (LineStop.Limit kind count) → ⊥ }
 {
     let supply = book.supply();
@@ -133,8 +139,11 @@ fn read_bid(alloc: Global, book: &BidBook, line: &[u8]) -> Result<Entry, LineSto
 
 /// The package of these counts, where it has the categories of the supply and fits in it.
 fn read_package(alloc: Global, supply: &Supply, numbers: &[u64]) -> Result<Package, LineStop>
-    ensures ok { IfOk result (λ p. (p ≡ numbers.now) × (length numbers.now ≡ length supply.now) × IsTrue (is_within numbers.now supply.now)) }
-    ensures form { result ≡ Err LineStop.Form → length numbers.now ≡ length supply.now → IsTrue (is_within numbers.now supply.now) → ⊥ }
+    ensures ok { IfOk result
+        (λ p. (p ≡ numbers.now) × (length numbers.now ≡ length supply.now)
+        × IsTrue (is_within numbers.now supply.now)) }
+    ensures form { result ≡ Err LineStop.Form → length numbers.now ≡ length supply.now
+        → IsTrue (is_within numbers.now supply.now) → ⊥ }
     ensures no_limit { (kind : LimitKind) (count : ℕ) → result ≡ Err (LineStop.Limit kind count) → ⊥ }
 {
     if numbers.len() != supply.categories() {

@@ -16,7 +16,8 @@ use text_lines::{field_len, read_at_most};
 /// The numbers of a line behind its word, each behind one space.
 pub fn numbers_behind(alloc: Global, word: &[u8], line: &[u8]) -> Result<Vec<u64>, LineStop>
     ensures ok { IfOk result (λ v. AreNumbers v.items × (line.now ≡ word.now ++ decimals_text v.items)) }
-    ensures form { result ≡ Err LineStop.Form → (ns : List ℕ) → AreNumbers ns → line.now ≡ word.now ++ decimals_text ns → ⊥ }
+    ensures form { result ≡ Err LineStop.Form → (ns : List ℕ) → AreNumbers ns
+        → line.now ≡ word.now ++ decimals_text ns → ⊥ }
     ensures no_limit { (kind : LimitKind) (count : ℕ) → result ≡ Err (LineStop.Limit kind count) → ⊥ }
 {
     match line.strip_prefix(word) {

@@ -28,9 +28,11 @@ pub fn take_first(line: &[u8]) -> Result<Stage, LineStop>
 
 /// Takes the line of the supply.
 pub fn take_supply(alloc: Global, line: &[u8]) -> Result<Supply, LineStop>
-    ensures ok { IfOk result (λ supply. Step Stage.Headed line.now (Stage.Supplied supply) × (excess (Stage.Supplied supply) ≡ None)) }
+    ensures ok { IfOk result
+        (λ supply. Step Stage.Headed line.now (Stage.Supplied supply) × (excess (Stage.Supplied supply) ≡ None)) }
     ensures form { result ≡ Err LineStop.Form → (t : Stage) → Step Stage.Headed line.now t → ⊥ }
-    ensures limit { (kind : LimitKind) (count : ℕ) → result ≡ Err (LineStop.Limit kind count) → (t : Stage) × Step Stage.Headed line.now t × (excess t ≡ Some (kind, count)) }
+    ensures limit { (kind : LimitKind) (count : ℕ) → result ≡ Err (LineStop.Limit kind count)
+        → (t : Stage) × Step Stage.Headed line.now t × (excess t ≡ Some (kind, count)) }
 {
     let counts = read_supply(alloc, line)?;
     let supply = Supply::new(alloc, &counts)?;
@@ -40,7 +42,8 @@ pub fn take_supply(alloc: Global, line: &[u8]) -> Result<Supply, LineStop>
 /// The counts that the line of a supply states, whatever the limits.
 fn read_supply(alloc: Global, line: &[u8]) -> Result<Vec<u16>, LineStop>
     ensures ok { IfOk result (λ v. (line.now ≡ (supply_line v.items).0) × IsOffer v.items) }
-    ensures form { result ≡ Err LineStop.Form → (supply : List ℕ) → line.now ≡ (supply_line supply).0 → IsOffer supply → ⊥ }
+    ensures form { result ≡ Err LineStop.Form → (supply : List ℕ) → line.now ≡ (supply_line supply).0 → IsOffer supply
+        → ⊥ }
     ensures no_limit { (kind : LimitKind) (count : ℕ) → result ≡ Err (LineStop.Limit kind count) → ⊥ }
 {
     let numbers = numbers_behind(alloc, b"supply", line)?;
@@ -55,7 +58,9 @@ fn read_supply(alloc: Global, line: &[u8]) -> Result<Vec<u16>, LineStop>
 
 /// Takes the line of the reserves, and opens the book.
 pub fn take_reserve(alloc: Global, supply: Supply, line: &[u8]) -> Result<BidBook, LineStop>
-    ensures ok { IfOk result (λ book. Step (Stage.Supplied supply) line.now (Stage.Listing book) × (excess (Stage.Listing book) ≡ None)) }
+    ensures ok { IfOk result
+        (λ book. Step (Stage.Supplied supply) line.now (Stage.Listing book)
+        × (excess (Stage.Listing book) ≡ None)) }
     ensures form { result ≡ Err LineStop.Form → (t : Stage) → Step (Stage.Supplied supply) line.now t → ⊥ }
     ensures no_limit { (kind : LimitKind) (count : ℕ) → result ≡ Err (LineStop.Limit kind count) → ⊥ }
 {

@@ -70,7 +70,9 @@ pub(crate) fn bytes_of<'a>(files: &'a [CleanFile], name: &str) -> &'a [u8]
 // Adds the whole piece to the file of this name, and fails exactly where it is longer than the room.
 fn add_bytes(files: &mut [CleanFile], name: &str, piece: &[u8]) -> Result<(), Failed>
     requires { IsTrue ((clean_folder files.old).knows name.now) }
-    ensures added { OnOk result (Becomes name.now (clean_folder files.old) (clean_folder files.new) (Some (unwrap_or ((clean_folder files.old).file name.now) [] ++ piece.now)) (length piece.now)) }
+    ensures added { OnOk result
+        (Becomes name.now (clean_folder files.old) (clean_folder files.new)
+        (Some (unwrap_or ((clean_folder files.old).file name.now) [] ++ piece.now)) (length piece.now)) }
     ensures full { OnErr result (IsSomeAnd ((clean_folder files.old).room name.now) (λ r. r < length piece.now)) }
     ensures kept { OnErr result (KeepsFiles (clean_folder files.old) (clean_folder files.new)) }
     ensures loads { (clean_folder files.new).load_faults ≡ (clean_folder files.old).load_faults }
@@ -85,12 +87,15 @@ fn add_bytes(files: &mut [CleanFile], name: &str, piece: &[u8]) -> Result<(), Fa
 // Adds a piece as `add_bytes` does, and counts a failed append where that fails.
 pub(crate) fn add_to(files: &mut [CleanFile], name: &str, piece: &[u8]) -> Result<(), Failed>
     requires { IsTrue ((clean_folder files.old).knows name.now) }
-    ensures added { OnOk result (Becomes name.now (clean_folder files.old) (clean_folder files.new) (Some (unwrap_or ((clean_folder files.old).file name.now) [] ++ piece.now)) (length piece.now)) }
+    ensures added { OnOk result
+        (Becomes name.now (clean_folder files.old) (clean_folder files.new)
+        (Some (unwrap_or ((clean_folder files.old).file name.now) [] ++ piece.now)) (length piece.now)) }
     ensures quiet { OnOk result ((clean_folder files.new).append_faults ≡ (clean_folder files.old).append_faults) }
     ensures full { OnErr result (IsSomeAnd ((clean_folder files.old).room name.now) (λ r. r < length piece.now)) }
     ensures kept { OnErr result (KeepsFiles (clean_folder files.old) (clean_folder files.new)) }
     ensures count { CountsOnly name.now (clean_folder files.old).append_faults (clean_folder files.new).append_faults }
-    ensures rose { OnErr result (Rose ((clean_folder files.old).append_faults name.now) ((clean_folder files.new).append_faults name.now)) }
+    ensures rose { OnErr result
+        (Rose ((clean_folder files.old).append_faults name.now) ((clean_folder files.new).append_faults name.now)) }
     ensures loads { (clean_folder files.new).load_faults ≡ (clean_folder files.old).load_faults }
 {
     if add_bytes(files, name, piece).is_err() {

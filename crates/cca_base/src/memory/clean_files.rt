@@ -28,10 +28,20 @@ impl CleanFiles {
     ///
     /// `AllocError` for want of memory.
     pub fn new(alloc: Global, names: &[String], room: u64) -> Result<CleanFiles, AllocError>
-        ensures names { IfOk result (λ files. (name : List ℕ) → (⟦<CleanFiles as Files>⟧.folder files).knows name ≡ list_any (λ s. bytes_eq (string_bytes s) name) names.now) }
-        ensures empty { IfOk result (λ files. (name : List ℕ) → IsTrue ((⟦<CleanFiles as Files>⟧.folder files).knows name) → (⟦<CleanFiles as Files>⟧.folder files).file name ≡ Some []) }
-        ensures room { IfOk result (λ files. (name : List ℕ) → IsTrue ((⟦<CleanFiles as Files>⟧.folder files).knows name) → (⟦<CleanFiles as Files>⟧.folder files).room name ≡ Some room) }
-        ensures faults { IfOk result (λ files. (name : List ℕ) → ((⟦<CleanFiles as Files>⟧.folder files).load_faults name ≡ 0) × ((⟦<CleanFiles as Files>⟧.folder files).append_faults name ≡ 0)) }
+        ensures names { IfOk result
+            (λ files. (name : List ℕ)
+            → (⟦<CleanFiles as Files>⟧.folder files).knows name
+            ≡ list_any (λ s. bytes_eq (string_bytes s) name) names.now) }
+        ensures empty { IfOk result
+            (λ files. (name : List ℕ) → IsTrue ((⟦<CleanFiles as Files>⟧.folder files).knows name)
+            → (⟦<CleanFiles as Files>⟧.folder files).file name ≡ Some []) }
+        ensures room { IfOk result
+            (λ files. (name : List ℕ) → IsTrue ((⟦<CleanFiles as Files>⟧.folder files).knows name)
+            → (⟦<CleanFiles as Files>⟧.folder files).room name ≡ Some room) }
+        ensures faults { IfOk result
+            (λ files. (name : List ℕ)
+            → ((⟦<CleanFiles as Files>⟧.folder files).load_faults name ≡ 0)
+            × ((⟦<CleanFiles as Files>⟧.folder files).append_faults name ≡ 0)) }
     {
         Ok(CleanFiles {
             files: new_files(alloc, names, room as usize)?,
@@ -55,13 +65,15 @@ impl Files for CleanFiles {
         requires place { at < 2 ^ 40 }
         ensures within { IfOk result (λ n. n ≤ length buf.old) }
         ensures bytes { IfOk result (λ n.
-            (file : List ℕ) → (clean_folder self.old.files.items).file name.now ≡ Some file → Stands file at (length buf.old) buf.new n) }
+            (file : List ℕ) → (clean_folder self.old.files.items).file name.now ≡ Some file
+            → Stands file at (length buf.old) buf.new n) }
 
         // No load fails, nothing changes, and as many bytes come as the buffer takes.
         ensures loaded { IsOk result }
         ensures same { self.new ≡ self.old }
         ensures exact { IfOk result (λ n.
-            (file : List ℕ) → (clean_folder self.old.files.items).file name.now ≡ Some file → n ≡ min (length buf.old) (length file - at)) }
+            (file : List ℕ) → (clean_folder self.old.files.items).file name.now ≡ Some file
+            → n ≡ min (length buf.old) (length file - at)) }
     {
         let bite = buf.len();
         Ok(copy_from(bytes_of(&self.files, name), at as usize, bite, buf))
@@ -69,15 +81,25 @@ impl Files for CleanFiles {
 
     fn append(&mut self, name: &str, piece: &[u8]) -> Result<usize, Failed>
         requires { IsTrue ((clean_folder self.old.files.items).knows name.now) }
-        ensures kept { OnErr result (KeepsFiles (clean_folder self.old.files.items) (clean_folder self.new.files.items)) }
-        ensures count { CountsOnly name.now (clean_folder self.old.files.items).append_faults (clean_folder self.new.files.items).append_faults }
-        ensures loads { (clean_folder self.new.files.items).load_faults ≡ (clean_folder self.old.files.items).load_faults }
-        ensures quiet { OnOk result ((clean_folder self.new.files.items).append_faults ≡ (clean_folder self.old.files.items).append_faults) }
-        ensures cause { OnErr result (Rose ((clean_folder self.old.files.items).append_faults name.now) ((clean_folder self.new.files.items).append_faults name.now)) }
+        ensures kept { OnErr result
+            (KeepsFiles (clean_folder self.old.files.items) (clean_folder self.new.files.items)) }
+        ensures count { CountsOnly name.now (clean_folder self.old.files.items).append_faults
+            (clean_folder self.new.files.items).append_faults }
+        ensures loads { (clean_folder self.new.files.items).load_faults
+            ≡ (clean_folder self.old.files.items).load_faults }
+        ensures quiet { OnOk result
+            ((clean_folder self.new.files.items).append_faults
+            ≡ (clean_folder self.old.files.items).append_faults) }
+        ensures cause { OnErr result
+            (Rose ((clean_folder self.old.files.items).append_faults name.now)
+            ((clean_folder self.new.files.items).append_faults name.now)) }
 
         // The whole piece, or a failure exactly where it is longer than the room.
-        ensures bytes { IfOk result (λ n. Appends name.now (clean_folder self.old.files.items) (clean_folder self.new.files.items) piece.now n × (n ≡ length piece.now)) }
-        ensures full { OnErr result (IsSomeAnd ((clean_folder self.old.files.items).room name.now) (λ r. r < length piece.now)) }
+        ensures bytes { IfOk result
+            (λ n. Appends name.now (clean_folder self.old.files.items)
+            (clean_folder self.new.files.items) piece.now n × (n ≡ length piece.now)) }
+        ensures full { OnErr result
+            (IsSomeAnd ((clean_folder self.old.files.items).room name.now) (λ r. r < length piece.now)) }
     {
         add_to(&mut self.files, name, piece)?;
         Ok(piece.len())
@@ -91,5 +113,6 @@ impl Files for CleanFiles {
         append_faults_of(&self.files, name)
     }
 
-    ghost roomy = { λ f name told some. roomy_by clean_seen (λ e has. refl) (entry_of clean_seen f.files.items name) some };
+    ghost roomy = { λ f name told some. roomy_by clean_seen (λ e has. refl)
+        (entry_of clean_seen f.files.items name) some };
 }

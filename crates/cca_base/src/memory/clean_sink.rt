@@ -49,7 +49,8 @@ impl Sink for CleanSink {
         ensures cause { OnErr result (Rose self.old.faults self.new.faults) }
 
         // The whole piece, or a failure exactly where it is longer than the room.
-        ensures bytes { IfOk result (λ n. (n ≡ length piece.now) × (held self.new.buffer ≡ held self.old.buffer ++ piece.now)) }
+        ensures bytes { IfOk result
+            (λ n. (n ≡ length piece.now) × (held self.new.buffer ≡ held self.old.buffer ++ piece.now)) }
         ensures room { OnOk result (left self.new.buffer + length piece.now ≡ left self.old.buffer) }
         ensures full { OnErr result (left self.old.buffer < length piece.now) }
         ensures kept { OnErr result (self.new.buffer ≡ self.old.buffer) }

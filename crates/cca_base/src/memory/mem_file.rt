@@ -91,7 +91,9 @@ fn add_bytes(
     piece: &[u8],
 ) -> Result<(), AllocError>
     requires { IsTrue ((mem_folder files.old).knows name.now) }
-    ensures added { OnOk result (Becomes name.now (mem_folder files.old) (mem_folder files.new) (Some (unwrap_or ((mem_folder files.old).file name.now) [] ++ piece.now)) (length piece.now)) }
+    ensures added { OnOk result
+        (Becomes name.now (mem_folder files.old) (mem_folder files.new)
+        (Some (unwrap_or ((mem_folder files.old).file name.now) [] ++ piece.now)) (length piece.now)) }
     ensures kept { OnErr result (KeepsFiles (mem_folder files.old) (mem_folder files.new)) }
     ensures appends { (mem_folder files.new).append_faults ≡ (mem_folder files.old).append_faults }
     ensures loads { (mem_folder files.new).load_faults ≡ (mem_folder files.old).load_faults }
@@ -110,11 +112,14 @@ pub(crate) fn add_to(
     piece: &[u8],
 ) -> Result<(), Failed>
     requires { IsTrue ((mem_folder files.old).knows name.now) }
-    ensures added { OnOk result (Becomes name.now (mem_folder files.old) (mem_folder files.new) (Some (unwrap_or ((mem_folder files.old).file name.now) [] ++ piece.now)) (length piece.now)) }
+    ensures added { OnOk result
+        (Becomes name.now (mem_folder files.old) (mem_folder files.new)
+        (Some (unwrap_or ((mem_folder files.old).file name.now) [] ++ piece.now)) (length piece.now)) }
     ensures quiet { OnOk result ((mem_folder files.new).append_faults ≡ (mem_folder files.old).append_faults) }
     ensures kept { OnErr result (KeepsFiles (mem_folder files.old) (mem_folder files.new)) }
     ensures count { CountsOnly name.now (mem_folder files.old).append_faults (mem_folder files.new).append_faults }
-    ensures rose { OnErr result (Rose ((mem_folder files.old).append_faults name.now) ((mem_folder files.new).append_faults name.now)) }
+    ensures rose { OnErr result
+        (Rose ((mem_folder files.old).append_faults name.now) ((mem_folder files.new).append_faults name.now)) }
     ensures loads { (mem_folder files.new).load_faults ≡ (mem_folder files.old).load_faults }
 {
     if add_bytes(alloc, files, name, piece).is_err() {

@@ -43,10 +43,17 @@ impl MemFiles {
     /// `AllocError` for want of memory.
     pub fn new(alloc: Global, names: &[String], bite: usize) -> Result<MemFiles, AllocError>
         requires { 0 < bite }
-        ensures names { IfOk result (λ files. (name : List ℕ) → (mem_folder files.files.items).knows name ≡ list_any (λ s. bytes_eq (string_bytes s) name) names.now) }
-        ensures once { IfOk result (λ files. AllPairs (λ f g. string_bytes f.name ≢ string_bytes g.name) files.files.items) }
+        ensures names { IfOk result
+            (λ files. (name : List ℕ)
+            → (mem_folder files.files.items).knows name
+            ≡ list_any (λ s. bytes_eq (string_bytes s) name) names.now) }
+        ensures once { IfOk result
+            (λ files. AllPairs (λ f g. string_bytes f.name ≢ string_bytes g.name) files.files.items) }
         ensures missing { IfOk result (λ files. (name : List ℕ) → (mem_folder files.files.items).file name ≡ None) }
-        ensures faults { IfOk result (λ files. (name : List ℕ) → ((mem_folder files.files.items).load_faults name ≡ 0) × ((mem_folder files.files.items).append_faults name ≡ 0)) }
+        ensures faults { IfOk result
+            (λ files. (name : List ℕ)
+            → ((mem_folder files.files.items).load_faults name ≡ 0)
+            × ((mem_folder files.files.items).append_faults name ≡ 0)) }
         ensures counts { IfOk result (λ files. (files.loads ≡ 0) × (files.appends ≡ 0) × (files.refused ≡ 0)) }
         ensures none_fails { IfOk result (λ files. (files.fail_loads.items ≡ []) × (files.fail_appends.items ≡ [])) }
         ensures bite { IfOk result (λ files. files.bite ≡ bite) }
@@ -70,10 +77,15 @@ impl MemFiles {
     /// `AllocError` for want of memory. Nothing has changed then.
     pub fn set(&mut self, name: &str, bytes: &[u8]) -> Result<(), AllocError>
         requires { IsTrue ((mem_folder self.old.files.items).knows name.now) }
-        ensures file { OnOk result (Becomes name.now (mem_folder self.old.files.items) (mem_folder self.new.files.items) (Some bytes.now) 0) }
-        ensures faults { ((mem_folder self.new.files.items).load_faults ≡ (mem_folder self.old.files.items).load_faults) × ((mem_folder self.new.files.items).append_faults ≡ (mem_folder self.old.files.items).append_faults) }
-        ensures counts { (self.new.loads ≡ self.old.loads) × (self.new.appends ≡ self.old.appends) × (self.new.refused ≡ self.old.refused) }
-        ensures same { (self.new.fail_loads.items ≡ self.old.fail_loads.items) × (self.new.fail_appends.items ≡ self.old.fail_appends.items) × (self.new.bite ≡ self.old.bite) }
+        ensures file { OnOk result
+            (Becomes name.now (mem_folder self.old.files.items) (mem_folder self.new.files.items)
+            (Some bytes.now) 0) }
+        ensures faults { ((mem_folder self.new.files.items).load_faults ≡ (mem_folder self.old.files.items).load_faults)
+            × ((mem_folder self.new.files.items).append_faults ≡ (mem_folder self.old.files.items).append_faults) }
+        ensures counts { (self.new.loads ≡ self.old.loads) × (self.new.appends ≡ self.old.appends)
+            × (self.new.refused ≡ self.old.refused) }
+        ensures same { (self.new.fail_loads.items ≡ self.old.fail_loads.items)
+            × (self.new.fail_appends.items ≡ self.old.fail_appends.items) × (self.new.bite ≡ self.old.bite) }
         ensures kept { OnErr result (self.new ≡ self.old) }
     {
         let bytes = Vec::from_slice(self.alloc, bytes)?;
@@ -99,21 +111,30 @@ impl Files for MemFiles {
         ensures within { IfOk result (λ n. n ≤ length buf.old) }
         ensures kept { KeepsFiles (mem_folder self.old.files.items) (mem_folder self.new.files.items) }
         ensures bytes { IfOk result (λ n.
-            (file : List ℕ) → (mem_folder self.old.files.items).file name.now ≡ Some file → Stands file at (length buf.old) buf.new n) }
-        ensures count { CountsOnly name.now (mem_folder self.old.files.items).load_faults (mem_folder self.new.files.items).load_faults }
-        ensures appends { (mem_folder self.new.files.items).append_faults ≡ (mem_folder self.old.files.items).append_faults }
-        ensures cause { OnErr result (Rose ((mem_folder self.old.files.items).load_faults name.now) ((mem_folder self.new.files.items).load_faults name.now)) }
+            (file : List ℕ) → (mem_folder self.old.files.items).file name.now ≡ Some file
+            → Stands file at (length buf.old) buf.new n) }
+        ensures count { CountsOnly name.now (mem_folder self.old.files.items).load_faults
+            (mem_folder self.new.files.items).load_faults }
+        ensures appends { (mem_folder self.new.files.items).append_faults
+            ≡ (mem_folder self.old.files.items).append_faults }
+        ensures cause { OnErr result
+            (Rose ((mem_folder self.old.files.items).load_faults name.now)
+            ((mem_folder self.new.files.items).load_faults name.now)) }
         ensures missing { (mem_folder self.old.files.items).file name.now ≡ None → IsErr result }
 
         // Exactly where the number of the load is listed or the file is missing, and exactly so many bytes.
         ensures number { self.new.loads ≡ min (self.old.loads + 1) (2 ^ 64 - 1) }
         ensures listed { Contains self.old.fail_loads.items self.new.loads → IsErr result }
-        ensures failed { IsErr result → Contains self.old.fail_loads.items self.new.loads ⊎ ((mem_folder self.old.files.items).file name.now ≡ None) }
+        ensures failed { IsErr result
+            → Contains self.old.fail_loads.items self.new.loads
+            ⊎ ((mem_folder self.old.files.items).file name.now ≡ None) }
         ensures exact { IfOk result (λ n.
-            (file : List ℕ) → (mem_folder self.old.files.items).file name.now ≡ Some file → n ≡ min (min self.old.bite (length buf.old)) (length file - at)) }
+            (file : List ℕ) → (mem_folder self.old.files.items).file name.now ≡ Some file
+            → n ≡ min (min self.old.bite (length buf.old)) (length file - at)) }
         ensures quiet { OnOk result (self.new.files.items ≡ self.old.files.items) }
         ensures others { (self.new.appends ≡ self.old.appends) × (self.new.refused ≡ self.old.refused) }
-        ensures same { (self.new.fail_loads.items ≡ self.old.fail_loads.items) × (self.new.fail_appends.items ≡ self.old.fail_appends.items) × (self.new.bite ≡ self.old.bite) }
+        ensures same { (self.new.fail_loads.items ≡ self.old.fail_loads.items)
+            × (self.new.fail_appends.items ≡ self.old.fail_appends.items) × (self.new.bite ≡ self.old.bite) }
     {
         self.loads = self.loads.saturating_add(1);
         if self.fail_loads.contains(&self.loads) {
@@ -132,20 +153,29 @@ impl Files for MemFiles {
     fn append(&mut self, name: &str, piece: &[u8]) -> Result<usize, Failed>
         requires { IsTrue ((mem_folder self.old.files.items).knows name.now) }
         ensures some { IfOk result (λ n. (n ≤ length piece.now) × (0 < length piece.now → 0 < n)) }
-        ensures bytes { IfOk result (λ n. Appends name.now (mem_folder self.old.files.items) (mem_folder self.new.files.items) piece.now n × (n ≡ min (length piece.now) self.old.bite)) }
+        ensures bytes { IfOk result
+            (λ n. Appends name.now (mem_folder self.old.files.items) (mem_folder self.new.files.items) piece.now n
+            × (n ≡ min (length piece.now) self.old.bite)) }
         ensures kept { OnErr result (KeepsFiles (mem_folder self.old.files.items) (mem_folder self.new.files.items)) }
-        ensures count { CountsOnly name.now (mem_folder self.old.files.items).append_faults (mem_folder self.new.files.items).append_faults }
+        ensures count { CountsOnly name.now (mem_folder self.old.files.items).append_faults
+            (mem_folder self.new.files.items).append_faults }
         ensures loads { (mem_folder self.new.files.items).load_faults ≡ (mem_folder self.old.files.items).load_faults }
-        ensures cause { OnErr result (Rose ((mem_folder self.old.files.items).append_faults name.now) ((mem_folder self.new.files.items).append_faults name.now)) }
+        ensures cause { OnErr result
+            (Rose ((mem_folder self.old.files.items).append_faults name.now)
+            ((mem_folder self.new.files.items).append_faults name.now)) }
 
         // Exactly where the number of the append is listed or `refused` rose.
         ensures number { self.new.appends ≡ min (self.old.appends + 1) (2 ^ 64 - 1) }
-        ensures listed { Contains self.old.fail_appends.items self.new.appends → IsErr result × (self.new.refused ≡ self.old.refused) }
-        ensures failed { IsErr result → Contains self.old.fail_appends.items self.new.appends ⊎ Rose self.old.refused self.new.refused }
+        ensures listed { Contains self.old.fail_appends.items self.new.appends
+            → IsErr result × (self.new.refused ≡ self.old.refused) }
+        ensures failed { IsErr result
+            → Contains self.old.fail_appends.items self.new.appends ⊎ Rose self.old.refused self.new.refused }
         ensures refused { IsOk result → self.new.refused ≡ self.old.refused }
-        ensures quiet { OnOk result ((mem_folder self.new.files.items).append_faults ≡ (mem_folder self.old.files.items).append_faults) }
+        ensures quiet { OnOk result
+            ((mem_folder self.new.files.items).append_faults ≡ (mem_folder self.old.files.items).append_faults) }
         ensures others { self.new.loads ≡ self.old.loads }
-        ensures same { (self.new.fail_loads.items ≡ self.old.fail_loads.items) × (self.new.fail_appends.items ≡ self.old.fail_appends.items) × (self.new.bite ≡ self.old.bite) }
+        ensures same { (self.new.fail_loads.items ≡ self.old.fail_loads.items)
+            × (self.new.fail_appends.items ≡ self.old.fail_appends.items) × (self.new.bite ≡ self.old.bite) }
     {
         self.appends = self.appends.saturating_add(1);
         if self.fail_appends.contains(&self.appends) {

@@ -44,8 +44,14 @@ impl<R: rt::Files<File = File> + Drop> RealFiles<R> {
     ///
     /// `AllocError` for want of memory.
     pub fn new(alloc: Global, rt: R, names: &[String]) -> Result<RealFiles<R>, AllocError>
-        ensures names { IfOk result (λ files. (name : List ℕ) → (⟦<RealFiles<R> as Files>⟧.folder files).knows name ≡ list_any (λ s. bytes_eq (string_bytes s) name) names.now) }
-        ensures faults { IfOk result (λ files. (name : List ℕ) → ((⟦<RealFiles<R> as Files>⟧.folder files).load_faults name ≡ 0) × ((⟦<RealFiles<R> as Files>⟧.folder files).append_faults name ≡ 0)) }
+        ensures names { IfOk result
+            (λ files. (name : List ℕ)
+            → (⟦<RealFiles<R> as Files>⟧.folder files).knows name
+            ≡ list_any (λ s. bytes_eq (string_bytes s) name) names.now) }
+        ensures faults { IfOk result
+            (λ files. (name : List ℕ)
+            → ((⟦<RealFiles<R> as Files>⟧.folder files).load_faults name ≡ 0)
+            × ((⟦<RealFiles<R> as Files>⟧.folder files).append_faults name ≡ 0)) }
     {
         Ok(RealFiles {
             rt,

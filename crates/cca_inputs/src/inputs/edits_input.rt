@@ -27,7 +27,8 @@ impl<'a> Input for EditsInput<'a> {
 
     ghost room = { λ _. EDITS_BYTES };
 
-    ghost states = { λ s bytes edits. EditsAnswers s.book.now bytes (value edits) × AllByRecursion (λ e. length (edit_lots e) ≡ length s.book.now.supply) edits };
+    ghost states = { λ s bytes edits. EditsAnswers s.book.now bytes (value edits)
+        × AllByRecursion (λ e. length (edit_lots e) ≡ length s.book.now.supply) edits };
 
     ghost halts = { λ s bytes status. EditsAnswers s.book.now bytes (stops status) };
 

@@ -39,7 +39,8 @@ impl<'a> Input for PlaceCertInput<'a> {
 
     ghost room = { λ _. CERT_BYTES };
 
-    ghost states = { λ s bytes cert. PlaceCertAnswers (length s.slots.now.bidders) bytes (value (place_cert_value cert)) × (length cert.choice ≡ length s.slots.now.bidders) };
+    ghost states = { λ s bytes cert. PlaceCertAnswers (length s.slots.now.bidders) bytes
+        (value (place_cert_value cert)) × (length cert.choice ≡ length s.slots.now.bidders) };
 
     ghost halts = { λ s bytes status. PlaceCertAnswers (length s.slots.now.bidders) bytes (stops status) };
 

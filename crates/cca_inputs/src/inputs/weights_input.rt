@@ -26,7 +26,8 @@ impl<'a> Input for WeightsInput<'a> {
 
     ghost room = { λ _. WEIGHTS_BYTES };
 
-    ghost states = { λ s bytes weights. WeightsAnswers s.book.now bytes (value weights) × AreWeights (bidders_of s.book.now) weights };
+    ghost states = { λ s bytes weights. WeightsAnswers s.book.now bytes (value weights)
+        × AreWeights (bidders_of s.book.now) weights };
 
     ghost halts = { λ s bytes status. WeightsAnswers s.book.now bytes (stops status) };
 

@@ -73,7 +73,8 @@ fn weigh_work<F: Files>(
 ) -> Result<Work, Stop>
     requires book { IsTrue ((F.folder files.old).knows book.now) }
     requires weights { IsTrue ((F.folder files.old).knows weights.now) }
-    ensures { (cert : List ℕ) → Works (weigh book.now weights.now cert form) (F.folder files.old) (F.folder files.new) result }
+    ensures { (cert : List ℕ)
+        → Works (weigh book.now weights.now cert form) (F.folder files.old) (F.folder files.new) result }
 {
     let book = read_input(alloc, files, book, &BookInput)?;
     let weights = read_input(alloc, files, weights, &WeightsInput { book: &book })?;
@@ -106,7 +107,8 @@ fn auction_work<F: Files>(
 ) -> Result<Work, Stop>
     requires award { IsTrue ((F.folder files.old).knows award.now) }
     requires log { IsTrue ((F.folder files.old).knows log.now) }
-    ensures { (book : List ℕ) → Works (auction award.now log.now book) (F.folder files.old) (F.folder files.new) result }
+    ensures { (book : List ℕ)
+        → Works (auction award.now log.now book) (F.folder files.old) (F.folder files.new) result }
 {
     let award = read_input(alloc, files, award, &AwardInput)?;
     let log = read_input(alloc, files, log, &LogInput { award: &award })?;
@@ -123,7 +125,8 @@ fn award_work<F: Files>(
 ) -> Result<Work, Stop>
     requires terms { IsTrue ((F.folder files.old).knows terms.now) }
     requires log { IsTrue ((F.folder files.old).knows log.now) }
-    ensures { (cert : List ℕ) → Works (award terms.now log.now cert form) (F.folder files.old) (F.folder files.new) result }
+    ensures { (cert : List ℕ)
+        → Works (award terms.now log.now cert form) (F.folder files.old) (F.folder files.new) result }
 {
     let award = read_input(alloc, files, terms, &AwardInput)?;
     let events = read_input(alloc, files, log, &LogInput { award: &award })?;

@@ -35,7 +35,9 @@ fn placed_lines(
     requires shape { length cert.now.choice ≡ length slots.now.bidders }
     requires holds { Holds slots.now (place_cert_value cert.now) }
     requires turns { AllByRecursion (CanPrintTurn cert.now.choice) turns.now }
-    ensures { IfOk result (λ text. ArePlacedLines slots.now rounds (place_cert_value cert.now) (turns_of cert.now.choice turns.now) text) }
+    ensures { IfOk result
+        (λ text. ArePlacedLines slots.now rounds (place_cert_value cert.now)
+        (turns_of cert.now.choice turns.now) text) }
 {
     let _bidders = slots.bidders();
     let mut text = rounds_part(alloc, &cert.choice, turns, rounds)?;

@@ -46,7 +46,9 @@ fn price_lines(
     requires shape { IsFor (bidders_of book.now) (states book.now) cert.now }
     requires holds { (w : ℕ → ℕ) × Holds book.now w (cert_value cert.now) }
     requires turns { AllByRecursion (CanPrintTurn cert.now.choice) turns.now }
-    ensures { IfOk result (λ text. ArePriceLines rounds book.now cert.now.choice (cert_prices book.now (cert_value cert.now)) (cert_point (cert_value cert.now)) (turns_of cert.now.choice turns.now) text) }
+    ensures { IfOk result
+        (λ text. ArePriceLines rounds book.now cert.now.choice (cert_prices book.now (cert_value cert.now))
+        (cert_point (cert_value cert.now)) (turns_of cert.now.choice turns.now) text) }
 {
     book.kept();
     let mut text = rounds_part(alloc, &cert.choice, turns, rounds)?;
@@ -66,7 +68,9 @@ fn price_json(
     requires shape { IsFor (bidders_of book.now) (states book.now) cert.now }
     requires holds { (w : ℕ → ℕ) × Holds book.now w (cert_value cert.now) }
     requires turns { AllByRecursion (CanPrintTurn cert.now.choice) turns.now }
-    ensures { IfOk result (λ text. IsPriceJson rounds book.now cert.now.choice (cert_prices book.now (cert_value cert.now)) (cert_point (cert_value cert.now)) (turns_of cert.now.choice turns.now) text) }
+    ensures { IfOk result
+        (λ text. IsPriceJson rounds book.now cert.now.choice (cert_prices book.now (cert_value cert.now))
+        (cert_point (cert_value cert.now)) (turns_of cert.now.choice turns.now) text) }
 {
     let facts = facts(alloc, book, cert)?;
     if rounds {
@@ -87,7 +91,8 @@ pub fn price_text(
     requires shape { IsFor (bidders_of book.now) (states book.now) cert.now }
     requires holds { (w : ℕ → ℕ) × Holds book.now w (cert_value cert.now) }
     requires turns { AllByRecursion (CanPrintTurn cert.now.choice) turns.now }
-    ensures { IfOk result (λ text. ArePrinted form book.now (cert_value cert.now) (turns_of cert.now.choice turns.now) text) }
+    ensures { IfOk result
+        (λ text. ArePrinted form book.now (cert_value cert.now) (turns_of cert.now.choice turns.now) text) }
 {
     if form.json {
         price_json(alloc, book, cert, turns, form.rounds)

@@ -44,7 +44,8 @@ fn price_texts(
 ) -> Result<PriceTexts, PriceStop>
     requires { AreWeights (bidders_of book.now) weights.now }
     ensures done { IfOk result (λ p. PriceGives book.now weights.now form (done p.printed (cert_file p.cert ∷ []))) }
-    ensures stop { (n : ℕ) → result ≡ Err (PriceStop.Winners n) → PriceGives book.now weights.now form (stopped (Status.Limit LimitKind.Winners n)) }
+    ensures stop { (n : ℕ) → result ≡ Err (PriceStop.Winners n)
+        → PriceGives book.now weights.now form (stopped (Status.Limit LimitKind.Winners n)) }
 {
     let priced = price_book(alloc, book, weights)?;
     let cert = &priced.cert;

@@ -29,7 +29,9 @@ fn yes_text(alloc: Global, book: &BidBook, facts: &CertFacts) -> Result<Text, Al
 /// What a certificate with these facts gives for which all tests hold.
 pub fn accepted(alloc: Global, book: &BidBook, facts: &CertFacts) -> Result<Work, Stop>
     requires { (c : CertValue) × AreFacts book.now c facts.now }
-    ensures { (weights : List ℕ) (c : CertValue) → Holds book.now (weight_of weights) c → IsSound book.now (weight_of weights) c → AreFacts book.now c facts.now → IsWork (VerdictGives book.now weights c) [] result }
+    ensures { (weights : List ℕ) (c : CertValue) → Holds book.now (weight_of weights) c
+        → IsSound book.now (weight_of weights) c → AreFacts book.now c facts.now
+        → IsWork (VerdictGives book.now weights c) [] result }
 {
     let printed = yes_text(alloc, book, facts)?;
     Ok(Work {

@@ -12,7 +12,8 @@ use wide_num::Text;
 
 /// The lines of the winners of a book, in order, and the line of their net value.
 pub fn win_of(alloc: Global, book: &BidBook) -> Result<Text, AllocError>
-    ensures { IfOk result (λ text. (c : List ℕ) × IsWinning (market_of book.now) c × (text ≡ WinText.win_text book.now c)) }
+    ensures { IfOk result
+        (λ text. (c : List ℕ) × IsWinning (market_of book.now) c × (text ≡ WinText.win_text book.now c)) }
 {
     let choice = win(alloc, book)?;
     win_text(alloc, book, &choice)

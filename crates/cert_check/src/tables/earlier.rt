@@ -46,7 +46,8 @@ fn bids_before(book: &BidBook, choice: &[u16], j: u16) -> u16
     requires bidder { (0 < j) × (j ≤ bidders_of book.now) }
     requires number { number_of choice.now j ≤ length (bids_of book.now j) }
     ensures most { result ≤ length (bids_of book.now j) }
-    ensures before { (i : ℕ) → i ≤ length (bids_of book.now j) → IsTrue (is_number_before i (number_of choice.now j)) ↔ ((0 < i) × (i ≤ result)) }
+    ensures before { (i : ℕ) → i ≤ length (bids_of book.now j)
+        → IsTrue (is_number_before i (number_of choice.now j)) ↔ ((0 < i) × (i ≤ result)) }
 {
     let number = number(choice, j);
     if number == 0 {
@@ -131,7 +132,8 @@ pub fn none_earlier(book: &BidBook, choice: &[u16], value: i128, line: &[i128], 
     requires bidder { (0 < j) × (j ≤ bidders_of book.now) }
     requires line { length line.now ≡ states book.now }
     requires sizes { (s : ℕ) → unsigned_abs (slice_index_or line.now s (pos 0)) < 2 ^ 120 }
-    ensures { (c : CertValue) → c.choice ≡ choice.now → c.value ≡ value → slice_index_or c.table j [] ≡ line.now → IsTrue result ↔ NoneEarlier book.now c j }
+    ensures { (c : CertValue) → c.choice ≡ choice.now → c.value ≡ value → slice_index_or c.table j [] ≡ line.now
+        → IsTrue result ↔ NoneEarlier book.now c j }
 {
     let left = left_before(book, choice, value, j);
     all_stay_below(book, choice, j, line, left.rest, left.bound)

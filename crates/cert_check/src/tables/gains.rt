@@ -29,7 +29,8 @@ pub fn put_gains(claim: &Claim, pay: &[i128], gains: &mut [i128])
     requires pay { (length pay.now ≡ bidders_of claim.now.book.now) × AllInRange pay.now }
     requires room { bidders_of claim.now.book.now ≤ length gains.old }
     ensures room { length gains.new ≡ length gains.old }
-    ensures gains { (j : ℕ) → 0 < j → j ≤ bidders_of claim.now.book.now → of_bidder gains.new j ≡ gain_of claim.now.book.now claim.now.den claim.now.choice.now pay.now j }
+    ensures gains { (j : ℕ) → 0 < j → j ≤ bidders_of claim.now.book.now
+        → of_bidder gains.new j ≡ gain_of claim.now.book.now claim.now.den claim.now.choice.now pay.now j }
     ensures small { HasSmallWorths claim.now.book.now claim.now.den gains.new }
 {
     claim.book.kept();
@@ -41,7 +42,8 @@ fn put_each(book: &BidBook, den: i128, choice: &[u16], pay: &[i128], gains: &mut
     requires lower { CanLower book.now den choice.now pay.now }
     requires room { bidders_of book.now ≤ length gains.old }
     ensures room { length gains.new ≡ length gains.old }
-    ensures gains { (j : ℕ) → 0 < j → j ≤ bidders_of book.now → of_bidder gains.new j ≡ gain_of book.now den choice.now pay.now j }
+    ensures gains { (j : ℕ) → 0 < j → j ≤ bidders_of book.now
+        → of_bidder gains.new j ≡ gain_of book.now den choice.now pay.now j }
 {
     for k in 0..book.bidders() {
         gains[k] = gain(book, den, choice, pay, k as u16 + 1);

@@ -87,7 +87,8 @@ fn bid_fault(offers: &Offers, j: u16, i: u16, lines: &LinePair, until: usize) ->
 fn pair_fault(offers: &Offers, j: u16, lines: &LinePair) -> usize
     requires bidder { (0 < j) × (j ≤ bidders_of offers.now.book.now) }
     requires line { length lines.now.line.now ≡ states offers.now.book.now }
-    ensures { FirstFault (KeepsSome offers.now j lines.now.line.now lines.now.below.now ((offered offers.now).bids j)) (length lines.now.line.now) result }
+    ensures { FirstFault (KeepsSome offers.now j lines.now.line.now lines.now.below.now ((offered offers.now).bids j))
+        (length lines.now.line.now) result }
 {
     let supply = offers.book.supply();
     let grows = is_growing(supply.counts(), supply.widths(), lines.below);
@@ -124,7 +125,8 @@ fn roomy_fault<const N: usize>(offers: &Offers, j: u16, line: &[i128], below: &[
     requires line { length line.now ≡ states offers.now.book.now }
     requires below { length below.now ≡ states offers.now.book.now }
     requires sizes { (s : ℕ) → unsigned_abs (slice_index_or below.now s (pos 0)) < 2 ^ 122 }
-    ensures { FirstFault (KeepsSome offers.now j line.now below.now ((offered offers.now).bids j)) (length line.now) result }
+    ensures { FirstFault (KeepsSome offers.now j line.now below.now ((offered offers.now).bids j))
+        (length line.now) result }
 {
     let mut numbers = [0i64; N];
     let mut rests = [0i64; N];
@@ -147,7 +149,8 @@ fn line_fault(offers: &Offers, j: u16, line: &[i128], below: &[i128]) -> usize
     requires line { length line.now ≡ states offers.now.book.now }
     requires below { length below.now ≡ states offers.now.book.now }
     requires sizes { (s : ℕ) → unsigned_abs (slice_index_or below.now s (pos 0)) < 2 ^ 122 }
-    ensures { FirstFault (KeepsSome offers.now j line.now below.now ((offered offers.now).bids j)) (length line.now) result }
+    ensures { FirstFault (KeepsSome offers.now j line.now below.now ((offered offers.now).bids j))
+        (length line.now) result }
 {
     let _states = offers.book.supply().states();
     if line.len() <= 1024 {
@@ -165,7 +168,8 @@ pub fn two_lines_fault(offers: &Offers, k: u16, line: &[i128], below: &[i128]) -
     requires line { length line.now ≡ states offers.now.book.now }
     requires below { length below.now ≡ states offers.now.book.now }
     requires sizes { (s : ℕ) → unsigned_abs (slice_index_or below.now s (pos 0)) < 2 ^ 120 }
-    ensures { (table : List (List ℤ)) → IsTable (bidders_of offers.now.book.now) (states offers.now.book.now) table → slice_index_or table k [] ≡ line.now → slice_index_or table (suc k) [] ≡ below.now
+    ensures { (table : List (List ℤ)) → IsTable (bidders_of offers.now.book.now) (states offers.now.book.now) table
+        → slice_index_or table k [] ≡ line.now → slice_index_or table (suc k) [] ≡ below.now
         → FirstFault (ObeysIn offers.now table k) (states offers.now.book.now) result }
 {
     let _bidders = offers.book.bidders();
@@ -174,7 +178,8 @@ pub fn two_lines_fault(offers: &Offers, k: u16, line: &[i128], below: &[i128]) -
 
 /// The first place at which the last line of a table breaks a rule, and its length where there is none.
 pub fn last_line_fault(offers: &Offers, line: &[i128]) -> usize
-    ensures { (table : List (List ℤ)) → IsTable (bidders_of offers.now.book.now) (states offers.now.book.now) table → slice_index_or table (bidders_of offers.now.book.now) [] ≡ line.now
+    ensures { (table : List (List ℤ)) → IsTable (bidders_of offers.now.book.now) (states offers.now.book.now) table
+        → slice_index_or table (bidders_of offers.now.book.now) [] ≡ line.now
         → FirstFault (ObeysIn offers.now table (bidders_of offers.now.book.now)) (states offers.now.book.now) result }
 {
     last_fault(line)

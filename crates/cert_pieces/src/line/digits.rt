@@ -57,7 +57,8 @@ pub(crate) fn read_digits(piece: &[u8], at: usize, tally: Tally) -> DigitRun
     ensures from { at ≤ result.end }
     ensures to { result.end ≤ length piece.now }
     ensures digits { AreDigits (between at result.end piece.now) }
-    ensures tally { (value : ℕ) → IsTally tally value → IsTally result.tally (read_on value (between at result.end piece.now)) }
+    ensures tally { (value : ℕ) → IsTally tally value
+        → IsTally result.tally (read_on value (between at result.end piece.now)) }
 {
     if tally.beyond || tally.size >= SMALL as u128 {
         return read_wide(piece, at, tally);
@@ -101,7 +102,8 @@ fn read_wide(piece: &[u8], at: usize, tally: Tally) -> DigitRun
     ensures from { at ≤ result.end }
     ensures to { result.end ≤ length piece.now }
     ensures digits { AreDigits (between at result.end piece.now) }
-    ensures tally { (value : ℕ) → IsTally tally value → IsTally result.tally (read_on value (between at result.end piece.now)) }
+    ensures tally { (value : ℕ) → IsTally tally value
+        → IsTally result.tally (read_on value (between at result.end piece.now)) }
 {
     let mut tally = tally;
     for i in at..piece.len() {

@@ -74,7 +74,10 @@ pub(crate) fn put_fields(
     ensures from { at ≤ result.end }
     ensures to { result.end ≤ length piece.now }
     ensures line { IsLine (between at result.end piece.now) }
-    ensures part { (word : List ℕ) (beyond : Bool) (bytes : List ℕ) → IsPart word (Form.Signed most) (behind_space count beyond) out.old bytes → IsPart word (Form.Signed most) (behind_space result.count beyond) out.new (bytes ++ between at result.end piece.now) }
+    ensures part { (word : List ℕ) (beyond : Bool) (bytes : List ℕ)
+        → IsPart word (Form.Signed most) (behind_space count beyond) out.old bytes
+        → IsPart word (Form.Signed most) (behind_space result.count beyond) out.new
+        (bytes ++ between at result.end piece.now) }
     ensures room { length out.new ≡ length out.old }
 {
     let mut count = count;

@@ -94,7 +94,8 @@ fn most_rows(bidders: u16) -> i128
 fn last(out: &[i128], count: usize) -> i128
     requires { count ≤ length out.now }
     ensures low { pos 0 ≤ℤ result }
-    ensures last { (ns : List ℤ) (bidders : ℕ) → Keeps ns out.now count false → MayBegin (members bidders) ns → result ≡ last_of (pos 0) ns }
+    ensures last { (ns : List ℤ) (bidders : ℕ) → Keeps ns out.now count false → MayBegin (members bidders) ns
+        → result ≡ last_of (pos 0) ns }
 {
     if count == 0 {
         return 0;
@@ -111,7 +112,8 @@ fn not_below_zero(number: i128) -> i128
 
 /// Whether the numbers of a line are all there.
 pub(crate) fn is_whole(form: Form, count: usize) -> bool
-    ensures { (ns : List ℤ) → length ns ≡ count → MayBegin (numbers_of form) ns → IsTrue result ↔ FitNumbers (numbers_of form) ns }
+    ensures { (ns : List ℤ) → length ns ≡ count → MayBegin (numbers_of form) ns
+        → IsTrue result ↔ FitNumbers (numbers_of form) ns }
 {
     match form {
         Form::Nothing => true,

@@ -54,7 +54,8 @@ pub(crate) fn advance(phase: Phase, word: &[u8], byte: u8) -> Step
 }
 
 fn word_step(count: usize, word: &[u8], byte: u8) -> Step
-    ensures { (ns : List ℤ) (bytes : List ℕ) → Partway word.now ns (Phase.Word count) bytes → StepsTo word.now ns bytes byte result }
+    ensures { (ns : List ℤ) (bytes : List ℕ) → Partway word.now ns (Phase.Word count) bytes
+        → StepsTo word.now ns bytes byte result }
 {
     if count < word.len() {
         if byte == word[count] && byte != b'\n' {
@@ -72,7 +73,8 @@ fn word_step(count: usize, word: &[u8], byte: u8) -> Step
 }
 
 fn space_step(byte: u8) -> Step
-    ensures { (word : List ℕ) (ns : List ℤ) (bytes : List ℕ) → Partway word ns Phase.Space bytes → StepsTo word ns bytes byte result }
+    ensures { (word : List ℕ) (ns : List ℤ) (bytes : List ℕ) → Partway word ns Phase.Space bytes
+        → StepsTo word ns bytes byte result }
 {
     if byte == b'-' {
         return Step::Open(Phase::Minus);
@@ -87,7 +89,8 @@ fn space_step(byte: u8) -> Step
 }
 
 fn minus_step(byte: u8) -> Step
-    ensures { (word : List ℕ) (ns : List ℤ) (bytes : List ℕ) → Partway word ns Phase.Minus bytes → StepsTo word ns bytes byte result }
+    ensures { (word : List ℕ) (ns : List ℤ) (bytes : List ℕ) → Partway word ns Phase.Minus bytes
+        → StepsTo word ns bytes byte result }
 {
     if !begins_below_zero(byte) {
         return Step::Fault;
@@ -106,7 +109,8 @@ fn begins_below_zero(byte: u8) -> bool
 }
 
 fn digit_step(negative: bool, tally: Tally, byte: u8) -> Step
-    ensures { (word : List ℕ) (ns : List ℤ) (bytes : List ℕ) → Partway word ns (Phase.Digits negative tally) bytes → StepsTo word ns bytes byte result }
+    ensures { (word : List ℕ) (ns : List ℤ) (bytes : List ℕ) → Partway word ns (Phase.Digits negative tally) bytes
+        → StepsTo word ns bytes byte result }
 {
     if byte == b' ' {
         return Step::Field(whole_number(negative, tally));

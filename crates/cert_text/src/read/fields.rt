@@ -69,7 +69,9 @@ pub fn take_these(
 ) -> Result<usize, CertStop>
     requires place { place ≤ length bytes.now }
     requires range { any_out numbers.now ≡ false }
-    ensures leads { IfOk result (λ next. Leads bytes.now place (kind word.now (these numbers.now) ∷ []) next [] (line word.now numbers.now ∷ [])) }
+    ensures leads { IfOk result
+        (λ next. Leads bytes.now place (kind word.now (these numbers.now) ∷ []) next []
+        (line word.now numbers.now ∷ [])) }
     ensures within { IfOk result (λ next. next ≤ length bytes.now) }
     ensures halts { IfErr result (Halts bytes.now place (kind word.now (these numbers.now) ∷ [])) }
 {
@@ -92,7 +94,8 @@ pub fn take_signed(
     count: usize,
 ) -> Result<SignedRead, CertStop>
     requires { place ≤ length bytes.now }
-    ensures leads { IfOk result (λ r. Leads bytes.now place (kind word.now (signed count) ∷ []) r.next [] (line word.now r.numbers ∷ [])) }
+    ensures leads { IfOk result
+        (λ r. Leads bytes.now place (kind word.now (signed count) ∷ []) r.next [] (line word.now r.numbers ∷ [])) }
     ensures count { IfOk result (λ r. length r.numbers ≡ count) }
     ensures range { IfOk result (λ r. AllInRange r.numbers) }
     ensures within { IfOk result (λ r. r.next ≤ length bytes.now) }
@@ -132,7 +135,8 @@ pub fn take_each(
     bidders: u16,
 ) -> Result<SmallRead, CertStop>
     requires { place ≤ length bytes.now }
-    ensures leads { IfOk result (λ r. LeadsLike bytes.now place word.now (chosen bidders) r.next (as_numbers r.numbers)) }
+    ensures leads { IfOk result
+        (λ r. LeadsLike bytes.now place word.now (chosen bidders) r.next (as_numbers r.numbers)) }
     ensures numbers { IfOk result (λ r. IsChoice bidders r.numbers) }
     ensures within { IfOk result (λ r. r.next ≤ length bytes.now) }
     ensures halts { IfErr result (HaltsLike bytes.now place word.now (chosen bidders)) }

@@ -36,10 +36,13 @@ pub(crate) fn take_parts(
 ) -> Result<PartsRead, CertStop>
     requires place { place ≤ length bytes.now }
     requires choice { length choice.now ≡ shape.bidders }
-    ensures leads { IfOk result (λ r. Leads bytes.now place (parts_plan shape.bidders shape.states 1 (as_numbers choice.now)) r.next [] (part_lines (map without_value r.parts))) }
+    ensures leads { IfOk result
+        (λ r. Leads bytes.now place (parts_plan shape.bidders shape.states 1 (as_numbers choice.now)) r.next []
+        (part_lines (map without_value r.parts))) }
     ensures parts { IfOk result (λ r. AreWithouts shape.bidders shape.states 1 choice.now (map without_value r.parts)) }
     ensures within { IfOk result (λ r. r.next ≤ length bytes.now) }
-    ensures halts { IfErr result (Halts bytes.now place (parts_plan shape.bidders shape.states 1 (as_numbers choice.now))) }
+    ensures halts { IfErr result
+        (Halts bytes.now place (parts_plan shape.bidders shape.states 1 (as_numbers choice.now))) }
 {
     let numbers = choice.numbers();
     let mut parts = WithoutList::new(alloc);
@@ -71,7 +74,8 @@ fn add_part(
     requires { place ≤ length bytes.now }
     ensures adds { IfOk result (AddsPart bytes.now place shape.bidders shape.states winner number parts.old parts.new) }
     ensures within { IfOk result (λ next. next ≤ length bytes.now) }
-    ensures halts { IfErr result (Halts bytes.now place (unless_zero (pos number) (part_plan shape.bidders shape.states winner))) }
+    ensures halts { IfErr result
+        (Halts bytes.now place (unless_zero (pos number) (part_plan shape.bidders shape.states winner))) }
 {
     if number == 0 {
         return Ok(place);
@@ -90,7 +94,9 @@ fn take_part(
     winner: u16,
 ) -> Result<PartRead, CertStop>
     requires { place ≤ length bytes.now }
-    ensures leads { IfOk result (λ r. Leads bytes.now place (part_plan shape.bidders shape.states winner) r.next [] (own_lines (without_value r.part))) }
+    ensures leads { IfOk result
+        (λ r. Leads bytes.now place (part_plan shape.bidders shape.states winner) r.next []
+        (own_lines (without_value r.part))) }
     ensures part { IfOk result (λ r. IsWithout shape.bidders shape.states winner (without_value r.part)) }
     ensures within { IfOk result (λ r. r.next ≤ length bytes.now) }
     ensures halts { IfErr result (Halts bytes.now place (part_plan shape.bidders shape.states winner)) }
@@ -118,7 +124,8 @@ pub fn take_winner(
     winner: u16,
 ) -> Result<usize, CertStop>
     requires { place ≤ length bytes.now }
-    ensures leads { IfOk result (λ next. Leads bytes.now place (without_kind winner ∷ []) next [] (without_line winner ∷ [])) }
+    ensures leads { IfOk result
+        (λ next. Leads bytes.now place (without_kind winner ∷ []) next [] (without_line winner ∷ [])) }
     ensures within { IfOk result (λ next. next ≤ length bytes.now) }
     ensures halts { IfErr result (Halts bytes.now place (without_kind winner ∷ [])) }
 {

@@ -52,7 +52,8 @@ pub(crate) fn take_rows(
     count: usize,
 ) -> Result<RowsRead, CertStop>
     requires { place ≤ length bytes.now }
-    ensures leads { IfOk result (λ r. Leads bytes.now place (rows_plan bidders count) r.next [] (row_lines (map row_value r.rows))) }
+    ensures leads { IfOk result
+        (λ r. Leads bytes.now place (rows_plan bidders count) r.next [] (row_lines (map row_value r.rows))) }
     ensures count { IfOk result (λ r. length (map row_value r.rows) ≡ count) }
     ensures rows { IfOk result (λ r. AreRows bidders (map row_value r.rows)) }
     ensures within { IfOk result (λ r. r.next ≤ length bytes.now) }
@@ -98,7 +99,9 @@ pub(crate) fn take_number(
     word: &[u8],
 ) -> Result<NumberRead, CertStop>
     requires { place ≤ length bytes.now }
-    ensures leads { IfOk result (λ r. Leads bytes.now place (kind word.now (signed 1) ∷ []) r.next [] (line word.now (r.number ∷ []) ∷ [])) }
+    ensures leads { IfOk result
+        (λ r. Leads bytes.now place (kind word.now (signed 1) ∷ []) r.next []
+        (line word.now (r.number ∷ []) ∷ [])) }
     ensures range { IfOk result (λ r. InRange r.number) }
     ensures within { IfOk result (λ r. r.next ≤ length bytes.now) }
     ensures halts { IfErr result (Halts bytes.now place (kind word.now (signed 1) ∷ [])) }
@@ -121,7 +124,9 @@ pub fn take_pair(
     word: &[u8],
 ) -> Result<PairRead, CertStop>
     requires { place ≤ length bytes.now }
-    ensures leads { IfOk result (λ r. Leads bytes.now place (kind word.now (signed 2) ∷ []) r.next [] (line word.now (r.first ∷ r.second ∷ []) ∷ [])) }
+    ensures leads { IfOk result
+        (λ r. Leads bytes.now place (kind word.now (signed 2) ∷ []) r.next []
+        (line word.now (r.first ∷ r.second ∷ []) ∷ [])) }
     ensures range { IfOk result (λ r. InRange r.first × InRange r.second) }
     ensures within { IfOk result (λ r. r.next ≤ length bytes.now) }
     ensures halts { IfErr result (Halts bytes.now place (kind word.now (signed 2) ∷ [])) }

@@ -71,10 +71,13 @@ pub(crate) fn take_winning(
     shape: Shape,
 ) -> Result<Winning, CertStop>
     requires { place ≤ length bytes.now }
-    ensures leads { IfOk result (λ r. Leads bytes.now place (winning_kind shape.bidders shape.states ∷ []) r.next [] (winning_lines r.choice r.table (map without_value r.withouts))) }
+    ensures leads { IfOk result
+        (λ r. Leads bytes.now place (winning_kind shape.bidders shape.states ∷ []) r.next []
+        (winning_lines r.choice r.table (map without_value r.withouts))) }
     ensures choice { IfOk result (λ r. IsChoice shape.bidders r.choice) }
     ensures table { IfOk result (λ r. IsTable shape.bidders shape.states r.table) }
-    ensures parts { IfOk result (λ r. AreWithouts shape.bidders shape.states 1 r.choice (map without_value r.withouts)) }
+    ensures parts { IfOk result
+        (λ r. AreWithouts shape.bidders shape.states 1 r.choice (map without_value r.withouts)) }
     ensures within { IfOk result (λ r. r.next ≤ length bytes.now) }
     ensures halts { IfErr result (Halts bytes.now place (winning_kind shape.bidders shape.states ∷ [])) }
 {
@@ -97,7 +100,8 @@ pub(crate) fn take_payments(
     bidders: u16,
 ) -> Result<Payments, CertStop>
     requires { place ≤ length bytes.now }
-    ensures leads { IfOk result (λ r. Leads bytes.now place (payment_plan bidders) r.next [] (payment_lines r.pay (map row_value r.rows))) }
+    ensures leads { IfOk result
+        (λ r. Leads bytes.now place (payment_plan bidders) r.next [] (payment_lines r.pay (map row_value r.rows))) }
     ensures pay { IfOk result (λ r. (length r.pay ≡ bidders) × AllInRange r.pay) }
     ensures few { IfOk result (λ r. length (map row_value r.rows) ≤ 10) }
     ensures rows { IfOk result (λ r. AreRows bidders (map row_value r.rows)) }
@@ -124,7 +128,8 @@ pub fn take_closing(
     shape: Shape,
 ) -> Result<TableRead, CertStop>
     requires { place ≤ length bytes.now }
-    ensures leads { IfOk result (λ r. Leads bytes.now place (closing_plan shape.bidders shape.states) r.next [] (closing_lines r.table)) }
+    ensures leads { IfOk result
+        (λ r. Leads bytes.now place (closing_plan shape.bidders shape.states) r.next [] (closing_lines r.table)) }
     ensures table { IfOk result (λ r. IsTable shape.bidders shape.states r.table) }
     ensures within { IfOk result (λ r. r.next ≤ length bytes.now) }
     ensures halts { IfErr result (Halts bytes.now place (closing_plan shape.bidders shape.states)) }

@@ -29,10 +29,13 @@ pub fn take_named(
     shape: Shape,
 ) -> Result<TableRead, CertStop>
     requires { place ≤ length bytes.now }
-    ensures leads { IfOk result (λ r. Leads bytes.now place (kind word.now (these []) ∷ table_plan shape.bidders shape.states) r.next [] (line word.now [] ∷ table_lines r.table)) }
+    ensures leads { IfOk result
+        (λ r. Leads bytes.now place (kind word.now (these []) ∷ table_plan shape.bidders shape.states) r.next []
+        (line word.now [] ∷ table_lines r.table)) }
     ensures table { IfOk result (λ r. IsTable shape.bidders shape.states r.table) }
     ensures within { IfOk result (λ r. r.next ≤ length bytes.now) }
-    ensures halts { IfErr result (Halts bytes.now place (kind word.now (these []) ∷ table_plan shape.bidders shape.states)) }
+    ensures halts { IfErr result
+        (Halts bytes.now place (kind word.now (these []) ∷ table_plan shape.bidders shape.states)) }
 {
     let next = take_these(alloc, bytes, place, word, &[])?;
     let read = take_table(alloc, bytes, next, shape)?;
@@ -47,7 +50,8 @@ fn take_table(
     shape: Shape,
 ) -> Result<TableRead, CertStop>
     requires { place ≤ length bytes.now }
-    ensures leads { IfOk result (λ r. Leads bytes.now place (table_plan shape.bidders shape.states) r.next [] (table_lines r.table)) }
+    ensures leads { IfOk result
+        (λ r. Leads bytes.now place (table_plan shape.bidders shape.states) r.next [] (table_lines r.table)) }
     ensures table { IfOk result (λ r. IsTable shape.bidders shape.states r.table) }
     ensures within { IfOk result (λ r. r.next ≤ length bytes.now) }
     ensures halts { IfErr result (Halts bytes.now place (table_plan shape.bidders shape.states)) }

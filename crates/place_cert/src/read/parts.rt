@@ -39,7 +39,9 @@ pub(crate) fn take_parts(
     requires place { place ≤ length bytes.now }
     requires few { bidders ≤ MOST_PLACED }
     requires choice { length choice.now ≡ bidders }
-    ensures leads { IfOk result (λ r. Leads bytes.now place (ordered_parts_plan bidders 1 (as_numbers choice.now)) r.next [] (part_lines r.parts)) }
+    ensures leads { IfOk result
+        (λ r. Leads bytes.now place (ordered_parts_plan bidders 1 (as_numbers choice.now)) r.next []
+        (part_lines r.parts)) }
     ensures parts { IfOk result (λ r. AreParts bidders 1 choice.now r.parts) }
     ensures within { IfOk result (λ r. r.next ≤ length bytes.now) }
     ensures halts { IfErr result (Halts bytes.now place (ordered_parts_plan bidders 1 (as_numbers choice.now))) }
@@ -88,7 +90,8 @@ fn take_part(
 ) -> Result<PartRead, CertStop>
     requires place { place ≤ length bytes.now }
     requires few { bidders ≤ MOST_PLACED }
-    ensures leads { IfOk result (λ r. Leads bytes.now place (ordered_part_plan bidders winner) r.next [] (own_part r.part)) }
+    ensures leads { IfOk result
+        (λ r. Leads bytes.now place (ordered_part_plan bidders winner) r.next [] (own_part r.part)) }
     ensures part { IfOk result (λ r. IsOrderedWithout bidders winner (part_value r.part) (part_order r.part)) }
     ensures within { IfOk result (λ r. r.next ≤ length bytes.now) }
     ensures halts { IfErr result (Halts bytes.now place (ordered_part_plan bidders winner)) }

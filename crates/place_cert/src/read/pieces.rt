@@ -71,7 +71,8 @@ pub(crate) fn take_lowered(
 ) -> Result<TableRead, CertStop>
     requires place { place ≤ length bytes.now }
     requires few { bidders ≤ MOST_PLACED }
-    ensures leads { IfOk result (λ r. Leads bytes.now place (closing_plan 0 (2 ^ bidders)) r.next [] (closing_lines r.table)) }
+    ensures leads { IfOk result
+        (λ r. Leads bytes.now place (closing_plan 0 (2 ^ bidders)) r.next [] (closing_lines r.table)) }
     ensures table { IfOk result (λ r. HasSets bidders r.table) }
     ensures within { IfOk result (λ r. r.next ≤ length bytes.now) }
     ensures halts { IfErr result (Halts bytes.now place (closing_plan 0 (2 ^ bidders))) }

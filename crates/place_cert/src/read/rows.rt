@@ -34,7 +34,8 @@ pub(crate) fn take_rows(
     count: usize,
 ) -> Result<RowsRead, CertStop>
     requires { place ≤ length bytes.now }
-    ensures leads { IfOk result (λ r. Leads bytes.now place (ordered_rows_plan bidders count) r.next [] (row_lines r.rows)) }
+    ensures leads { IfOk result
+        (λ r. Leads bytes.now place (ordered_rows_plan bidders count) r.next [] (row_lines r.rows)) }
     ensures count { IfOk result (λ r. length r.rows ≡ count) }
     ensures rows { IfOk result (λ r. AreRows bidders r.rows) }
     ensures within { IfOk result (λ r. r.next ≤ length bytes.now) }

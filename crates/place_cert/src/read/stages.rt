@@ -44,7 +44,9 @@ pub(crate) fn take_placing(
 ) -> Result<Placing, CertStop>
     requires place { place ≤ length bytes.now }
     requires few { bidders ≤ MOST_PLACED }
-    ensures leads { IfOk result (λ r. Leads bytes.now place (placing_plan bidders) r.next [] (placing_lines r.order r.choice r.table r.withouts)) }
+    ensures leads { IfOk result
+        (λ r. Leads bytes.now place (placing_plan bidders) r.next []
+        (placing_lines r.order r.choice r.table r.withouts)) }
     ensures order { IfOk result (λ r. IsChoice bidders r.order) }
     ensures choice { IfOk result (λ r. IsChoice bidders r.choice) }
     ensures table { IfOk result (λ r. HasSets bidders r.table) }
@@ -72,7 +74,8 @@ pub(crate) fn take_payments(
     bidders: u16,
 ) -> Result<Payments, CertStop>
     requires { place ≤ length bytes.now }
-    ensures leads { IfOk result (λ r. Leads bytes.now place (payment_plan bidders) r.next [] (payment_lines r.pay r.rows)) }
+    ensures leads { IfOk result
+        (λ r. Leads bytes.now place (payment_plan bidders) r.next [] (payment_lines r.pay r.rows)) }
     ensures pay { IfOk result (λ r. (length r.pay ≡ bidders) × AllInRange r.pay) }
     ensures few { IfOk result (λ r. length r.rows ≤ 10) }
     ensures rows { IfOk result (λ r. AreRows bidders r.rows) }

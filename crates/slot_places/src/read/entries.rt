@@ -17,7 +17,8 @@ use text_lines::read_at_most;
 pub fn take_entry(alloc: Global, slots: &mut Slots, line: &[u8]) -> Result<(), LineStop>
     ensures ok { OnOk result (Adds slots.old slots.new line.now × (excess_of slots.new ≡ None)) }
     ensures form { result ≡ Err LineStop.Form → (new : SlotList) → Adds slots.old new line.now → ⊥ }
-    ensures limit { (kind : LimitKind) (count : ℕ) → result ≡ Err (LineStop.Limit kind count) → (new : SlotList) × Adds slots.old new line.now × (excess_of new ≡ Some (kind, count)) }
+    ensures limit { (kind : LimitKind) (count : ℕ) → result ≡ Err (LineStop.Limit kind count)
+        → (new : SlotList) × Adds slots.old new line.now × (excess_of new ≡ Some (kind, count)) }
 {
     match line.strip_prefix(b"bidder ") {
         Some(fields) => take_bidder(alloc, slots, fields),

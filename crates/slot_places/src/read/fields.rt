@@ -7,8 +7,10 @@ use text_lines::{field_len, read_at_most};
 
 /// The two fields of a text, of which the first ends at the first space.
 pub fn two_fields(text: &[u8]) -> Option<(&[u8], &[u8])>
-    ensures found { IfSome result (λ parts. AllByRecursion (λ c. c ≢ 32) parts.0.now × (text.now ≡ parts.0.now ++ 32 ∷ parts.1.now)) }
-    ensures none { IfNone result ((first second : List ℕ) → AllByRecursion (λ c. c ≢ 32) first → text.now ≡ first ++ 32 ∷ second → ⊥) }
+    ensures found { IfSome result
+        (λ parts. AllByRecursion (λ c. c ≢ 32) parts.0.now × (text.now ≡ parts.0.now ++ 32 ∷ parts.1.now)) }
+    ensures none { IfNone result
+        ((first second : List ℕ) → AllByRecursion (λ c. c ≢ 32) first → text.now ≡ first ++ 32 ∷ second → ⊥) }
 {
     let (first, behind) = text.split_at(field_len(text));
     let second = behind.strip_prefix(b" ")?;
