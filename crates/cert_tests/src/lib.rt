@@ -14,6 +14,8 @@ mod prices;
 #[cfg(test)]
 mod read_texts;
 #[cfg(test)]
+mod samples;
+#[cfg(test)]
 mod streams;
 #[cfg(test)]
 mod written_texts;

@@ -1,3 +1,4 @@
+use crate::samples::{PLACE_CERT, edited};
 use place_cert::read_places;
 use place_check::{Verdict, check_places};
 use slot_places::read_slots;
@@ -8,25 +9,6 @@ use std::test::Fail;
 /// The bids of x and y fit together, and that of z with neither.
 const SLOTS: &str =
     "slots 1\nband 4\nbidder x 2\nplace 1 10\nbidder y 1\nplace 4 8\nbidder z 1\nplace 2 12\nend\n";
-
-/// A certificate of them, of 287 bytes: x and y win, and pay together what z bids.
-const CERT: &str =
-    "pcert 1\nden 1\nvalue 18\norder 1 3 2\nchoice 1 1 0\ntable\nt 18 8 12 0 8 8 0 0\n\
-    without 1\norder 2 3 1\nchoice 0 0 1\ntable\nt 12 8 12 0 8 8 0 0\n\
-    without 2\norder 2 3 1\nchoice 0 0 1\ntable\nt 12 0 12 0 0 0 0 0\n\
-    pay 7 5 0\nrows 1\nrow 1 2\nmult 1 3\norder 2 3 1\nchoice 0 0 1\nlowered\nt 12 5 12 0 5 5 0 0\nend\n";
-
-// The text of the certificate with other bytes in place of those from the one place up to the other.
-fn edited(alloc: Global, from: usize, to: usize, other: &str) -> Result<Vec<u8>, AllocError> {
-    let bytes = CERT.as_bytes();
-    let mut text = Vec::new(alloc);
-    if from <= to && to <= bytes.len() {
-        text.extend_from_slice(&bytes[..from])?;
-        text.extend_from_slice(other.as_bytes())?;
-        text.extend_from_slice(&bytes[to..])?;
-    }
-    Ok(text)
-}
 
 // The verdict on a text for the slots.
 fn verdict_of(rt: &impl Abort, alloc: Global, text: &[u8]) -> Verdict {
@@ -47,7 +29,7 @@ fn fails_at(
     faulty: &[(usize, usize, &str, u8, u64)],
 ) -> Result<(), AllocError> {
     for (from, to, other, test, place) in faulty {
-        let text = edited(alloc, *from, *to, other)?;
+        let text = edited(alloc, PLACE_CERT, *from, *to, other)?;
         assert_eq!(rt;
             verdict_of(rt, alloc, text.as_slice()),
             Verdict::No {
@@ -62,7 +44,10 @@ fn fails_at(
 
 #[test]
 fn accepts_a_right_certificate(rt: HostRuntime) {
-    assert_eq!(rt; verdict_of(&rt, rt.alloc(), CERT.as_bytes()), Verdict::Yes);
+    assert_eq!(rt;
+        verdict_of(&rt, rt.alloc(), PLACE_CERT.as_bytes()),
+        Verdict::Yes
+    );
 }
 
 // The verdicts of these tests were found by testing the certificates with another program, from the tests' definitions alone.

@@ -1,27 +1,8 @@
+use crate::samples::{PLACE_CERT, edited};
 use place_cert::{CertStop, PlaceCertificate, PlaceRow, PlaceWithout, read_places, write_places};
 use std::alloc::{AllocError, Global};
 use std::process::Abort;
 use std::test::Fail;
-
-/// A certificate for three bidders in a band of four: the first has two slots and 10 for slot 1, the second one slot and 8 for slot
-/// 4, the third one slot and 12 for slot 2. The first two win. It has 287 bytes.
-const SAMPLE: &str =
-    "pcert 1\nden 1\nvalue 18\norder 1 3 2\nchoice 1 1 0\ntable\nt 18 8 12 0 8 8 0 0\n\
-    without 1\norder 2 3 1\nchoice 0 0 1\ntable\nt 12 8 12 0 8 8 0 0\n\
-    without 2\norder 2 3 1\nchoice 0 0 1\ntable\nt 12 0 12 0 0 0 0 0\n\
-    pay 7 5 0\nrows 1\nrow 1 2\nmult 1 3\norder 2 3 1\nchoice 0 0 1\nlowered\nt 12 5 12 0 5 5 0 0\nend\n";
-
-// The text of the sample with other lines in place of the bytes from the one place up to the other.
-fn edited(alloc: Global, from: usize, to: usize, lines: &str) -> Result<Vec<u8>, AllocError> {
-    let bytes = SAMPLE.as_bytes();
-    let mut text = Vec::new(alloc);
-    if from <= to && to <= bytes.len() {
-        text.extend_from_slice(&bytes[..from])?;
-        text.extend_from_slice(lines.as_bytes())?;
-        text.extend_from_slice(&bytes[to..])?;
-    }
-    Ok(text)
-}
 
 // Asserts that the reader stops so at each of these edited texts.
 fn stops_at(
@@ -30,7 +11,7 @@ fn stops_at(
     faulty: &[(usize, usize, &str, CertStop)],
 ) -> Result<(), AllocError> {
     for (from, to, lines, stop) in faulty {
-        let text = edited(alloc, *from, *to, lines)?;
+        let text = edited(alloc, PLACE_CERT, *from, *to, lines)?;
         assert_eq!(rt;
             read_places(alloc, text.as_slice(), 3).err(),
             Some(*stop),
@@ -42,7 +23,7 @@ fn stops_at(
 
 // The certificate of the sample.
 fn sample(rt: &impl Abort, alloc: Global) -> PlaceCertificate {
-    let Ok(cert) = read_places(alloc, SAMPLE.as_bytes(), 3) else {
+    let Ok(cert) = read_places(alloc, PLACE_CERT.as_bytes(), 3) else {
         panic!(rt; "this is a certificate");
     };
     cert
@@ -69,7 +50,7 @@ fn row_is(rt: &impl Abort, row: &PlaceRow) {
 
 #[test]
 fn tells_what_a_certificate_holds(rt: HostRuntime) {
-    assert_eq!(rt; SAMPLE.len(), 287);
+    assert_eq!(rt; PLACE_CERT.len(), 287);
     let cert = sample(&rt, rt.alloc());
     assert_eq!(rt; (cert.den, cert.value), (1, 18));
     assert!(rt; cert.order.items() == [1, 3, 2].as_slice());
@@ -90,7 +71,7 @@ fn tells_what_a_certificate_holds(rt: HostRuntime) {
 fn writes_back_what_was_read(rt: HostRuntime) -> Result<(), Fail> {
     let cert = sample(&rt, rt.alloc());
     let written = write_places(rt.alloc(), &cert)?;
-    assert!(rt; written.items() == SAMPLE.as_bytes());
+    assert!(rt; written.items() == PLACE_CERT.as_bytes());
     Ok(())
 }
 

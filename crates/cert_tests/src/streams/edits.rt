@@ -1,4 +1,5 @@
 // The certificate with other lines, and its fronts.
+use crate::samples::edited;
 use crate::streams::{BOOK, CERT, verdict_of};
 use bid_book::read_book;
 use cert_check::Verdict;
@@ -6,18 +7,6 @@ use cert_pieces::TextStop;
 use std::alloc::{AllocError, Global};
 use std::process::Abort;
 use std::test::Fail;
-
-// The text of the certificate with other lines in place of the bytes from the one place up to the other.
-fn edited(alloc: Global, from: usize, to: usize, lines: &str) -> Result<Vec<u8>, AllocError> {
-    let bytes = CERT.as_bytes();
-    let mut text = Vec::new(alloc);
-    if from <= to && to <= bytes.len() {
-        text.extend_from_slice(&bytes[..from])?;
-        text.extend_from_slice(lines.as_bytes())?;
-        text.extend_from_slice(&bytes[to..])?;
-    }
-    Ok(text)
-}
 
 // Asserts what a checker says of a text in pieces of seven bytes.
 fn says(
@@ -60,7 +49,7 @@ const FAILING: &[(usize, usize, &str, u8, u64)] = &[
 #[test]
 fn names_the_first_test_that_fails(rt: HostRuntime) -> Result<(), Fail> {
     for (from, to, lines, test, place) in FAILING {
-        let text = edited(rt.alloc(), *from, *to, lines)?;
+        let text = edited(rt.alloc(), CERT, *from, *to, lines)?;
         let told = Verdict::No {
             test: *test,
             place: *place,
@@ -87,7 +76,7 @@ const REFUSED: &[(usize, usize, &str, TextStop)] = &[
 #[test]
 fn refuses_lines_of_no_certificate(rt: HostRuntime) -> Result<(), Fail> {
     for (from, to, lines, stop) in REFUSED {
-        let text = edited(rt.alloc(), *from, *to, lines)?;
+        let text = edited(rt.alloc(), CERT, *from, *to, lines)?;
         says(&rt, rt.alloc(), &text, Err(*stop))?;
     }
     Ok(())
