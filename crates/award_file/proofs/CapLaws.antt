@@ -1,10 +1,8 @@
 -- One category more of a weighted sum, and one cap more of a search for the first that is exceeded.
-use Rattle.std.proofs.Common.{◌≡◌, ℕ, suc, ◌+◌, ◌*◌, ◌≤◌, ◌<◌, List, ◌∷◌, length, drop, get_or, refl, sym, ap, subst, ◌∙◌, Some, arith}
+use Rattle.std.proofs.Common.{◌≡◌, ℕ, ◌+◌, ◌*◌, ◌≤◌, ◌<◌, List, ◌∷◌, length, drop, get_or, sym, ap, subst, ◌∙◌, arith}
 use Rattle.std.specs.List.{All}
 use Rattle.std.proofs.lemmas.List.{drop_more, get_or-map, length-map}
-use Rattle.std.proofs.lemmas.Bool.{le-leb, lt-leb}
 use Rattle.auction_model.specs.Package.{together, cost_of}
-use Rattle.auction_rules.specs.Terms.{SpectrumCap, first_broken}
 use Rattle.award_file.specs.declared.caps.SpectrumCap.{SpectrumCap as KeptCap}
 use Rattle.award_file.specs.Award.{IsCap}
 use Rattle.award_file.specs.Fields.{cap_value, cap_values}
@@ -17,14 +15,6 @@ weight-step weights counts holding i sum inside w h =
     let in_weights : i < length weights = omega arith in
     let in_holding : i < length holding = omega arith in
     rw (drop_more weights i 0 in_weights, drop_more counts i 0 inside, drop_more holding i 0 in_holding) (omega arith)
-
--- a rule that is broken is the first of those that are left
-pub broken-here : (number : ℕ) (r : SpectrumCap) (caps : List SpectrumCap) (lots : List ℕ) → r.limit < cost_of r.weights lots → first_broken number (r ∷ caps) lots ≡ Some (number, r.limit)
-broken-here number r caps lots above = rw (lt-leb (cost_of r.weights lots) r.limit above) refl
-
--- a rule that holds is passed
-pub broken-later : (number : ℕ) (r : SpectrumCap) (caps : List SpectrumCap) (lots : List ℕ) → cost_of r.weights lots ≤ r.limit → first_broken number (r ∷ caps) lots ≡ first_broken (suc number) caps lots
-broken-later number r caps lots below = rw (le-leb (cost_of r.weights lots) r.limit below) refl
 
 -- a cap of the list is a rule
 pub cap-at : (categories : ℕ) (caps : List KeptCap) (i : ℕ) (cap : KeptCap) → All (IsCap categories) (cap_values caps) → i < length caps → cap ≡ get_or caps i cap → IsCap categories (cap_value cap)

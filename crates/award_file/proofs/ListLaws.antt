@@ -19,10 +19,6 @@ first-stops f g (Field number entry) h = rw h
 first-stops f g (Limit kind count) h = absurd h
 first-stops f g Memory h = tt
 
--- the stop at the second, where there is no first
-pub second-stops : (f g : Option Fault) (e : AwardStop) → f ≡ None → IsFault g e → IsFault (option_or f g) e
-second-stops f g e none h = subst (λ (o : Option Fault). IsFault (option_or o g) e) (sym none) h
-
 -- the table at an index, and those behind it
 pub table-here : (vs : List Value) (i : ℕ) (v : Value) (m : BTreeMap (String Global) Value) → i < length vs → v ≡ get_or vs i v → v ≡ Table m
     → tables_of (items_view (drop i vs)) ≡ table_view m ∷ tables_of (items_view (drop (i + 1) vs))

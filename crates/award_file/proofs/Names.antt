@@ -66,14 +66,6 @@ apart-more bidders e apart new =
 pub name-at : (bidders : List Entrant) (i : ℕ) → i < length bidders → get_or (names_of bidders) i [] ≡ (get_or bidders i (entrant_with [] 0 [])).name
 name-at bidders i inside = get_or-map name_of bidders i (entrant_with [] 0 []) [] inside
 
-number_few-by : (o : Option ℕ) (name : List ℕ) (names : List (List ℕ)) → position (bytes_eq name) names ≡ o → from_one o ≤ length names
-number_few-by None name names is = omega arith
-number_few-by (Some i) name names is = let at = position-Some (bytes_eq name) names i [] is in omega (arith, at.0)
-
--- no number is above the number of bidders
-pub number-few : (bidders : List Entrant) (name : List ℕ) → number_among name (names_of bidders) ≤ length bidders
-number-few bidders name = omega (arith, number_few-by (position (bytes_eq name) (names_of bidders)) name (names_of bidders) refl, length-map bidders name_of)
-
 number_found-by : (o : Option ℕ) (bidders : List Entrant) (name : List ℕ) → position (bytes_eq name) (names_of bidders) ≡ o → 0 < from_one o → (bidder_at bidders (from_one o)).name ≡ name
 number_found-by None bidders name is some = absurd (omega arith)
 number_found-by (Some i) bidders name is some =

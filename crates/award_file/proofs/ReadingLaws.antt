@@ -8,7 +8,6 @@ use Rattle.std.proofs.lemmas.Str.{is_utf8-from_IsUtf8, IsUtf8-from_is_utf8}
 use Rattle.std.specs.Str.{IsUtf8, is_utf8}
 use Rattle.toml.specs.Data.{Members}
 use Rattle.toml.specs.Parse.{parse_document}
-use Rattle.book_form.specs.BookLines.{Excess}
 use Rattle.auction_rules.specs.Terms.{Terms}
 use Rattle.award_file.specs.declared.read.AwardStop.{AwardStop}
 use Rattle.award_file.specs.declared.read.AwardStop.TheVariants.{Text, Field, Limit, Memory}
@@ -16,7 +15,7 @@ use Rattle.award_file.specs.declared.read.categories.Category.{Category as Read}
 use Rattle.award_file.specs.Parts.{category_value, category_values}
 use Rattle.award_file.specs.Walk.{Fault, Category, unless, first_fault, categories_at, categories_of, category_of, category_count}
 use Rattle.award_file.proofs.ListLaws.{first-stops}
-use Rattle.award_file.specs.Reading.{IsFault, IsLimit, IsStop, stated_table, reading_within, reading_after}
+use Rattle.award_file.specs.Reading.{IsFault, IsStop, stated_table, reading_after}
 
 -- bytes that are UTF-8 and parse as a table state that table
 pub stated-table : (bytes : List ℕ) (t : Members) → IsUtf8 bytes → parse_document bytes ≡ Some t → stated_table bytes ≡ Some t
@@ -36,13 +35,6 @@ fault-stops fault terms Text h = absurd h
 fault-stops fault terms (Field number entry) h = rw h
 fault-stops fault terms (Limit kind count) h = absurd h
 fault-stops fault terms Memory h = tt
-
--- the stop at a limit is the stop of the reading, where no rule is broken
-pub limit-stops : (excess : Option Excess) (terms : Terms) (stop : AwardStop) → IsLimit excess stop → IsStop (reading_within excess terms) stop
-limit-stops excess terms Text h = absurd h
-limit-stops excess terms (Field number entry) h = absurd h
-limit-stops excess terms (Limit kind count) h = rw h
-limit-stops excess terms Memory h = tt
 
 -- ---- the rules of the top
 

@@ -1,11 +1,10 @@
 -- The fields of a line, read from its front.
-use Rattle.std.proofs.Common.{◌≡◌, ℕ, ◌≤◌, ◌<◌, ◌^◌, List, [], ◌∷◌, ◌++◌, length, get_or, refl, sym, ap, ◌∙◌, arith, append_assoc}
+use Rattle.std.proofs.Common.{◌≡◌, ℕ, ◌≤◌, ◌<◌, ◌^◌, List, [], ◌∷◌, ◌++◌, length, refl, sym, ap, ◌∙◌, arith, append_assoc}
 use Rattle.std.specs.List.{AllByRecursion, All}
 use Rattle.std.specs.Fmt.{decimal}
 use Rattle.std.proofs.lemmas.List.Elements.{All-nil, All-cons, All-head, All-tail}
 use Rattle.wide_num.proofs.Decimal.{decimal_one}
 use Rattle.text_lines.specs.Decimals.{decimals_text}
-use Rattle.text_lines.specs.Fields.{FieldEnds}
 use Rattle.book_form.proofs.TextLaws.{numbers-push}
 use Rattle.bid_book.specs.Stops.{AreNumbers, IsField}
 use Rattle.text_lines.proofs.DecimalFields.{one_field, number_own, decimals_stop}
@@ -69,8 +68,3 @@ spelled_further text had rest field more n spelled is field_is =
 pub not_spaced : (rest : List ℕ) (ns : List ℕ) → 0 < length rest → ((behind : List ℕ) → rest ≡ 32 ∷ behind → ⊥) → rest ≡ decimals_text ns → ⊥
 not_spaced rest [] long other is = omega (arith, ap length is)
 not_spaced rest (n ∷ ns) long other is = other (decimal n ++ decimals_text ns) is
-
--- a field ends where the text that follows begins with a space
-pub space_first : (cs : List ℕ) → 0 < length cs → get_or cs 0 0 ≡ 32 → FieldEnds cs
-space_first [] long is = tt
-space_first (c ∷ cs) long is = is

@@ -83,9 +83,6 @@ module _ (supply reserves : List ℕ) where
 
   -- ---- the bidders
 
-  bidder_name : Bidder → List ℕ
-  bidder_name b = b.name
-
   -- the names of the bidders before are all that counts of them
   unused-same : (earlier others : List Bidder) (name : List ℕ) → map (λ (b : Bidder). b.name) earlier ≡ map (λ (b : Bidder). b.name) others → AllByRecursion (λ (b : Bidder). b.name ≢ name) earlier → AllByRecursion (λ (b : Bidder). b.name ≢ name) others
   unused-same earlier [] name same all = tt

@@ -1,11 +1,10 @@
 -- The bids of a bidder in the book, made from its submitted list and its clock bids.
-use Rattle.std.proofs.Common.{◌≡◌, ℕ, suc, ◌+◌, ◌-◌, ◌≤◌, ◌<◌, ◌^◌, max, true, false, List, [], ◌∷◌, ◌++◌, refl, sym, ◌∙◌, ap, subst, inl, inr, arith, length, map, get_or, drop}
+use Rattle.std.proofs.Common.{◌≡◌, ℕ, suc, ◌+◌, ◌-◌, ◌≤◌, ◌<◌, ◌^◌, max, List, [], ◌∷◌, ◌++◌, refl, sym, ◌∙◌, ap, subst, inl, inr, arith, length, map, get_or, drop}
 use Rattle.std.specs.List.{All, AllByRecursion}
-use Rattle.std.proofs.lemmas.Bool.{cases_Bool, cond-true, cond-false}
+use Rattle.std.proofs.lemmas.Bool.{cases_Bool}
 use Rattle.std.proofs.lemmas.List.{drop_more, drop_all, get_or-map, length-map}
 use Rattle.auction_model.specs.Book.{BookBid, Bidder}
-use Rattle.auction_model.specs.Package.{cost_of}
-use Rattle.auction_rules.specs.PackageTests.{is_empty, is_same, is_before, InOrder}
+use Rattle.auction_rules.specs.PackageTests.{is_same, is_before, InOrder}
 use Rattle.auction_rules.specs.Caps.{clock_bid, greatest}
 use Rattle.auction_rules.specs.Lines.{placed, with_entry}
 use Rattle.auction_rules.specs.Rounds.{listing}
@@ -15,7 +14,7 @@ use Rattle.auction_rules.specs.BookOfLog.{bid_lots, best_bids, book_bidder}
 use Rattle.auction_rules.proofs.PackageLaws.{is_same-true}
 use Rattle.auction_rules.proofs.Drafts.{InOrder-placed}
 use Rattle.auction_rules.proofs.LawfulBids.{with_entry-each}
-use Rattle.clock_stage.specs.Kept.{IsHeld, no_round, round_at}
+use Rattle.clock_stage.specs.Kept.{IsHeld, no_round}
 use Rattle.relative_cap.specs.OwnRounds.{own_in, rounds_of}
 use Rattle.bid_desk.specs.Lists.{IsKept, IsKeptEntry, Lists}
 use Rattle.bid_desk.specs.BookBids.{IsBooked, bids_by, submitted_in, with_most}
@@ -53,24 +52,6 @@ greatest-kept categories x (b ∷ list) each =
     ]
 
 -- ---- clock bids
-
--- the clock bid of a round
-round-bid : (history : List Round) (j r : ℕ) (prices held : List ℕ) (amount : ℕ) → prices ≡ (round_at history r).prices → held ≡ get_or (round_at history r).held (j - 1) []
-    → amount ≡ cost_of prices held → clock_bid (own_in history j r) ≡ record { lots = held; amount = amount }
-round-bid history j r prices held amount by_prices by_held is = rw (is, by_prices, by_held) refl
-
--- a clock bid for the empty package changes nothing
-pub put-empty : (history : List Round) (j r : ℕ) (held : List ℕ) (list : List BookBid) → held ≡ get_or (round_at history r).held (j - 1) [] → is_empty held ≡ true
-    → list ≡ with_most (clock_bid (own_in history j r)) list
-put-empty history j r held list by_held empty = sym (cond-true (is_empty (own_in history j r).held) list _ (ap is_empty (sym by_held) ∙ empty))
-
--- any other stands in its place with the greater amount
-pub put-some : (history : List Round) (j r : ℕ) (prices held : List ℕ) (amount : ℕ) (list new : List BookBid) → prices ≡ (round_at history r).prices
-    → held ≡ get_or (round_at history r).held (j - 1) [] → amount ≡ cost_of prices held → is_empty held ≡ false → new ≡ with_entry held (max amount (greatest held list)) list
-    → new ≡ with_most (clock_bid (own_in history j r)) list
-put-some history j r prices held amount list new by_prices by_held is some made =
-    made ∙ sym (cond-false (is_empty held) list (with_entry held (max amount (greatest held list)) list) some)
-    ∙ ap (λ (b : BookBid). with_most b list) (sym (round-bid history j r prices held amount by_prices by_held is))
 
 -- and the list stays kept
 pub put-kept : (categories : ℕ) (held : List ℕ) (amount : ℕ) (list new : List BookBid) → IsHeld categories held → amount ≤ 2 ^ 42 → new ≡ with_entry held (max amount (greatest held list)) list

@@ -100,11 +100,6 @@ testers-back rounds points j testers none t low inside empty are own =
     (testers-set rounds points (j - 1) testers none inside are (subst (IsKeptFor rounds points (j - 1 + 1)) (sym empty) tt))
     (subst (λ (n : ℕ). IsTester rounds points n t) next own)
 
--- the testers stay right with one slot emptied
-pub testers-emptied : (rounds : List Round) (points : List ℕ) (place : ℕ) (testers : List (Option Tester)) (none : Option Tester) → place < length testers → none ≡ None → AreFor rounds points testers
-    → AreFor rounds points (set testers place none)
-testers-emptied rounds points place testers none inside empty are = testers-set rounds points place testers none inside are (subst (IsKeptFor rounds points (place + 1)) (sym empty) tt)
-
 -- the draft list of a bidder that was read at its place
 pub drafts_of-read : (terms : Terms) (clock : ClockState) (closed : Bool) (bidders : List Lists) (j : ℕ) (d old : Lists) (now : DeskState) (drafts : List BookBid) → j - 1 < length bidders
     → old ≡ get_or bidders (j - 1) d → drafts ≡ old.drafts → desk_value terms clock closed bidders ≡ now → drafts ≡ drafts_of now j

@@ -3,11 +3,11 @@ use Rattle.std.proofs.Common.{◌≡◌, ℕ, suc, ◌+◌, ◌-◌, ◌*◌, �
 use Rattle.std.proofs.lemmas.List.{append-nil, append_assoc}
 use Rattle.std.proofs.lemmas.List.Concat.{flat_map-append}
 use Rattle.auction_rules.specs.declared.Event.{Event}
-use Rattle.auction_rules.specs.declared.Event.TheVariants.{Bid, Draft, Submit}
+use Rattle.auction_rules.specs.declared.Event.TheVariants.{Bid, Draft}
 use Rattle.big_auction.specs.declared.values.Lots.{Lots}
 use Rattle.big_auction.specs.Draws.{behind, drawn, drawn_package}
 use Rattle.big_auction.specs.LogText.{event_text, log_text}
-use Rattle.big_auction.specs.MadeLog.{amount_of, drawn_draft, drawn_drafts, last_draft, lines_from}
+use Rattle.big_auction.specs.MadeLog.{amount_of, drawn_draft, drawn_drafts}
 use Rattle.big_auction.specs.Parts.{counts_of, bids_for}
 use Rattle.big_auction.proofs.Asking.{package_at, package-is}
 use Rattle.big_auction.proofs.Drawing.{behind-none, behind-behind, drawn-next}
@@ -92,14 +92,6 @@ drafted-more s k prices own final i state next old now new d is after =
           ∙ ap (λ (es : List Event). old ++ log_text es) (sym (drafts-more s k i prices own final));
       drew = after ∙ ap (λ (x : ℕ). behind x 5) d.drew ∙ behind-behind s (5 * i) 5 ∙ ap (behind s) e;
     }
-
--- the lines of a bidder
-pub lines-added : (s k state : ℕ) (prices own final old now last new : List ℕ) → IsDrafted s k prices own final 100 state old now
-    → last ≡ now ++ log_text (last_draft state prices k final) → new ≡ last ++ event_text (Submit k) → new ≡ old ++ log_text (lines_from s prices k own final)
-lines-added s k state prices own final old now last new d one end =
-    let more : last ≡ now ++ log_text (last_draft (behind s 500) prices k final) = one ∙ ap (λ (x : ℕ). now ++ log_text (last_draft x prices k final)) d.drew in
-    added-more old now new (drawn_drafts s prices k own final 100) (last_draft (behind s 500) prices k final ++ Submit k ∷ []) d.text
-    (added now last new (last_draft (behind s 500) prices k final) (Submit k) more end)
 
 -- so many draws behind a bidder's 100 drafts are 500 more from where they began
 pub state-behind : (s k state next more : ℕ) (prices own final old now : List ℕ) → IsDrafted s k prices own final 100 state old now → next ≡ behind state more → next ≡ behind s (500 + more)

@@ -66,12 +66,6 @@ known k some few = record {
   eligible = ap (λ (e : _). e.eligibility) (is-entrant k some few);
 }
 
-no_points : cost_of made_terms.points (no_lots made_terms) ≡ 0
-no_points = refl
-
-no_lots-within : is_within (no_lots made_terms) made_terms.supply ≡ true
-no_lots-within = refl
-
 -- a bidder's last package is within the supply
 pub final-within : (number k : ℕ) → is_within (final_package_of number k) made_terms.supply ≡ true
 final-within number k =

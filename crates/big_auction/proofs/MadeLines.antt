@@ -67,10 +67,6 @@ packed-more s i state next items more p so_far is after pushed =
       drew = after ∙ ap (λ (x : ℕ). behind x 4) so_far.drew ∙ behind-behind s (4 * i) 4 ∙ ap (behind s) far;
     }
 
--- all of them
-pub packed-all : (s i state : ℕ) (items : List Lots) → i ≡ 12 → ArePacked s i state items → ArePacked s 12 state items
-packed-all s i state items is packed = subst (λ (n : ℕ). ArePacked s n state items) is packed
-
 -- ---- the clock
 
 -- one more of the first rounds: the bids of all twelve and a close

@@ -1,1 +1,2 @@
 mod OneOfTwo
+mod SmallBook

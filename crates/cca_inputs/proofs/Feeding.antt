@@ -1,6 +1,6 @@
 -- A certificate that is fed to a checker piece by piece.
 use Rattle.std.proofs.Common.{inl, inr, ◌≡◌, ◌∙◌, ℕ, ℤ, ◌≤◌, ◌<◌, ◌+◌, ◌-◌, Bool, IsTrue, Option, Some, None, List, ◌++◌, [], length, take, refl, sym, subst, arith, length-append, length-take}
-use Rattle.std.specs.Prelude.{IfErr, IfOk, IsSomeAnd, Result, Ok, Err}
+use Rattle.std.specs.Prelude.{IfErr, IfOk, Result, Ok, Err}
 use Rattle.limits.specs.declared.TheConstants.{CERT_BYTES}
 use Rattle.line_text.specs.LineText.{Said, stated, faulty, beyond}
 use Rattle.auction_model.specs.Book.{Book as BookValue}
@@ -88,12 +88,6 @@ fed-whole book weights told file room checker at s size buffer loaded some short
   book_is = s.book_is;
   weights_are = s.weights_are;
 }
-
--- more came than the limit leaves
-pub fed-too_long : (file : Option (List ℕ)) (at n limit size : ℕ) (buffer : List ℕ) → at ≤ limit → limit - at < n → (file ≡ None → ⊥) → ((f : List ℕ) → file ≡ Some f → Stands f at size buffer n)
-    → IsSomeAnd file (λ bytes. limit < length bytes)
-fed-too_long None at n limit size buffer le more there loaded = absurd (there refl)
-fed-too_long (Some f) at n limit size buffer le more there loaded = let within = (loaded f refl).within in omega (arith, le, more, within)
 
 -- the stop of a text is what its bytes answer
 pub text-stop : (b : BookValue) (bytes : List ℕ) (stop : TextStop) → SaysStop (bidders_of b) (states b) bytes stop

@@ -6,19 +6,18 @@ use Rattle.cca_base.specs.Faults.{Rose}
 use Rattle.std.specs.Prelude.{take, drop, ◌-◌}
 use Rattle.std.proofs.Common.{append_assoc, get_or}
 use Rattle.std.proofs.lemmas.List.{take_all}
-use Rattle.cca_base.specs.Files.{Adds, CountsOnly, Folder, KeepsFiles}
+use Rattle.cca_base.specs.Files.{Adds, Folder, KeepsFiles}
 use Rattle.cca_base.specs.Sink.{HasRoom}
 use Rattle.cca_base.specs.declared.write.WriteStop.{WriteStop}
 use Rattle.cca_base.specs.declared.write.WriteStop.TheVariants.{Fault}
 use Rattle.cca_run.proofs.Moved.{all-on}
-use Rattle.cca_inputs.specs.Command.{CommandValue, files_of, output_as, outputs_of}
+use Rattle.cca_inputs.specs.Command.{CommandValue, files_of, output_as}
 use Rattle.cca_inputs.specs.Words.{KnowsFiles}
 use Rattle.cca_inputs.specs.declared.file_text.FileText.{FileText}
 use Rattle.cca_inputs.specs.declared.status.FileKind.{FileKind}
 use Rattle.cca_run.specs.Run.{AppendsAll}
 use Rattle.cca_run.specs.Works.{AppendEnds, FailsAt, OnlyAppends}
-use Rattle.cca_run.proofs.Counts.{among-none, among-one, among-then, rose-from}
-use Rattle.cca_run.proofs.Named.{output-among}
+use Rattle.cca_run.proofs.Counts.{rose-from}
 
 keeps : (folder : Folder) → KeepsFiles folder folder
 keeps folder = record { knows = refl; told = refl; file = refl; room = refl }
@@ -26,11 +25,6 @@ keeps folder = record { knows = refl; told = refl; file = refl; room = refl }
 -- the names are known after an append as before
 pub known-on : (command : CommandValue) (old new : Folder) → new.knows ≡ old.knows → KnowsFiles old command → KnowsFiles new command
 known-on command old new same all = subst (λ (k : List ℕ → _). AllByRecursion (λ f. IsTrue (k f.name)) (files_of command)) (sym same) all
-
--- one text was appended whole
-pub whole-one : (command : CommandValue) (text : FileText) (name : List ℕ) (old new : Folder) → output_as command text.kind ≡ Some name → Adds name old new text.text (length text.text)
-    → AppendsAll command (text ∷ []) old new
-whole-one command text name old new output adds = (new, record { name = name; output = output; whole = adds }, keeps new)
 
 -- a stop of writing is always a fault after so many bytes
 pub as-fault : (e : WriteStop) → (n : ℕ) × (e ≡ Fault n)
@@ -57,25 +51,6 @@ part-one command text name old new n output rose less adds full = record {
     front = adds;
     no_room = full;
   };
-}
-
--- an append to one file of the command counts faults of its outputs alone
-pub counts-one : (command : CommandValue) (kind : FileKind) (name : List ℕ) (old new : Folder) → output_as command kind ≡ Some name → CountsOnly name old.append_faults new.append_faults
-    → new.load_faults ≡ old.load_faults → OnlyAppends command old new
-counts-one command kind name old new output count loads = record {
-  loads = loads;
-  appends = among-one (outputs_of command) name old.append_faults new.append_faults (output-among command kind name output) count;
-}
-
--- so do no appends at all
-pub counts-none : (command : CommandValue) (folder : Folder) → OnlyAppends command folder folder
-counts-none command folder = record { loads = refl; appends = among-none (outputs_of command) folder.append_faults }
-
--- and so do appends behind appends
-pub counts-on : (command : CommandValue) (old mid new : Folder) → OnlyAppends command old mid → OnlyAppends command mid new → OnlyAppends command old new
-counts-on command old mid new a b = record {
-  loads = b.loads ∙ a.loads;
-  appends = among-then (outputs_of command) old.append_faults mid.append_faults new.append_faults a.appends b.appends;
 }
 
 -- the files that one text leaves are those that the next begins with
@@ -140,10 +115,6 @@ pub ends-later : (command : CommandValue) (text : FileText) (rest : List FileTex
     → (result : Result Unit FileKind) → AppendEnds command rest mid new result → AppendEnds command (text ∷ rest) old new result
 ends-later command text rest old mid new one counts (Ok u) all = joined command text rest old mid new one all
 ends-later command text rest old mid new one counts (Err kind) f = fails-later command text rest old mid new kind one counts f
-
--- an append that failed at the only text failed at the first of more
-pub ends-first : (command : CommandValue) (text : FileText) (rest : List FileText) (old new : Folder) (kind : FileKind) → AppendEnds command (text ∷ []) old new (Err kind) → AppendEnds command (text ∷ rest) old new (Err kind)
-ends-first command text rest old new kind f = fails-first command text rest old new kind f
 
 -- over a slice that has a first text: it was appended, and the others ended so
 pub slice-later : (command : CommandValue) (texts : List FileText) (first : FileText) (old mid new : Folder) → 1 ≤ length texts → first ≡ get_or texts 0 first → AppendsAll command (first ∷ []) old mid

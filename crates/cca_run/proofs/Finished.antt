@@ -13,45 +13,10 @@ use Rattle.cca_inputs.specs.declared.status.FileKind.TheVariants.{Award, Log, Bo
 use Rattle.cca_inputs.specs.declared.status.Status.{Status}
 use Rattle.cca_inputs.specs.declared.status.Status.TheVariants.{Done, Words, ReadFault, WriteFault}
 use Rattle.cca_run.specs.Gives.{FilesGive}
-use Rattle.cca_run.specs.Run.{AppendsAll, CountsAmong, FailsToWrite, IsWriteFault, Prints}
+use Rattle.cca_run.specs.Run.{CountsAmong, FailsToWrite, IsWriteFault, Prints}
 use Rattle.cca_run.specs.Works.{FailsAt, FinishEnds, OnlyAppends, OnlyReads, RunEnds}
 use Rattle.cca_run.proofs.Moved.{all-on, upto-on}
 use Rattle.cca_run.proofs.Named.{never-out}
-
--- all was appended, and the text was printed or its front
-pub all-appended : (command : CommandValue) (old new : Folder) (before now : Output) (printed : List ℕ) (appended : List FileText) (result : Status) → AppendsAll command appended old new
-    → OnlyAppends command old new → before.faults ≤ now.faults → Prints before now printed Done result → FinishEnds command old new before now printed appended result
-all-appended command old new before now printed appended result all counts le prints = record {
-  done = λ e. (whole prints e, all);
-  others = ended prints;
-  cause = cause prints;
-  line = λ h. never prints h;
-  front = front prints;
-  files = inl all;
-  counts = counts;
-  faults = le;
-}
-  where
-    whole : Prints before now printed Done result → result ≡ Done → Puts before now printed (length printed)
-    whole (inl w) e = w.1
-    whole (inr w) e = let x : WriteFault Out ≡ Done = sym w.0 ∙ e in absurd cc
-
-    ended : Prints before now printed Done result → (result ≡ Done) ⊎ ((kind : FileKind) × (result ≡ WriteFault kind))
-    ended (inl w) = inl w.0
-    ended (inr w) = inr (Out, w.0)
-
-    cause : Prints before now printed Done result → (kind : FileKind) → result ≡ WriteFault kind → ((kind ≡ Out) × Rose before.faults now.faults) ⊎ (FailsAt command appended old new kind)
-    cause (inl w) kind e = let x : Done ≡ WriteFault kind = sym w.0 ∙ e in absurd cc
-    cause (inr w) kind e = let x : WriteFault Out ≡ WriteFault kind = sym w.0 ∙ e in let same : Out ≡ kind = cc in inl (sym same, w.1)
-
-    never : Prints before now printed Done result → IsHindered result → Puts before now (status_line result) (length (status_line result))
-    never (inl w) h = absurd (subst IsHindered w.0 h)
-    never (inr w) h = absurd (subst IsHindered w.0 h)
-
-    front : Prints before now printed Done result → result ≡ WriteFault Out → (text : List ℕ) × (n : ℕ) × (n < length text) × Puts before now text n
-        × ((text ≡ printed) ⊎ ((kind : FileKind) × FailsAt command appended old new kind × (text ≡ status_line (WriteFault kind)))) × (HasRoom before.room (length text) → ⊥)
-    front (inl w) e = let x : Done ≡ WriteFault Out = sym w.0 ∙ e in absurd cc
-    front (inr w) e = let cut = w.2 in (printed, cut.0, cut.1, cut.2, inl refl, w.3)
 
 -- an append failed, and its line was printed or its front
 pub append-failed : (command : CommandValue) (old new : Folder) (before now : Output) (printed line : List ℕ) (appended : List FileText) (kind : FileKind) (result : Status) → FailsAt command appended old new kind

@@ -1,12 +1,10 @@
 -- The names in the table of files.
-use Rattle.std.proofs.Common.{inl, inr, ◌≡◌, ℕ, zero, suc, Bool, IsTrue, Some, List, [], ◌∷◌, map, subst, arith}
-use Rattle.std.specs.Prelude.{Contains, find, filter, not}
+use Rattle.std.proofs.Common.{inl, inr, ◌≡◌, ℕ, zero, suc, Bool, Some, List, [], ◌∷◌, map, subst, arith}
+use Rattle.std.specs.Prelude.{Contains, find, filter}
 use Rattle.std.specs.Option.{option_map}
 use Rattle.std.specs.List.{AllByRecursion}
 use Rattle.std.proofs.lemmas.Bool.{cases_Bool}
-use Rattle.cca_base.specs.Files.{Folder}
-use Rattle.cca_inputs.specs.Command.{CommandValue, win, price, check, weigh, weigh_check, auction, award, audit, make, place, place_check, review, FileUse, appended_files, files_of, input_as, inputs_of, is_kind, is_read, output_as, outputs_of, read_files}
-use Rattle.cca_inputs.specs.Words.{KnowsFiles}
+use Rattle.cca_inputs.specs.Command.{CommandValue, win, price, check, weigh, weigh_check, auction, award, audit, make, place, place_check, review, FileUse, appended_files, input_as, inputs_of, is_kind, output_as, outputs_of, read_files}
 use Rattle.cca_inputs.specs.declared.status.FileKind.{FileKind}
 use Rattle.cca_inputs.specs.declared.status.FileKind.TheVariants.{Out}
 
@@ -41,11 +39,6 @@ output-among command kind name is = found (λ f. is_kind kind f.kind) (appended_
 -- the input of a kind is among the inputs
 pub input-among : (command : CommandValue) (kind : FileKind) (name : List ℕ) → input_as command kind ≡ Some name → Contains (inputs_of command) name
 input-among command kind name is = found (λ f. is_kind kind f.kind) (read_files command) name is
-
--- the files know the output of a kind
-pub output-known : (folder : Folder) (command : CommandValue) (kind : FileKind) (name : List ℕ) → output_as command kind ≡ Some name → KnowsFiles folder command → IsTrue (folder.knows name)
-output-known folder command kind name is all =
-    one (λ n. IsTrue (folder.knows n)) (appended_files command) name (kept (λ f. not (is_read f.how)) (λ n. IsTrue (folder.knows n)) (files_of command) all) (output-among command kind name is)
 
 -- no command appends to the output
 pub never-out : (command : CommandValue) (name : List ℕ) → output_as command Out ≡ Some name → ⊥

@@ -1,11 +1,10 @@
 -- What pricing a book gives, over plain values.
-use Rattle.std.proofs.Common.{inl, inr, ◌≡◌, ℕ, List, [], length, map, ap, subst, sym, arith}
+use Rattle.std.proofs.Common.{inl, ◌≡◌, ℕ, List, [], length, map, ap, subst, sym, arith}
 use Rattle.std.specs.Prelude.{◌^◌, ℤ, pos, negsuc, ◌∷◌, ◌≤ℤ◌}
 use Rattle.std.specs.List.{AllByRecursion}
 use Rattle.std.proofs.lemmas.Int.{ints}
 use Rattle.auction_model.specs.Book.{Book as BookValue, market_of}
 use Rattle.auction_model.specs.PricingRun.{IsPricingRun}
-use Rattle.limits.specs.declared.LimitKind.TheVariants.{Winners}
 use Rattle.cert_facts.specs.Facts.{AreFacts, HasFacts}
 use Rattle.cert_facts.specs.declared.shown.CertFacts.{CertFacts}
 use Rattle.cert_form.specs.Certificate.{CertValue}
@@ -16,21 +15,18 @@ use Rattle.cert_laws.specs.Sound.{IsSound, cert_point}
 use Rattle.cert_laws.specs.Tests.{Holds, bidders_of, states}
 use Rattle.cert_text.specs.CertValues.{cert_value, IsFor}
 use Rattle.cert_text.specs.declared.certificate.Certificate.{Certificate}
-use Rattle.book_price.specs.Stops.{IsBookStop}
 use Rattle.auction_model.specs.Prices.{weight_of}
 use Rattle.core_price.specs.Weights.{FewWin}
 use Rattle.core_price.specs.Turns.{IsPointOfTurn, turns_of}
-use Rattle.core_price.specs.declared.priced.PriceStop.TheVariants.{Winners as TooMany}
 use Rattle.core_price.specs.declared.priced.Turn.{Turn}
 use Rattle.outcome.specs.Payments.{ArePayments}
 use Rattle.outcome.specs.Turns.{CanPrintTurn}
 use Rattle.row_laws.specs.Turns.{IsLastPoint}
 use Rattle.wide_num.specs.Range.{InRange}
-use Rattle.cca_inputs.specs.Outcome.{done, stopped}
+use Rattle.cca_inputs.specs.Outcome.{done}
 use Rattle.cca_inputs.specs.declared.file_text.FileText.{FileText}
 use Rattle.cca_inputs.specs.declared.price_form.PriceForm.{PriceForm}
 use Rattle.cca_run.specs.Gives.{ArePrinted, IsYesText, PriceGives, VerdictGives, cert_file}
-use Rattle.cca_inputs.specs.declared.status.Status.TheVariants.{Limit}
 
 den-range : (d : ℤ) → pos 1 ≤ℤ d → d ≤ℤ pos (320 ^ 4) → InRange d
 den-range (pos d) low high = omega (arith, ints, high)
@@ -83,7 +79,3 @@ can_print-facts book c facts turns are can = subst (λ (z : List ℕ). AllByRecu
 pub accepts : (book : BookValue) (weights : List ℕ) (c : CertValue) (text : List ℕ) (appended : List FileText) → appended ≡ [] → Holds book (weight_of weights) c → IsSound book (weight_of weights) c
     → IsYesText book c text → VerdictGives book weights c (done text appended) × (map (λ t. t.kind) appended ≡ [])
 accepts book weights c text appended none holds sound shown = (inl (holds, sound, (text, shown, ap (done text) none)), ap (map (λ (t : FileText). t.kind)) none)
-
--- too many winners give the limit
-pub too-many : (book : BookValue) (weights : List ℕ) (form : PriceForm) (n : ℕ) → IsBookStop book weights (TooMany n) → PriceGives book weights form (stopped (Limit Winners n))
-too-many book weights form n stop = inr (stop.0, record { winning = stop.1; many = stop.2 }, ap (λ (k : ℕ). stopped (Limit Winners k)) stop.3)

@@ -1,5 +1,5 @@
 -- Two texts that are put one after the other.
-use Rattle.std.proofs.Common.{inl, inr, ◌≡◌, ◌∙◌, ℕ, ◌≤◌, ◌+◌, ◌-◌, Bool, true, false, Option, Some, None, List, ◌++◌, length, take, refl, sym, ap, subst, arith, append_assoc}
+use Rattle.std.proofs.Common.{inr, ◌≡◌, ◌∙◌, ℕ, ◌≤◌, ◌+◌, ◌-◌, Bool, true, false, Option, Some, None, List, ◌++◌, length, take, refl, sym, ap, subst, arith, append_assoc}
 use Rattle.std.specs.Option.{option_map, IfSome}
 use Rattle.std.proofs.lemmas.List.{length-append, take-append-le}
 use Rattle.std.proofs.Math.Seq.{take-length, take-append-add}
@@ -64,9 +64,3 @@ second-fails old mid new a b status one whole le first is p q = by (subst (Writt
     by : Written old mid a true → Written mid new b false → Prints old new (a ++ b) status (WriteFault Out)
     by p w = let cut = w.1 in
         inr (refl, rose-from old.faults mid.faults new.faults le w.0, (length a + cut.0, (let l = cut.1 in omega (arith, l, length-append a b)), puts-on old mid new a b cut.0 p cut.2), λ has. w.2 (room-behind old.room mid.room a b p.room has))
-
--- both were written whole
-pub both-written : (old mid new : Output) (a b : List ℕ) (status : Status) (one other : Bool) → one ≡ true → other ≡ true → Written old mid a one → Written mid new b other → Prints old new (a ++ b) status status
-both-written old mid new a b status one other first second p q =
-    let whole = puts-on old mid new a b (length b) (subst (Written old mid a) first p) (subst (Written mid new b) second q) in
-    inl (refl, subst (Puts old new (a ++ b)) (sym (length-append a b)) whole)

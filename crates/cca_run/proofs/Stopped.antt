@@ -1,10 +1,10 @@
 -- How a run ends whose way to the work stopped, or whose words say no command.
-use Rattle.std.proofs.Common.{inl, inr, ◌≡◌, ◌⊎◌, ◌∙◌, ℕ, ◌<◌, IsTrue, Some, None, List, [], ◌++◌, length, refl, sym, ap, subst}
+use Rattle.std.proofs.Common.{inl, inr, ◌≡◌, ◌⊎◌, ◌∙◌, ℕ, ◌<◌, IsTrue, Some, List, [], ◌++◌, length, refl, sym, ap, subst}
 use Rattle.cca_base.specs.Faults.{Rose}
 use Rattle.cca_base.specs.Files.{Folder, KeepsFiles}
 use Rattle.cca_base.specs.Sink.{HasRoom, Output, Puts}
 use Rattle.cca_inputs.specs.Command.{CommandValue, outputs_of}
-use Rattle.cca_inputs.specs.Outcome.{Outcome, stopped, stopped_after}
+use Rattle.cca_inputs.specs.Outcome.{Outcome, stopped_after}
 use Rattle.cca_inputs.specs.StatusLine.{status_line}
 use Rattle.cca_inputs.specs.Statuses.{IsDecided, IsHindered, IsStop}
 use Rattle.cca_inputs.specs.declared.status.FileKind.{FileKind}
@@ -36,42 +36,6 @@ module _ (before now : Output) (text : List ℕ) (status result : Status) (print
 module _ (folder : Folder) (before now : Output) (line : List ℕ) (result : Status) (is : line ≡ status_line Words) (prints : Prints before now line Words result) where
   keeps : KeepsFiles folder folder
   keeps = record { knows = refl; told = refl; file = refl; room = refl }
-
-  never-read : (kind : FileKind) → result ≡ ReadFault kind → ⊥
-  never-read kind r = as-result before now line Words result prints ⊥
-      (λ e w. let x : Words ≡ ReadFault kind = sym e ∙ r in cc) (λ e rose cut full. let x : WriteFault Out ≡ ReadFault kind = sym e ∙ r in cc)
-
-  wrote-out : (kind : FileKind) → result ≡ WriteFault kind → (Out ≡ kind) × Rose before.faults now.faults
-  wrote-out kind r = as-result before now line Words result prints _
-      (λ e w. let x : Words ≡ WriteFault kind = sym e ∙ r in absurd cc)
-      (λ e rose cut full. let x : WriteFault Out ≡ WriteFault kind = sym e ∙ r in (let same : Out ≡ kind = cc in same, rose))
-
-  -- the files and the output are as a run without a command leaves them
-  pub no-command : RunEnds None folder folder before now result
-  no-command = record {
-    words = λ w. refl;
-    read_fault = λ kind r. absurd (never-read kind r);
-    write_fault = λ kind w. let o = wrote-out kind w in subst (λ (k : FileKind). IsWriteFault None folder folder before now k) o.0 o.1;
-    answer = λ told decided. as-result before now line Words result prints _
-        (λ e w. (stopped Words, refl, sym e, subst (λ (l : List ℕ). Puts before now l (length l)) is w, keeps)) (λ e rose cut full. absurd (subst IsDecided e decided));
-    line = λ h. as-result before now line Words result prints _
-        (λ e w. let same : line ≡ status_line result = is ∙ ap status_line (sym e) in subst (λ (l : List ℕ). Puts before now l (length l)) same w)
-        (λ e rose cut full. absurd (elim h [
-          | inl x ↦ (let y : WriteFault Out ≡ Words = sym e ∙ x in cc)
-          | inr x ↦ subst IsHindered e x
-        ]));
-    front = λ r. as-result before now line Words result prints _
-        (λ e w. let x : Words ≡ WriteFault Out = sym e ∙ r in absurd cc)
-        (λ e rose cut full. (line, cut.0, cut.1, cut.2, (λ told. inl (stopped Words, refl, is)), full));
-    kept = λ k. keeps;
-    files = keeps;
-    loads = among-none [] folder.load_faults;
-    appends = among-none [] folder.append_faults;
-  }
-
-  -- its status is Words, or a fault of the output
-  pub words_or_out : (result ≡ Words) ⊎ (result ≡ WriteFault Out)
-  words_or_out = as-result before now line Words result prints _ (λ e w. inl e) (λ e rose cut full. inr e)
 
 -- the way to the work of a command stopped
 module _ (command : CommandValue) (old new : Folder) (before now : Output) (stop : Stop) (result : Status) (reads : OnlyReads command old new) (stops : StopsBy command old new stop)

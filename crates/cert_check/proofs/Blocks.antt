@@ -38,12 +38,6 @@ width-is (b ∷ supply) some =
     swap' = omega arith
 
 module _ (rule : LineRule) (base : ℕ) where
-  -- a package of no category fits everywhere
-  pub block-empty : (supply : List ℕ) (stop r : ℕ) → FirstFault (CoversRun rule base (base + states_of supply)) stop r → FirstFault (CoversBlock rule base supply []) stop r
-  block-empty supply stop r f = fault-same (CoversRun rule base (base + states_of supply)) (CoversBlock rule base supply []) stop r
-      (λ s run n lt is fits. run (omega (arith, is)) (omega (arith, lt, is)))
-      (λ s block start stop. block (s - base) (omega (arith, start, stop)) (omega (arith, start)) refl) f
-
   -- one category: a run
   pub block-last : (b a : ℕ) (supply : List ℕ) (stop r : ℕ) → FirstFault (CoversRun rule (base + a * states_of supply) (base + states_of (b ∷ supply))) stop r → FirstFault (CoversBlock rule base (b ∷ supply) (a ∷ [])) stop r
   block-last b a supply stop r f = fault-same (CoversRun rule (base + a * states_of supply) (base + states_of (b ∷ supply))) (CoversBlock rule base (b ∷ supply) (a ∷ [])) stop r
@@ -123,11 +117,6 @@ module _ (rule : LineRule) (base : ℕ) where
       → FirstFault (CoversSome rule base supply lots (d * states_of (drop 1 supply))) stop r → FirstFault (CoversBlock rule base supply lots) stop r
   all-list [] lots d stop r some e f = absurd (omega arith)
   all-list (b ∷ supply) lots d stop r some e f = subst (λ (x : ℕ). FirstFault (CoversSome rule base (b ∷ supply) lots (x * states_of supply)) stop r) (omega (arith, e)) f
-
-  -- a package of no category fits at all places of the block
-  pub empty-list : (supply lots : List ℕ) (stop r : ℕ) → length lots ≡ 0 → FirstFault (CoversRun rule base (base + states_of supply)) stop r → FirstFault (CoversBlock rule base supply lots) stop r
-  empty-list supply [] stop r none f = block-empty supply stop r f
-  empty-list supply (a ∷ lots) stop r none f = absurd (omega (arith, none))
 
   -- a package of one category fits from its own count on
   pub last-list : (supply lots : List ℕ) (stop r : ℕ) → length lots ≡ 1 → length lots ≤ length supply

@@ -91,10 +91,6 @@ needless-better o j i h kept known some den better = record {
   none = λ e. absurd (omega (arith, some, e));
 }
 
--- so is a bid that is worth nothing or less
-pub needless-nothing : (o : Offers) (j i : ℕ) → 0 < i → worth_of o j i ≤ℤ pos 0 → IsNeedless o j i
-needless-nothing o j i some le = record { other = 0; earlier = some; smaller = refl; worth = λ h. absurd (omega (arith, h)); none = λ _. le }
-
 module _ (o : Offers) (j i : ℕ) (line below : List ℤ) (places : length line ≡ states o.book.now) (grows : Grows o.book.now.supply below) where
   -- what is left after the larger package is no more worth
   rest-grows : (h s : ℕ) → s < states o.book.now → IsTrue (is_within (lots_of o.book.now j h) (lots_of o.book.now j i))

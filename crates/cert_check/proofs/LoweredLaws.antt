@@ -1,5 +1,5 @@
 -- C9 from the test of the lowered table, and the size of lowered worths.
-use Rattle.std.specs.Prelude.{◌≡◌, ℕ, suc, ◌+◌, ◌-◌, ◌*◌, ◌^◌, ◌<◌, ◌≤◌, List, length, get_or, Option, ℤ, pos, ◌+ℤ◌, ◌*ℤ◌, ◌≤ℤ◌, ◌<ℤ◌, unsigned_abs, refl}
+use Rattle.std.specs.Prelude.{◌≡◌, ℕ, suc, ◌+◌, ◌-◌, ◌*◌, ◌^◌, ◌<◌, ◌≤◌, List, length, get_or, Option, ℤ, pos, ◌+ℤ◌, ◌*ℤ◌, ◌≤ℤ◌, ◌<ℤ◌, unsigned_abs}
 use Rattle.std.proofs.Common.{sym, ◌∙◌, ap, subst, arith}
 use Rattle.std.proofs.lemmas.Int.{ints, unsigned_abs-mul}
 use Rattle.std.proofs.Math.Nat.{mul-le-mul_left}
@@ -75,10 +75,6 @@ pub record IsPaidTo (payments : List ℤ) (k : ℕ) (sum : ℤ) : Type 0 where
   pub sum_is : sum ≡ sum_over everyone (of_bidder payments) k
   -- it is within what k numbers of the range can sum to
   pub size : unsigned_abs sum ≤ k * 2 ^ 120
-
--- the payments of no bidders sum to 0
-pub paid-start : (payments : List ℤ) → IsPaidTo payments 0 (pos 0)
-paid-start payments = record { sum_is = refl; size = omega arith }
 
 -- the payment of one bidder more is added
 pub paid-next : (payments : List ℤ) (k : ℕ) (sum : ℤ) → AllInRange payments → IsPaidTo payments k sum → IsPaidTo payments (k + 1) (sum +ℤ get_or payments k (pos 0))

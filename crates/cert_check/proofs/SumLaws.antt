@@ -85,10 +85,6 @@ module _ (sum item : ℤ) (k : ℕ) (few : k < 16) (own : unsigned_abs item ≤ 
   pub next-size : unsigned_abs (to_z w128 (of_z w128 (sum +ℤ to_z w128 (of_z w128 item)))) ≤ (k + 1) * 2 ^ 120
   next-size = omega (arith, ints)
 
--- equal lists of rows have as many row values
-pub count-same : (rows others : List CertRow) → others ≡ rows → length others ≡ length (map row_value rows)
-count-same rows others e = ap (λ (l : List CertRow). length l) e ∙ sym (length-map rows row_value)
-
 -- equal lists of rows have the same sums over the rows that hold a bidder
 pub holding-same : (rows others : List CertRow) (j : ℕ) (number : RowValue → ℤ) → others ≡ rows → sum_holding (map row_value others) j number (length others) ≡ sum_holding (map row_value rows) j number (length (map row_value rows))
 holding-same rows others j number e =

@@ -79,10 +79,6 @@ module _ (o : Offers) (table : List (List ℤ)) (is : IsTable (bidders_of o.book
       let p = first_rule (offered o) (worth_of o) o.book.now.supply table k r le lt (λ l t less in_line. lines l t less in_line) (λ t less. f.before t less (omega (arith, less, lt))) (λ obeys. f.fails lt (λ inside. obeys)) in
       (p.1, p.0)
 
-  -- where every line keeps its rules, the whole table does
-  pub table-keeps : ((l s : ℕ) → l < suc (bidders_of o.book.now) → ObeysIn o table l s) → IsFirstFailing (RulesAt o table) None
-  table-keeps lines place k s le lt e = lines k s (omega (arith, le)) lt
-
   -- a line whose first fault is behind its places keeps its rules everywhere
   pub line-keeps : (k r : ℕ) → states o.book.now ≤ r → FirstFault (ObeysIn o table k) (states o.book.now) r → (s : ℕ) → ObeysIn o table k s
   line-keeps k r past f s lt = f.before s (omega (arith, lt, past)) lt

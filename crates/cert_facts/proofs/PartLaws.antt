@@ -1,6 +1,6 @@
 -- The parts of a certificate without each winner: each is found by its winner, which the choice uses.
 use Rattle.std.proofs.Common.{◌≡◌, ℕ, zero, suc, ◌+◌, ◌<◌, ◌≤◌, cond, List, [], ◌∷◌, ◌++◌, length, get_or, take, map, refl, sym, ap, subst, ◌∙◌, arith, eq-eqb}
-use Rattle.std.proofs.lemmas.List.{get_or-map, length-map, map_more, map_push, take_all}
+use Rattle.std.proofs.lemmas.List.{get_or-map, length-map, take_all}
 use Rattle.std.specs.List.{AllByRecursion}
 use Rattle.auction_model.specs.Book.{Book}
 use Rattle.bid_book.proofs.Within.{each_at}
@@ -65,15 +65,6 @@ module _ (book : Book) (c : Certificate) (items : List WithoutPart) (same : item
         wins = wins.2;
         found = subst (λ (x : WithoutValue). part_of ws x.winner ≡ x) at (found _ _ 0 c.choice ws i (without_value w) are long);
       }
-
-  -- the singles of the parts so far, and of one more
-  pub next-single : (i : ℕ) (w : WithoutPart) (so-far new : List Single) (s : Single) → i < length items → w ≡ get_or items i w → so-far ≡ map (single_of book (cert_value c)) (map without_value (take i items))
-      → s ≡ single_of book (cert_value c) (without_value w) → new ≡ so-far ++ s ∷ [] → new ≡ map (single_of book (cert_value c)) (map without_value (take (i + 1) items))
-  next-single i w so-far new s inside item are is made =
-      let more : map without_value (take (i + 1) items) ≡ map without_value (take i items) ++ without_value w ∷ [] =
-      map_more without_value items i w inside ∙ ap (λ (x : WithoutPart). map without_value (take i items) ++ without_value x ∷ []) (sym item) in
-      made ∙ ap (λ (l : List Single). l ++ s ∷ []) are ∙ ap (λ (x : Single). map (single_of book (cert_value c)) (map without_value (take i items)) ++ x ∷ []) is
-      ∙ sym (ap (map (single_of book (cert_value c))) more ∙ map_push (single_of book (cert_value c)) (map without_value (take i items)) (without_value w))
 
   -- behind the last item they are the singles of all parts
   pub all-singles : (i : ℕ) (list : List Single) → length items ≤ i → list ≡ map (single_of book (cert_value c)) (map without_value (take i items)) → list ≡ map (single_of book (cert_value c)) (cert_value c).withouts

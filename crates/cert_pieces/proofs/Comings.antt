@@ -1,19 +1,18 @@
 -- The line of a certificate that is due, and the lines that are left behind it.
-use Rattle.std.proofs.Common.{◌≡◌, ◌≢◌, ℕ, suc, zero, ◌+◌, ◌-◌, ◌≤◌, ◌<◌, Bool, true, false, List, [], ◌∷◌, ◌++◌, length, drop, get_or, refl, sym, ap, subst, ◌∙◌, arith, append_assoc, drop-cons}
+use Rattle.std.proofs.Common.{◌≡◌, ◌≢◌, ℕ, suc, zero, ◌+◌, ◌-◌, ◌≤◌, ◌<◌, Bool, true, false, List, [], ◌∷◌, ◌++◌, length, drop, get_or, refl, sym, ap, subst, ◌∙◌, arith, append_assoc}
 use Rattle.std.proofs.lemmas.Bool.Decides.{nat_tests}
-use Rattle.std.proofs.lemmas.List.{drop_all}
-use Rattle.std.specs.Prelude.{ℤ, pos, codes, slice_index_or, nat_le, nat_eq, if◌then◌else◌}
+use Rattle.std.specs.Prelude.{ℤ, pos, codes, nat_le, nat_eq, if◌then◌else◌}
 use Rattle.cert_form.specs.Certificate.{CertValue, WithoutValue, RowValue, part_of}
 use Rattle.cert_form.specs.Lines.{Line, is_first_version, version_of}
 use Rattle.cert_form.specs.CertText.{line, as_numbers, choice_line, table_lines, part_lines, row_lines, body_lines, cert_lines, IsCertificate, IsWithout, AreWithouts}
 use Rattle.cert_form.proofs.Version.{version_is}
 use Rattle.cert_form.proofs.Written.{long_numbers}
 use Rattle.cert_pieces.specs.declared.due.Due.{Due}
-use Rattle.cert_pieces.specs.declared.due.Due.TheVariants.{Version, Limits, Den, Title, Entries, Without, Payments, Rows, Members, Multipliers}
+use Rattle.cert_pieces.specs.declared.due.Due.TheVariants.{Version, Without, Payments, Rows}
 use Rattle.cert_pieces.specs.declared.due.Table.{Table}
 use Rattle.cert_pieces.specs.declared.due.Table.TheVariants.{Head, Part, Lowered}
 use Rattle.cert_pieces.specs.Dues.{version_number}
-use Rattle.cert_pieces.specs.LinesLeft.{parts_behind, table_in, closing_left, rows_left, counted_left, parts_left, table_left, row_at, limits_lines, opening_left, lines_left, HasPart, HasDue, ComesNext}
+use Rattle.cert_pieces.specs.LinesLeft.{parts_behind, table_in, closing_left, rows_left, counted_left, parts_left, limits_lines, lines_left, HasPart, HasDue, ComesNext}
 
 -- tests of order, as a Bool
 above : (m n : ℕ) → n < m → nat_le m n ≡ false
@@ -127,39 +126,11 @@ module _ (b s : ℕ) (c : CertValue) (is : IsCertificate b s c) where
       (append_assoc (table_lines c.table) (part_lines c.withouts) (line (codes "pay") c.pay ∷ counted_left c)
       ∙ ap (λ (ws : List WithoutValue). table_lines c.table ++ (part_lines ws ++ line (codes "pay") c.pay ∷ counted_left c)) (sym (behind_low b s 0 1 c.choice c.withouts is.withouts (omega arith))))
 
-  -- behind the first version the denominator comes
-  pub first_comes : is_first_version b s ≡ true → ComesNext b s c Version Den
-  first_comes first = record { left = ap (λ (f : Bool). line (codes "cert") (pos (version_number (is_first_version b s)) ∷ []) ∷ (limits_lines f ++ opening_left c)) first; has = tt }
-
-  -- and behind the second its limits
-  pub limits_come : is_first_version b s ≡ false → ComesNext b s c Version Limits
-  limits_come second = record { left = ap (λ (f : Bool). line (codes "cert") (pos (version_number (is_first_version b s)) ∷ []) ∷ (limits_lines f ++ opening_left c)) second; has = tt }
-
   -- a table has a line for each bidder and one more
   table_long : (table : Table) → HasPart b s c table → length (table_in c table) ≡ suc b
   table_long Head has = is.table.0
   table_long (Part j) has = has.table.0
   table_long Lowered has = is.lowered.0
-
-  -- a line of a table comes
-  line_left : (table : Table) (k : ℕ) → HasPart b s c table → k ≤ b → lines_left b s c (Entries table k) ≡ line (codes "t") (slice_index_or (table_in c table) k []) ∷ lines_left b s c (Entries table (k + 1))
-  line_left table k has le =
-      let lt : k < length (table_in c table) = omega (arith, table_long table has, le) in
-      ap (λ (l : List (List ℤ)). table_lines l ++ table_left c table) (drop-cons (table_in c table) k [] lt)
-      ∙ ap (λ (n : ℕ). line (codes "t") (slice_index_or (table_in c table) k []) ∷ (table_lines (drop n (table_in c table)) ++ table_left c table)) {x = suc k} {y = k + 1} (omega arith)
-
-  -- behind a line of a table the next one comes
-  pub entries_come : (table : Table) (k : ℕ) → HasPart b s c table → k < b → ComesNext b s c (Entries table k) (Entries table (k + 1))
-  entries_come table k has lt = record { left = line_left table k has (omega (arith, lt)); has = has }
-
-  -- behind the last line of a table comes what stands behind the table
-  pub last_comes : (table : Table) (k : ℕ) (next : Due) → HasPart b s c table → k ≤ b → b ≤ k → table_left c table ≡ lines_left b s c next → HasDue b s c next → ComesNext b s c (Entries table k) next
-  last_comes table k next has le end behind due = record {
-    left = line_left table k has le
-        ∙ ap (λ (l : List (List ℤ)). line (codes "t") (slice_index_or (table_in c table) k []) ∷ (table_lines l ++ table_left c table)) (drop_all (k + 1) (table_in c table) (omega (arith, table_long table has, end)))
-        ∙ ap (λ (l : List Line). line (codes "t") (slice_index_or (table_in c table) k []) ∷ l) behind;
-    has = due;
-  }
 
   module _ (choice : List ℤ) (known : choice ≡ as_numbers c.choice) (k : ℕ) where
     -- the number of a bidder
@@ -201,16 +172,4 @@ module _ (b s : ℕ) (c : CertValue) (is : IsCertificate b s c) where
     left = ap (λ (l : List RowValue). line (codes "rows") (pos (length c.rows) ∷ []) ∷ (row_lines l ++ closing_left c)) (sym (ap (λ (n : ℕ). drop n c.rows) {y = 0} (omega (arith, count))))
         ∙ ap (λ (l : List Line). line (codes "rows") (pos (length c.rows) ∷ []) ∷ l) behind;
     has = due;
-  }
-
-  -- no row is left
-  pub no_rows : rows_left c 0 ≡ lines_left b s c (Title Lowered)
-  no_rows = ap (λ (l : List RowValue). row_lines l ++ closing_left c) (drop_all (length c.rows - 0) c.rows (omega arith))
-
-  -- behind a row's members its multipliers come
-  pub row_comes : (r : ℕ) → 0 < r → r ≤ length c.rows → ComesNext b s c (Members r) (Multipliers r)
-  row_comes r some le = record {
-    left = ap (λ (l : List RowValue). row_lines l ++ closing_left c) (drop-cons c.rows (length c.rows - r) (record { members = []; first = pos 0; second = pos 0; choice = [] }) (omega (arith, some, le)))
-        ∙ ap (λ (n : ℕ). line (codes "row") (as_numbers (row_at c r).members) ∷ line (codes "mult") ((row_at c r).first ∷ (row_at c r).second ∷ []) ∷ choice_line (row_at c r).choice ∷ (row_lines (drop n c.rows) ++ closing_left c)) {x = suc (length c.rows - r)} {y = length c.rows - (r - 1)} (omega (arith, some, le));
-    has = le;
   }

@@ -156,26 +156,6 @@ count_next bidders most ns z none some (empty, (r, e, few, has)) =
       ],
     )
 
--- and such a count may stand there
-pub count_first : (bidders : ℕ) (most : ℤ) (ns : List ℤ) (z : ℤ) → (bidders ≡ 0 → most ≡ pos 0) → (0 < bidders → most ≡ pos 10) → length ns ≡ 0 → negsuc 0 <ℤ z → z ≤ℤ most → MayFollow (counted bidders) ns z
-count_first bidders most [] (pos r) none some empty low high = (
-  refl,
-  (
-    r,
-    refl,
-    elim (cases_lt 0 bidders) [
-      | inl has_one ↦ omega (arith, ints, high, some has_one)
-      | inr has_none ↦ omega (arith, ints, high, none (omega (arith, has_none)))
-    ],
-    λ row. elim (cases_lt 0 bidders) [
-      | inl has_one ↦ has_one
-      | inr has_none ↦ absurd (omega (arith, ints, row, high, none (omega (arith, has_none))))
-    ],
-  ),
-)
-count_first bidders most [] (negsuc r) none some empty low high = absurd (omega (arith, ints, low))
-count_first bidders most (n ∷ ns) z none some empty low high = absurd (omega (arith, empty))
-
 -- the last member that is kept
 pub last_kept : (bidders : ℕ) (ns out : List ℤ) (count : ℕ) → Keeps ns out count false → Rise bidders (pos 0) ns → 0 < count → (get_or out (count - 1) (pos 0) ≡ last_of (pos 0) ns) × (pos 0 ≤ℤ last_of (pos 0) ns)
 last_kept bidders [] out count keeps rise some = absurd (omega (arith, keeps.many, some))

@@ -13,4 +13,3 @@ pub mod Stated
 pub mod Comings
 pub mod Fills
 pub mod RoomParts
-pub mod OtherRooms

@@ -155,28 +155,6 @@ module _ (b s : ℕ) where
           ]
         ]
 
-    -- the rows are left alone by each line
-    pub rows_kept : (from size : ℕ) → rows_start b ≤ from → from + size ≤ rows_start b + 30 → take size (drop from new) ≡ take size (drop from old)
-    rows_kept from size low high = others_kept 8 from size (omega arith) (no_row due) low (omega (arith, high))
-      where
-        no_row : (due : Due) → 8 ≡ part_due due → ⊥
-        no_row Version e = omega (arith, e)
-        no_row Limits e = omega (arith, e)
-        no_row Den e = omega (arith, e)
-        no_row Value e = omega (arith, e)
-        no_row Choice e = omega (arith, e)
-        no_row (Title table) e = omega (arith, e)
-        no_row (Entries table k) e = omega (arith, e)
-        no_row (Without j) e = omega (arith, e)
-        no_row (PartChoice j) e = omega (arith, e)
-        no_row Payments e = omega (arith, e)
-        no_row Rows e = omega (arith, e)
-        no_row (Members r) e = omega (arith, e)
-        no_row (Multipliers r) e = omega (arith, e)
-        no_row (RowChoice r) e = omega (arith, e)
-        no_row End e = omega (arith, e)
-        no_row Nothing e = omega (arith, e)
-
     -- a line whose numbers stand in another part keeps its numbers
     pub other_line_kept : (other : Due) → IsDue b other → (part_due other ≡ part_due due → ⊥) → segment b s other new ≡ segment b s other old
     other_line_kept other named apart = others_kept (part_due other) (start_due b s other) (room_for (form_due b s other)) (few_parts other) apart (from_bound other) (to_bound other named)

@@ -51,25 +51,6 @@ in_room b s (RowChoice r) is = omega arith
 in_room b s End is = omega arith
 in_room b s Nothing is = omega arith
 
--- all but the head's choice stand behind it
-pub behind_choice : (b s : ℕ) (due : Due) → due ≢ Choice → b ≤ start_due b s due
-behind_choice b s Version other = omega arith
-behind_choice b s Limits other = omega arith
-behind_choice b s Den other = omega arith
-behind_choice b s Value other = omega arith
-behind_choice b s Choice other = absurd (other refl)
-behind_choice b s (Title table) other = omega arith
-behind_choice b s (Entries table k) other = omega arith
-behind_choice b s (Without j) other = omega arith
-behind_choice b s (PartChoice j) other = omega arith
-behind_choice b s Payments other = omega arith
-behind_choice b s Rows other = omega arith
-behind_choice b s (Members r) other = omega arith
-behind_choice b s (Multipliers r) other = omega arith
-behind_choice b s (RowChoice r) other = omega arith
-behind_choice b s End other = omega arith
-behind_choice b s Nothing other = omega arith
-
 -- the first list of two
 take_front : (xs ys : List ℤ) → take (length xs) (xs ++ ys) ≡ xs
 take_front [] ys = refl

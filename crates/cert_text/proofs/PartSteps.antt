@@ -64,11 +64,6 @@ module _ (bytes : List ℕ) (place bidders states j : ℕ) where
     are = λ ns rest h. (is, h);
   }
 
-  -- for a winner a part is to come, and what halts in it halts here
-  pub part_halts : (number : ℕ) (stop : CertStop) → 0 < number → Halts bytes place (part_plan bidders states j) stop → Halts bytes place (unless_zero (pos number) (part_plan bidders states j)) stop
-  part_halts zero stop some h = absurd (omega (arith, some))
-  part_halts (suc n) stop some h = h
-
 -- the parts of the first bidders are read
 pub record PartsSoFar (bytes : List ℕ) (place bidders states : ℕ) (choice : List ℕ) (done next : ℕ) (parts : List WithoutPart) : Type 0 where
   pub leads : Leads bytes place (parts_plan bidders states 1 (as_numbers choice)) next (parts_plan bidders states (suc done) (as_numbers (drop done choice))) (part_lines (map without_value parts))
@@ -80,10 +75,6 @@ lines_both [] vs = refl
 lines_both (w ∷ ws) vs = ap (λ (l : List Line). own_lines w ++ l) (lines_both ws vs) ∙ sym (append_assoc (own_lines w) (part_lines ws) (part_lines vs))
 
 module _ (bytes : List ℕ) (place bidders states : ℕ) (choice : List ℕ) where
-  -- no part is read yet
-  pub parts_start : place ≤ length bytes → PartsSoFar bytes place bidders states choice 0 place []
-  parts_start within = record { leads = leads_none bytes place (parts_plan bidders states 1 (as_numbers choice)); are = λ rest h. h; within = within }
-
   abbrev left_from : ℕ → List ℕ → List Kind
   left_from done ns = parts_plan bidders states (suc done) (as_numbers ns)
 

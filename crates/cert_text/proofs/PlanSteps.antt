@@ -14,7 +14,7 @@ use Rattle.cert_form.proofs.Reading.{reached-missing, reached-next, reached-beyo
 use Rattle.text_lines.proofs.Words.{one_behind}
 use Rattle.cert_text.specs.Readers.{AreLike, IsLineAt, Leads, Halts}
 use Rattle.cert_text.specs.declared.stop.CertStop.{CertStop}
-use Rattle.cert_text.specs.declared.stop.CertStop.TheVariants.{Form, Range, Memory}
+use Rattle.cert_text.specs.declared.stop.CertStop.TheVariants.{Form, Range}
 
 -- the test of the range
 pub below : (x : ℕ) → nat_le (2 ^ 120) x ≡ false → x < 2 ^ 120
@@ -65,10 +65,6 @@ module _ (bytes : List ℕ) (place : ℕ) where
   -- halts at the kinds behind those that were read
   pub halts_then : (kinds : List Kind) (next : ℕ) (read : List Line) (others : List Kind) (stop : CertStop) → Leads bytes place kinds next [] read → Halts bytes next others stop → Halts bytes place (kinds ++ others) stop
   halts_then kinds next read others stop first halt = halts_later (kinds ++ others) next others read stop (leads_before kinds next [] read others first) halt
-
-  -- want of memory may halt anywhere
-  pub halts_memory : (kinds : List Kind) → Halts bytes place kinds Memory
-  halts_memory kinds = record { halts = λ whole plan items here. tt }
 
   module _ (word : List ℕ) (n : Numbers) where
     -- where no line feed is left, the line is of wrong form

@@ -4,7 +4,6 @@ use Rattle.std.specs.Prelude.{ℤ, map, ◌==◌}
 use Rattle.std.proofs.lemmas.Bool.{eqb-false}
 use Rattle.std.proofs.lemmas.List.{append-nil}
 use Rattle.line_text.specs.LineText.{IsLine, IsTextOf}
-use Rattle.choices.specs.Lines.{width_of}
 use Rattle.cert_form.specs.Certificate.{CertValue}
 use Rattle.cert_form.specs.Lines.{Line, Kind, version_lines, version_plan, body_plan, cert_plan, IsCertText, lines}
 use Rattle.cert_form.specs.CertText.{IsChoice, IsTable, AreWithouts, AreRows, IsCertificate, body_lines, cert_lines}
@@ -22,7 +21,6 @@ use Rattle.cert_text.specs.StagePlans.{opening_plan, opening_lines, winning_kind
 use Rattle.cert_text.specs.Stops.{StopsAt, StopsBy}
 use Rattle.cert_text.specs.Readers.{Leads, Halts, HaltsAtEnd}
 use Rattle.cert_text.proofs.PlanSteps.{leads_then, halts_before, halts_then}
-use Rattle.cert_text.proofs.TableSteps.{lines_width}
 
 -- the bytes have a line with its line feed, or none
 first_feed : (bytes : List ℕ) → IsLine bytes ⊎ ((n : ℕ) × IsLine (take n bytes) × (drop n bytes ≡ 10 ∷ drop (n + 1) bytes))
@@ -121,11 +119,3 @@ module _ (b s : ℕ) (bytes : List ℕ) where
 pub made : (b s : ℕ) (den value : ℤ) (choice : List ℕ) (table : List (List ℤ)) (withouts : List WithoutPart) (pay : List ℤ) (rows : List CertRow) (lowered : List (List ℤ)) → InRange den × InRange value → IsChoice b choice → IsTable b s table
     → AreWithouts b s 1 choice (map without_value withouts) → (length pay ≡ b) × AllInRange pay → length (map row_value rows) ≤ 10 → AreRows b (map row_value rows) → IsTable b s lowered → IsCertificate b s (cert_from den value choice table withouts pay rows lowered)
 made b s den value choice table withouts pay rows lowered range c t w p few r l = record { den = range.0; value = range.1; choice = c; table = t; withouts = w; pay = p; few = few; rows = r; lowered = l }
-
--- a table is as wide as there are states
-pub table_width : (b s : ℕ) (table : List (List ℤ)) → IsTable b s table → width_of table ≡ s
-table_width b s table t = lines_width s table t.1 (omega (arith, t.0))
-
--- for as many bidders and states as its choice and its table have
-pub made_own : (b s : ℕ) (c : CertValue) → IsCertificate b s c → IsCertificate (length c.choice) (width_of c.table) c
-made_own b s c is = subst (λ (n : ℕ). IsCertificate n (width_of c.table) c) (sym is.choice.0) (subst (λ (n : ℕ). IsCertificate b n c) (sym (table_width b s c.table is.table)) is)

@@ -13,7 +13,6 @@ use Rattle.text_lines.proofs.DecimalFields.{NoSpace, number_own, one_field}
 use Rattle.text_lines.specs.Decimals.{decimals_text}
 use Rattle.text_lines.specs.Fields.{FieldEnds}
 use Rattle.wide_num.proofs.Decimal.{decimal_one}
-use Rattle.edits_file.specs.EditsForm.{number_among}
 use Rattle.edits_file.specs.Stages.{BeginsWithCounts, BeginsWithNumber, IsHead, StatesBid, StatesPackage}
 
 -- counts that a line may state
@@ -103,17 +102,6 @@ head_counts book fields name behind bidder lots rest is_name parted ends head =
     let parts = one_field name head.name behind (decimals_text lots ++ rest) (name_own name is_name) (name_own head.name head.named.name_is) ends (ends_front lots rest head.ends) (sym parted ∙ head.spelled) in
     record { count = head.named.count; each = head.named.each; spelled = parts.1; ends = head.ends }
 
--- a bidder's name and the counts behind it are the front of the fields
-pub made_head : (book : Book) (fields name behind : List ℕ) (bidder : ℕ) (lots rest : List ℕ) → IsName name → fields ≡ name ++ behind → bidder ≡ number_among name 0 book.bidders
-    → BeginsWithCounts (length book.supply) behind lots rest → IsHead book fields bidder lots rest
-made_head book fields name behind bidder lots rest is_name parted bidder_is are = record {
-  name = name;
-  named = record { name_is = is_name; count = are.count; each = are.each };
-  spelled = parted ∙ ap (λ (l : List ℕ). name ++ l) are.spelled;
-  ends = are.ends;
-  bidder_is = bidder_is;
-}
-
 -- fields have one front
 rest_one : (book : Book) (fields : List ℕ) (i j : ℕ) (p q a b : List ℕ) → IsHead book fields i p a → IsHead book fields j q b → (p ≡ q) × (a ≡ b)
 rest_one book fields i j p q a b x y =
@@ -162,12 +150,3 @@ pub no_package : (book : Book) (fields : List ℕ) (j : ℕ) (q rest : List ℕ)
 no_package book fields j q rest head some bidder lots is =
     let one = rest_one book fields j bidder q lots rest [] head (package_head book fields bidder lots is) in
     omega (arith, some, ap length one.1)
-
--- where nothing is behind the counts, the fields are a package
-pub made_package : (book : Book) (fields : List ℕ) (bidder : ℕ) (lots rest : List ℕ) → IsHead book fields bidder lots rest → rest ≡ [] → StatesPackage book fields bidder lots
-made_package book fields bidder lots rest head none = record {
-  name = head.name;
-  named = head.named;
-  spelled = head.spelled ∙ ap (λ (l : List ℕ). head.name ++ (decimals_text lots ++ l)) none ∙ ap (λ (l : List ℕ). head.name ++ l) (append-nil (decimals_text lots));
-  bidder_is = head.bidder_is;
-}

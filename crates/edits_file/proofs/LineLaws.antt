@@ -157,10 +157,3 @@ remove_only book line fields is none (remove name lots) edit s =
     none _ lots (record { name = name; named = s.valid; spelled = append_cancel_left (codes "drop ") fields (name ++ decimals_text lots) (sym is ∙ s.spelled); bidder_is = refl })
 remove_only book line fields is none (add name lots amount) edit s = omega (arith, other_kind (add name lots amount) line (codes "rop ") fields 100 is s.spelled)
 remove_only book line fields is none (raise name lots amount) edit s = omega (arith, other_kind (raise name lots amount) line (codes "rop ") fields 100 is s.spelled)
-
--- a line with none of the words states no edit
-pub none_stated : (book : Book) (line : List ℕ) → ((fields : List ℕ) → line ≢ codes "add " ++ fields) → ((fields : List ℕ) → line ≢ codes "raise " ++ fields) → ((fields : List ℕ) → line ≢ codes "drop " ++ fields)
-    → (named : NamedEdit) (edit : Edit) → States book line named edit → ⊥
-none_stated book line no_add no_raise no_drop (add name lots amount) edit s = no_add (name ++ decimals_text (lots ++ amount ∷ [])) s.spelled
-none_stated book line no_add no_raise no_drop (raise name lots amount) edit s = no_raise (name ++ decimals_text (lots ++ amount ∷ [])) s.spelled
-none_stated book line no_add no_raise no_drop (remove name lots) edit s = no_drop (name ++ decimals_text lots) s.spelled

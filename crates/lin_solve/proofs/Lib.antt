@@ -16,4 +16,3 @@ pub mod Shared
 pub mod Siegel
 pub mod Small
 pub mod Stages
-pub mod TestedSystem

@@ -69,12 +69,3 @@ other_counts categories field more ns first are long =
 pub behind_space : (ns : List ℕ) → 0 < length ns → decimals_text ns ≡ 32 ∷ counts_text ns
 behind_space [] some = absurd (omega (arith, some))
 behind_space (n ∷ ns) some = refl
-
--- one count alone
-pub one_count : (text field more : List ℕ) (count : ℕ) → text ≡ field ++ more → more ≡ [] → field ≡ decimal count → text ≡ counts_text (count ∷ [])
-one_count text field more count split none is = split ∙ ap (λ (l : List ℕ). l ++ more) is ∙ ap (λ (l : List ℕ). decimal count ++ l) none
-
--- a count before others
-pub count_before : (text field more behind ns : List ℕ) (count : ℕ) → text ≡ field ++ more → more ≡ 32 ∷ behind → field ≡ decimal count → behind ≡ counts_text ns → 0 < length ns → text ≡ counts_text (count ∷ ns)
-count_before text field more behind ns count split spaced is rest some =
-    split ∙ ap (λ (l : List ℕ). l ++ more) is ∙ ap (λ (l : List ℕ). decimal count ++ l) (spaced ∙ ap (λ (l : List ℕ). 32 ∷ l) rest ∙ sym (behind_space ns some))

@@ -3,10 +3,9 @@ use Rattle.std.proofs.Common.{◌≡◌, ℕ, suc, zero, ◌+◌, ◌<◌, ◌�
 use Rattle.std.proofs.lemmas.Bool.{cases_Bool, false≢true}
 use Rattle.std.proofs.lemmas.Option.{same_Some}
 use Rattle.csv.specs.Machine.{Read, next_record, step, ends_at_end, is_end}
-use Rattle.csv.specs.Reading.{default_config, records, records_from, ReadRecord, Reached, source_of, ExplainsRead, stops_reader, is_flexible, reader_trim, took_first, Ready}
+use Rattle.csv.specs.Reading.{default_config, records, records_from, ReadRecord, Reached, source_of, is_flexible, reader_trim, took_first, Ready}
 use Rattle.csv.specs.declared.reader.Trim.TheVariants as trim
 use Rattle.log_file.specs.RecordsLeft.{HasLeft, Takes}
-use Rattle.csv.specs.declared.error.ErrorKind.{ErrorKind}
 use Rattle.csv.specs.declared.error.ErrorKind.TheVariants as kind
 use Rattle.csv.specs.declared.reader.Reader.{Reader}
 use Rattle.csv.proofs.ReadFacts.{rows-more, rows-end}
@@ -116,15 +115,6 @@ takes rem a b true f rows left r first same =
     )
 takes rem a b false f rows left r first same =
     sym left.rows_are ∙ records-end left.fuel a.state left.bytes left.room (rows-end rem a b f default_config left.bytes left.config left.source r)
-
--- a flexible reader of bytes fails only for what stops it
-pub stops-flexible : {R : Type 0} (rem : R → Option (List ℕ)) (a b : Reader R) (k : ErrorKind) → is_flexible a ≡ true → ExplainsRead rem a b false k → stops_reader k ≡ true
-stops-flexible rem a b (kind.Io e) flexible h = refl
-stops-flexible rem a b kind.OutOfMemory flexible h = refl
-stops-flexible rem a b (kind.UnequalLengths pos expected len) flexible h = absurd (false≢true (sym h.0 ∙ flexible))
-stops-flexible rem a b (kind.Utf8 pos err) flexible h = absurd (false≢true h.0)
-stops-flexible rem a b (kind.Serialize text) flexible h = absurd h
-stops-flexible rem a b (kind.Deserialize pos err) flexible h = absurd h
 
 -- a read that found a record has the fields of the first one left, and the others are left
 pub found_one : {R : Type 0} (known : R → Option (List ℕ)) (reader : Reader R) (rows : List (List (List ℕ))) (found : Bool) (fields : List (List ℕ)) → found ≡ true → Takes known reader rows found fields

@@ -1,6 +1,6 @@
 -- What a replay makes of one line more, and where it ends.
-use Rattle.std.proofs.Common.{◌≡◌, ℕ, zero, suc, ◌+◌, ◌<◌, ◌≤◌, true, false, List, [], ◌∷◌, ◌++◌, length, take, reverse, get_or, refl, sym, ap, subst, ◌∙◌, inl, inr, arith}
-use Rattle.std.specs.Prelude.{Ok, Err}
+use Rattle.std.proofs.Common.{◌≡◌, ℕ, zero, suc, ◌+◌, ◌<◌, ◌≤◌, true, List, [], ◌∷◌, ◌++◌, length, take, reverse, get_or, sym, ap, subst, ◌∙◌, inl, inr, arith}
+use Rattle.std.specs.Prelude.{Ok}
 use Rattle.std.specs.List.{AllByRecursion}
 use Rattle.std.proofs.lemmas.List.{length-reverse, length-take, reverse-append, take_all, take_more}
 use Rattle.auction_model.specs.Book.{Book}
@@ -18,7 +18,6 @@ use Rattle.clock_stage.proofs.ClockLaws.{terms-state_of}
 use Rattle.log_replay.specs.Course.{Answers, IsAnswered, IsCourse, TakesLine}
 use Rattle.log_replay.specs.ReplyLines.{book_or_open}
 use Rattle.log_replay.specs.declared.lines.Course.{Course}
-use Rattle.log_replay.specs.declared.results.ReplayStop.TheVariants.{Open}
 
 -- and so does a desk that stands for a log
 pub terms-in : (terms : Terms) (log : List Event) (desk : DeskState) → desk ≡ state_of terms log → desk.terms ≡ terms
@@ -43,12 +42,6 @@ book-closed desk book closed made terms log is =
     let complete : is_complete terms log ≡ true = ap (λ (d : DeskState). is_closed d.stage) (sym is) ∙ ap is_closed closed in
     let same : book ≡ book_of_log terms log = made log (stands-for terms log desk is) ∙ ap (λ (t : Terms). book_of_log t log) (terms-in terms log desk is) in
     rw complete (ap Ok same)
-
--- a desk that isn't closed has none
-pub book-open : (desk : DeskState) → is_closed desk.stage ≡ false → (terms : Terms) (log : List Event) → desk ≡ state_of terms log → Err Open ≡ book_or_open terms log
-book-open desk unclosed terms log is =
-    let incomplete : is_complete terms log ≡ false = ap (λ (d : DeskState). is_closed d.stage) (sym is) ∙ unclosed in
-    rw incomplete refl
 
 -- a course over one more line of the events, of which so many were taken
 pub takes-next : (terms : Terms) (events given : List Event) (i : ℕ) (line : Event) (old new : Course) → given ≡ events → i < length given → line ≡ get_or given i line

@@ -1,5 +1,5 @@
 -- A winner of the facts: its bid is one of the book, and what is printed of it stays within the range.
-use Rattle.std.proofs.Common.{◌≡◌, ℕ, zero, suc, ◌+◌, ◌-◌, ◌<◌, ◌≤◌, ◌^◌, ◌==◌, not, true, IsTrue, List, length, get_or, map, ℤ, pos, ◌+ℤ◌, ◌*ℤ◌, FitsSigned, to_z, of_z, unsigned_abs, sym, ap, subst, ◌∙◌, arith}
+use Rattle.std.proofs.Common.{◌≡◌, ℕ, zero, suc, ◌+◌, ◌-◌, ◌<◌, ◌≤◌, ◌^◌, ◌==◌, not, true, IsTrue, List, length, get_or, map, ℤ, pos, ◌+ℤ◌, ◌*ℤ◌, to_z, of_z, unsigned_abs, sym, ap, subst, ◌∙◌, arith}
 use Rattle.std.specs.Int.{w128}
 use Rattle.std.specs.List.{AllByRecursion}
 use Rattle.std.proofs.lemmas.Int.{ints, to_z_pos}
@@ -58,10 +58,6 @@ is-winner book facts is items same i s inside item =
 -- a reserve is added to a small price
 pub gross-is : (v : ℤ) (r : ℕ) → unsigned_abs v ≤ 2 ^ 47 → r < 2 ^ 64 → to_z w128 (of_z w128 (to_z w128 (of_z w128 v) +ℤ to_z w128 r)) ≡ v +ℤ pos r
 gross-is v r small low = omega (arith, ints, small, to_z_pos w128 r (omega (arith, low)))
-
--- the sum fits 128 bits
-pub gross-fits : (v : ℤ) (r : ℕ) → unsigned_abs v ≤ 2 ^ 47 → r < 2 ^ 64 → FitsSigned w128 (to_z w128 (of_z w128 v) +ℤ to_z w128 r)
-gross-fits v r small low = omega (arith, ints, small, to_z_pos w128 r (omega (arith, low)))
 
 gross-small : (x v : ℤ) (r : ℕ) → x ≡ v +ℤ pos r → unsigned_abs v ≤ 2 ^ 47 → r ≤ MOST_AMOUNT → unsigned_abs x ≤ 2 ^ 48
 gross-small x v r e small low = omega (arith, ints, e, small, low)

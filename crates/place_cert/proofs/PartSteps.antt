@@ -28,11 +28,6 @@ module _ (bytes : List ℕ) (place bidders j : ℕ) where
     are = λ ns rest h. (is, h);
   }
 
-  -- the part of a winner isn't there
-  pub part_halts : (number : ℕ) (stop : CertStop) → 0 < number → Halts bytes place (ordered_part_plan bidders j) stop → Halts bytes place (unless_zero (pos number) (ordered_part_plan bidders j)) stop
-  part_halts zero stop some h = absurd (omega (arith, some))
-  part_halts (suc n) stop some h = h
-
 -- the parts of the first bidders are read
 pub record PartsSoFar (bytes : List ℕ) (place bidders : ℕ) (choice : List ℕ) (done next : ℕ) (parts : List PlaceWithout) : Type 0 where
   pub leads : Leads bytes place (ordered_parts_plan bidders 1 (as_numbers choice)) next (ordered_parts_plan bidders (suc done) (as_numbers (drop done choice))) (part_lines parts)
@@ -60,10 +55,6 @@ module _ (bytes : List ℕ) (place bidders : ℕ) (choice : List ℕ) where
 
   abbrev part_at : ℕ → List Kind
   part_at done = unless_zero (pos (get_or choice done 0)) (ordered_part_plan bidders (suc done))
-
-  -- no part is read yet
-  pub parts_start : place ≤ length bytes → PartsSoFar bytes place bidders choice 0 place []
-  parts_start within = record { leads = leads_none bytes place whole; are = λ rest h. h; within = within }
 
   here : (done next : ℕ) (parts : List PlaceWithout) → done < length choice → PartsSoFar bytes place bidders choice done next parts → Leads bytes place whole next (part_at done ++ left_from (suc done) (drop (done + 1) choice)) (part_lines parts)
   here done next parts lt h = subst (λ (ns : List ℕ). Leads bytes place whole next (left_from done ns) (part_lines parts)) (drop_more choice done 0 lt) h.leads

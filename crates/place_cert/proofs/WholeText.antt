@@ -130,7 +130,3 @@ made b den value choice order table withouts pay rows lowered range c o t w p fe
   rows = r;
   lowered = l;
 }
-
--- for as many bidders as its choice has
-pub made_own : (b : ℕ) (c : PlaceCertValue) → IsPlaceCertificate b c → IsPlaceCertificate (length c.cert.choice) c
-made_own b c is = subst (λ (n : ℕ). IsPlaceCertificate n c) (sym is.choice.0) is

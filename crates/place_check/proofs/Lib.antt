@@ -2,7 +2,6 @@ pub mod AmountLaws
 pub mod SetTests
 pub mod Small
 pub mod VerdictLaws
-pub mod AskLaws
 pub mod RowLaws
 pub mod PartLaws
 pub mod PlaceLaws

@@ -1,5 +1,5 @@
 -- The parts of a certificate without each winner, with their orders.
-use Rattle.std.specs.Prelude.{◌↔◌, ◌≡◌, ℕ, zero, suc, ◌+◌, ◌<◌, ◌≤◌, ◌==◌, ◌&&◌, Bool, IsTrue, List, [], ◌∷◌, length, map, drop, get_or, ℤ, refl}
+use Rattle.std.specs.Prelude.{◌↔◌, ◌≡◌, ℕ, zero, suc, ◌+◌, ◌<◌, ◌≤◌, ◌==◌, ◌&&◌, Bool, IsTrue, List, [], ◌∷◌, length, map, drop, get_or, refl}
 use Rattle.std.proofs.Common.{sym, ◌∙◌, ap, subst, arith, drop-cons}
 use Rattle.std.proofs.lemmas.Bool.{cond-true, cond-false, eq-eqb, ne_eqb, and_parts, eqb-true}
 use Rattle.cert_form.specs.Certificate.{WithoutValue, part_of}
@@ -89,10 +89,6 @@ no-part slots parts i j some low none from is =
   where
     nested : (x y z : Bool) → IsTrue ((x && y) && z) → IsTrue x
     nested x y z t = (and_parts x y (and_parts (x && y) z t).0).0
-
--- the value of the part that is found
-pub value-found : (f : List ℕ → ℤ) (parts : List PlaceWithout) (j : ℕ) (part : PlaceWithout) → part_of (map part_value parts) j ≡ part_value part → f part.choice ≡ f (part_of (map part_value parts) j).choice
-value-found f parts j part e = ap (λ (w : WithoutValue). f w.choice) (sym e)
 
 -- the part and the order that are tested
 pub part-by : (slots : SlotList) (j : ℕ) (b : Bool) (w v : WithoutValue) (o l : List ℕ) → w ≡ v → o ≡ l → (IsTrue b ↔ IsPlacedPart slots j v l) → IsTrue b ↔ IsPlacedPart slots j w o

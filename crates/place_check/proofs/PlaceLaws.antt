@@ -36,13 +36,6 @@ module _ (m : Market) (c : CertValue) where
     λ h. let two = h.winner some le wins in test.1 (subst (λ (z : ℤ). pos 0 ≤ℤ z) (sym paid_is) two.0, subst (λ (z : ℤ). paid ≤ℤ z) (sym most_is) (subst (λ (z : ℤ). z ≤ℤ (c.den *ℤ won_in m c j)) (sym paid_is) two.1)),
   )
 
-  -- P5 asks of a loser that it pays nothing
-  pub pays-loser : (j : ℕ) (b : Bool) → 0 < j → j ≤ m.bidders → IsFalse (uses c.choice j) → (IsTrue b ↔ (of_bidder c.pay j ≡ pos 0)) → IsTrue b ↔ PaysWithinBids m c j
-  pays-loser j b some le loses test = (
-    λ t. record { winner = λ s l wins. absurd (both_ways (uses c.choice j) loses wins); loser = λ s l no. test.0 t },
-    λ h. test.1 (h.loser some le loses),
-  )
-
   -- P7 asks nothing at a place that is no row's and no bidder's
   pub first-past : (place : ℕ) → IsPast (length c.rows + m.bidders) place → ShowsLeastSum m c place
   first-past place past = record { sign = λ some le. absurd (past (some, omega (arith, le))); columns = λ j some le e wins. absurd (past (omega (arith, e, some), omega (arith, e, le))) }
@@ -70,10 +63,6 @@ module _ (m : Market) (c : CertValue) where
     λ h. test.1 (h.columns j some le here),
   )
 
-  -- P8 asks nothing at a place that is no row's and no bidder's
-  pub second-past : (w : ℕ → ℕ) (place : ℕ) → IsPast (length c.rows + m.bidders) place → ShowsNearest m w c place
-  second-past w place past = record { sign = λ some le. absurd (past (some, omega (arith, le))); columns = λ j some le e wins. absurd (past (omega (arith, e, some), omega (arith, e, le))) }
-
   -- P8 asks of a row that its first multiplier is above 0 or its second isn't below 0
   pub second-sign : (w : ℕ → ℕ) (place : ℕ) (row : RowValue) (b : Bool) → 0 < place → place ≤ length c.rows → row_of c.rows place ≡ row → (IsTrue b ↔ ((pos 0 <ℤ row.first) ⊎ (pos 0 ≤ℤ row.second))) → IsTrue b ↔ ShowsNearest m w c place
   second-sign w place row b some le same test = (
@@ -98,14 +87,6 @@ module _ (m : Market) (c : CertValue) where
   )
 
 module _ (slots : SlotList) (p : PlaceCertValue) where
-  -- P2 asks nothing but at the places of the bidders, of the order and of the value
-  pub choice-past : (place : ℕ) → IsPast (length slots.bidders + 2) place → P2 slots p place
-  choice-past place past = record {
-    known = λ some low. absurd (past (some, omega (arith, low)));
-    allowed = λ e. absurd (past (omega (arith, e), omega (arith, e)));
-    value = λ e. absurd (past (omega (arith, e), omega (arith, e)));
-  }
-
   -- P2 asks of a bidder that its number is 0 or that of one of its bids
   pub choice-known : (place : ℕ) (b : Bool) → 0 < place → place ≤ length slots.bidders → (IsTrue b ↔ (number_of p.cert.choice place ≤ length (bids_of slots place))) → IsTrue b ↔ P2 slots p place
   choice-known place b some low test = (
@@ -118,13 +99,6 @@ module _ (slots : SlotList) (p : PlaceCertValue) where
   choice-allowed place b here is = (
     λ t. record { known = λ s l. absurd (omega (arith, here, l)); allowed = λ e. sym is ∙ t; value = λ e. absurd (omega (arith, here, e)) },
     λ h. is ∙ h.allowed here,
-  )
-
-  -- P2 asks last that the choice is worth the value
-  pub choice-value : (place : ℕ) (b : Bool) → place ≡ length slots.bidders + 2 → (IsTrue b ↔ (value_of (market_of slots) p.cert.choice ≡ p.cert.value)) → IsTrue b ↔ P2 slots p place
-  choice-value place b here test = (
-    λ t. record { known = λ s l. absurd (omega (arith, here, l)); allowed = λ e. absurd (omega (arith, here, e)); value = λ e. test.0 t },
-    λ h. test.1 (h.value here),
   )
 
   -- P4 asks nothing at a place that is no bidder's

@@ -4,9 +4,8 @@ use Rattle.std.proofs.Common.{sym, ◌∙◌, ap, subst, arith}
 use Rattle.std.proofs.lemmas.List.{get_or-map, length-map}
 use Rattle.cert_form.specs.Certificate.{RowValue, row_of}
 use Rattle.cert_form.specs.CertText.{IsRow}
-use Rattle.place_cert.specs.Parts.{row_value, row_order, AreRows}
+use Rattle.place_cert.specs.Parts.{row_value, AreRows}
 use Rattle.place_cert.specs.declared.certificate.PlaceRow.{PlaceRow}
-use Rattle.cert_form.specs.PlaceCert.{order_in_row}
 use Rattle.cert_laws.specs.MarketTests.{sum_holding}
 use Rattle.cert_check.specs.declared.sums.Multiplier.{Multiplier}
 use Rattle.cert_check.specs.declared.sums.Multiplier.TheVariants.{First, Second}
@@ -26,10 +25,6 @@ pub row-place : (rows : List PlaceRow) (place : ℕ) (row : PlaceRow) → 0 < pl
 row-place rows place row some low is =
     let none : RowValue = record { members = []; first = pos 0; second = pos 0; choice = [] } in
     get_or-map row_value rows (place - 1) row none (omega (arith, some, low)) ∙ ap row_value (sym is)
-
--- the order of the row that stands at a place, counted from 1
-pub order-place : (rows : List PlaceRow) (place : ℕ) (row : PlaceRow) → 0 < place → place ≤ length rows → row ≡ get_or rows (place - 1) row → order_in_row (map row_order rows) place ≡ row_order row
-order-place rows place row some low is = get_or-map row_order rows (place - 1) row [] (omega (arith, some, low)) ∙ ap row_order (sym is)
 
 -- the row behind k others is row k + 1
 pub row-at : (rows : List PlaceRow) (k : ℕ) (row : PlaceRow) → k < length rows → row ≡ get_or rows k row → row_of (map row_value rows) (k + 1) ≡ row_value row

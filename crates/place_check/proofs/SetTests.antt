@@ -90,17 +90,6 @@ module _ (b : Board) (worth : ℕ → ℕ → ℤ) (table : List (List ℤ)) (mo
     λ s. h.1 (s.rules low),
   )
 
-  -- the last place asks that the entry of nobody is at most the bound
-  pub table-top : (x : Bool) → place ≡ 2 ^ b.bidders → IsTrue x ↔ (entry_at table 0 0 ≤ℤ most) → IsTrue x ↔ SetTableAt b worth table most place
-  table-top x here h = (
-    λ t. record { rules = λ low. absurd (omega (arith, here, low)); top = λ e. h.0 t },
-    λ s. h.1 (s.top here),
-  )
-
-  -- a place behind the last asks nothing
-  pub table-past : 2 ^ b.bidders < place → SetTableAt b worth table most place
-  table-past past = record { rules = λ low. absurd (omega (arith, past, low)); top = λ e. absurd (omega (arith, past, e)) }
-
 -- equal worths ask the same
 pub set-same : (b : Board) (f g : ℕ → ℕ → ℤ) (table : List (List ℤ)) (bits : ℕ) → ((j i : ℕ) → 0 < j → j ≤ b.bidders → f j i ≡ g j i) → ObeysSet b f table bits → ObeysSet b g table bits
 set-same b f g table bits same o = record {

@@ -17,9 +17,9 @@ use Rattle.place_cert.specs.declared.certificate.PlaceCertificate.{PlaceCertific
 use Rattle.place_laws.specs.PlaceTests.{Holds}
 use Rattle.slot_places.specs.Board.{board_of, is_known, joined, nobody}
 use Rattle.slot_places.specs.Orders.{are_new, gives, is_order}
-use Rattle.slot_places.specs.Slots.{SlotList, bid_of, bidder_of, width_of}
+use Rattle.slot_places.specs.Slots.{SlotList, bid_of, bidder_of}
 use Rattle.slot_places.proofs.OrderLaws.{new-parts}
-use Rattle.place_outcome.specs.PlaceText.{ArePricedLines, placed_line, placed_lines, priced_line}
+use Rattle.place_outcome.specs.PlaceText.{ArePricedLines, priced_line}
 use Rattle.place_outcome.specs.Printable.{CanPrint, IsBidder, IsLineOf, IsRestOf}
 
 -- entries of an order are bidders
@@ -55,11 +55,6 @@ sum-low f (suc n) each = let rest = sum-low f n (λ j some le. each j some (omeg
 -- the rest of a slice
 pub rest-is : {A : Type 0} (x : A) (xs : List A) → take (length (x ∷ xs) - 1) (drop 1 (x ∷ xs)) ≡ xs
 rest-is x xs = take_all (length (x ∷ xs) - 1) xs (omega arith)
-
--- the line of the first bidder in an order, and those of the others behind it
-pub placed-on : (slots : SlotList) (start j : ℕ) (order text : List ℕ)
-    → (text ++ placed_line slots start j) ++ placed_lines slots (start + width_of slots j) order ≡ text ++ placed_lines slots start (j ∷ order)
-placed-on slots start j order text = append_assoc text (placed_line slots start j) (placed_lines slots (start + width_of slots j) order)
 
 -- the line of the next bidder, and those of the others behind it
 lines-on : (slots : SlotList) (v : ℕ → ℤ) (p : Point) (k n : ℕ) (rest line lines : List ℕ) → IsLineOf slots v p (suc k) n line → ArePricedLines slots v p (suc k) rest lines → ArePricedLines slots v p k (n ∷ rest) (line ++ lines)

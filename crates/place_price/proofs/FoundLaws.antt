@@ -1,6 +1,5 @@
 -- What pricing slots by their chooser finds is what it finds of the slots, and why it doesn't stop for too many winners.
 use Rattle.std.specs.Prelude.{◌≡◌, ℕ, List, ℤ, refl}
-use Rattle.std.specs.List.{AllByRecursion}
 use Rattle.auction_model.specs.Greatest.{IsWinning}
 use Rattle.auction_model.specs.Lowered.{lowered}
 use Rattle.auction_model.specs.Market.{value_of}
@@ -11,7 +10,7 @@ use Rattle.choices.specs.declared.chooser.Found.{Found}
 use Rattle.choices.specs.declared.chooser.Single.{Single}
 use Rattle.core_price.specs.Priced.{IsPriced}
 use Rattle.core_price.specs.Stops.{IsStop}
-use Rattle.core_price.specs.Turns.{IsPointOfTurn, turns_of}
+use Rattle.core_price.specs.Turns.{turns_of}
 use Rattle.core_price.specs.Weights.{ManyWin}
 use Rattle.core_price.specs.declared.priced.PriceStop.{PriceStop}
 use Rattle.core_price.specs.declared.priced.PriceStop.TheVariants.{Winners, Memory}
@@ -55,7 +54,3 @@ module _ (slots : SlotList) (z choice : List ℕ) (singles : List Single) (price
   -- the turns are a pricing run, in which all bidders weigh 1
   pub run-of : IsPricingRun (market_of slots) alike choice (turns_of choice turns)
   run-of = rw (choice_is, turns_are) (run-alike (market_of slots) z (turns_of z priced.turns) own.turns.run)
-
-  -- each turn has a payment for each winner, none below 0 and all small, over a small denominator
-  pub each-turn : AllByRecursion (IsPointOfTurn choice (ones slots)) turns
-  each-turn = rw (choice_is, turns_are) own.turns.each

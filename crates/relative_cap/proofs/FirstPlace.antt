@@ -22,21 +22,6 @@ first-step history j k lots held inside by_held =
     ap (λ (h : List Round). first_place (rounds_of j h) lots) (drop_more history k kept.no_round inside)
     ∙ ap (λ (q : List ℕ). if is_same q lots then 0 else suc (first_place (rounds_of j (drop (k + 1) history)) lots)) own
 
--- the round at the place is the first one
-pub first-here : (history : List Round) (j k : ℕ) (lots held : List ℕ) (whole : ℕ) → k < length history → held ≡ (own_in history j (k + 1)).held → is_same held lots ≡ true
-    → k + first_place (rounds_of j (drop k history)) lots ≡ whole → k ≡ whole
-first-here history j k lots held whole inside by_held same sum =
-    let none : first_place (rounds_of j (drop k history)) lots ≡ 0 = first-step history j k lots held inside by_held ∙ cond-true (is_same held lots) 0 _ same in
-    omega (arith, none, sum)
-
--- it comes later
-pub first-later : (history : List Round) (j k : ℕ) (lots held : List ℕ) (whole : ℕ) → k < length history → held ≡ (own_in history j (k + 1)).held → is_same held lots ≡ false
-    → k + first_place (rounds_of j (drop k history)) lots ≡ whole → k + 1 + first_place (rounds_of j (drop (k + 1) history)) lots ≡ whole
-first-later history j k lots held whole inside by_held apart sum =
-    let more : first_place (rounds_of j (drop k history)) lots ≡ suc (first_place (rounds_of j (drop (k + 1) history)) lots)
-    = first-step history j k lots held inside by_held ∙ cond-false (is_same held lots) 0 _ apart in
-    omega (arith, more, sum)
-
 -- there is none
 pub first-none : (history : List Round) (j k : ℕ) (lots : List ℕ) (whole : ℕ) → length history ≤ k → k + first_place (rounds_of j (drop k history)) lots ≡ whole → k ≡ whole
 first-none history j k lots whole past sum =

@@ -52,10 +52,6 @@ peak-end [] j (suc k) past = refl
 peak-end (h ∷ history) j zero past = absurd (omega arith)
 peak-end (h ∷ history) j (suc k) past = peak-end history j k (omega arith)
 
--- the first peak is at least the first eligibility
-pub peak-first : (history : List Round) (j needed : ℕ) (peaks : List ℕ) → 1 ≤ length history → needed ≤ eligibility_in history j 1 → ArePeaksFrom 0 history j peaks → needed ≤ slice_index peaks 0
-peak-first history j needed peaks some enough are = omega (arith, enough, are 0 (omega arith) (omega arith), later-below history j 0 1 (omega arith) some)
-
 -- the last number that is enough gives the constraining round
 enough-at : (history : List Round) (j needed r : ℕ) → 1 ≤ r → r ≤ length history → needed ≤ peak_from history j (r - 1) → (r ≡ length history) ⊎ (peak_from history j r < needed)
     → needed ≤ eligibility_in history j r

@@ -99,14 +99,6 @@ pub record FirstOrder (b : Board) (c : List ℕ) (left : ℕ) (s : ℕ → Bool)
   pub is : Order b c left s order
   pub first : (other : List ℕ) → Order b c left s other → IsTrue (is_order_before other order) → ⊥
 
--- of no bidders the empty order is the first
-pub first-empty : (b : Board) (c : List ℕ) (s : ℕ → Bool) → FirstOrder b c 0 s []
-first-empty b c s = record { is = record { count = refl; new = refl; gives = refl }; first = none }
-  where
-    none : (other : List ℕ) → Order b c 0 s other → IsTrue (is_order_before other []) → ⊥
-    none [] o t = false≢true t
-    none (j ∷ other) o t = false≢true t
-
 -- behind the smallest bidder that can be next the first order of the others
 pub first-with : (b : Board) (c : List ℕ) (left : ℕ) (s : ℕ → Bool) (j : ℕ) (order : List ℕ) → IsFirstNext b c left s j → FirstOrder b c left (joined j s) order → FirstOrder b c (suc left) s (j ∷ order)
 first-with b c left s j order is rest = record { is = whole; first = none }

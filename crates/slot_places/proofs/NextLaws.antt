@@ -48,10 +48,6 @@ module _ (b : Board) (asks : AsksBidders b) (c : List ℕ) (left n j : ℕ) wher
     rest = place-same b asks c left (joined j (holds n)) (holds (n + 2 ^ (j - 1))) (joined-is f.some f.new) ∙ rest;
   }
 
-  -- a bidder that can be next can follow
-  pub next-follows : Next b c left (holds n) j → CanFollow b c (holds n) j
-  next-follows next = record { some = next.some; low = next.low; new = next.new; may = next.may }
-
   -- behind a bidder that can be next the others can be placed
   pub next-places : Next b c left (holds n) j → IsTrue (can_place b c left (holds (n + 2 ^ (j - 1))))
   next-places next = sym (place-same b asks c left (joined j (holds n)) (holds (n + 2 ^ (j - 1))) (joined-is next.some next.new)) ∙ next.rest

@@ -1,25 +1,16 @@
 -- The first order is found bidder by bidder.
-use Rattle.std.specs.Prelude.{◌≡◌, ℕ, suc, ◌+◌, ◌-◌, ◌^◌, ◌≤◌, ◌<◌, true, false, IsTrue, List, [], ◌∷◌, ◌++◌, length, drop, get_or, refl}
+use Rattle.std.specs.Prelude.{◌≡◌, ℕ, suc, ◌+◌, ◌-◌, ◌^◌, ◌≤◌, ◌<◌, true, false, List, [], ◌∷◌, ◌++◌, length, drop, get_or, refl}
 use Rattle.std.proofs.Common.{sym, ◌∙◌, subst, append_assoc}
-use Rattle.std.proofs.lemmas.Bool.{and_left, and_right}
-use Rattle.std.proofs.lemmas.List.{append-nil, drop_all, drop_more}
+use Rattle.std.proofs.lemmas.List.{drop_all, drop_more}
 use Rattle.slot_places.specs.Slots.{SlotList}
-use Rattle.slot_places.specs.Board.{nobody, joined, is_known, can_place, is_placed, board_of}
-use Rattle.slot_places.specs.Orders.{allows, IsPlacement}
+use Rattle.slot_places.specs.Board.{nobody, joined, is_known, board_of}
+use Rattle.slot_places.specs.Orders.{allows}
 use Rattle.slot_places.specs.SetTable.{holds}
 use Rattle.slot_places.specs.Steps.{CanFollow, IsFirstNext}
-use Rattle.slot_places.proofs.SameLaws.{place-same, slots-ask}
-use Rattle.slot_places.proofs.SetBits.{holds-joined, holds-nobody, joined-small, power-positive}
+use Rattle.slot_places.proofs.SameLaws.{slots-ask}
+use Rattle.slot_places.proofs.SetBits.{holds-joined, joined-small, power-positive}
 use Rattle.slot_places.proofs.NextLaws.{next-places, placed-by}
-use Rattle.slot_places.proofs.FirstOrders.{FirstOrder, SoPlaced, Passes, first-empty, first-with, first-same, allowed-by, allowed-says, refused-by, passes-says, passes-start, passes-begins, passes-on, passes-back}
-
--- nobody is placed yet
-pub so-begins : (slots : SlotList) (c : List ℕ) → SoPlaced slots c [] (length slots.bidders) 0
-so-begins slots c = record {
-  small = power-positive (length slots.bidders);
-  same = place-same (board_of slots) (slots-ask slots 0) c (length slots.bidders) (holds 0) nobody (λ i some. holds-nobody i);
-  on = λ rest is. first-same (board_of slots) (slots-ask slots 0) c (length slots.bidders) (holds 0) nobody rest (λ i some. holds-nobody i) is;
-}
+use Rattle.slot_places.proofs.FirstOrders.{FirstOrder, SoPlaced, Passes, first-with, first-same, allowed-by, refused-by, passes-says, passes-start, passes-begins, passes-on, passes-back}
 
 -- one bidder more
 pub so-next : (slots : SlotList) (c order : List ℕ) (left n j : ℕ) → SoPlaced slots c order (suc left) n → IsFirstNext (board_of slots) c left (holds n) j → SoPlaced slots c (order ++ j ∷ []) left (n + 2 ^ (j - 1))
@@ -42,24 +33,6 @@ so-more slots c order new rest left less n j w more fewer pushed weight so is =
     (subst (λ m. SoPlaced slots c (order ++ j ∷ []) less (n + m)) (sym weight)
     (subst (λ m. SoPlaced slots c (order ++ j ∷ []) m (n + 2 ^ (j - 1))) fewer
     (so-next slots c order left n j (subst (λ m. SoPlaced slots c order m n) more so) is)))
-
--- all bidders are placed
-pub so-ends : (slots : SlotList) (c order : List ℕ) (n : ℕ) → IsTrue (is_known (board_of slots) c) → SoPlaced slots c order 0 n → IsPlacement slots c order
-so-ends slots c order n known so =
-    let b = board_of slots in
-    let all : FirstOrder b c (length slots.bidders) nobody order = subst (λ (l : List ℕ). FirstOrder b c (length slots.bidders) nobody l) (append-nil order) (so.on [] (first-empty b c (holds n))) in
-    record {
-      allowed = allowed-by slots c order all.is.count known (all.is.new, all.is.gives);
-      first = λ other t. let a = allowed-says slots c other t in all.first other (record { count = a.count; new = a.passes.0; gives = a.passes.1 });
-    }
-
--- no bidder can be next
-pub so-fails : (slots : SlotList) (c order : List ℕ) (left n : ℕ) → SoPlaced slots c order left n → can_place (board_of slots) c left (holds n) ≡ false → is_placed (board_of slots) c ≡ false
-so-fails slots c order left n so none = and_right (is_known (board_of slots) c) (can_place (board_of slots) c (length slots.bidders) nobody) (sym so.same ∙ none)
-
--- a choice that isn't known isn't placed
-pub unknown-fails : (slots : SlotList) (c : List ℕ) → is_known (board_of slots) c ≡ false → is_placed (board_of slots) c ≡ false
-unknown-fails slots c none = and_left (is_known (board_of slots) c) (can_place (board_of slots) c (length slots.bidders) nobody) none
 
 -- Of an order so many entries are tested: the whole passes just where what is left passes behind their set.
 pub record SoTested (slots : SlotList) (c order : List ℕ) (i n : ℕ) : Type 0 where

@@ -1,5 +1,5 @@
 -- The winners of a certificate, each alone, bidder by bidder.
-use Rattle.std.proofs.Common.{◌≡◌, ℕ, zero, suc, ◌+◌, ◌<◌, ◌≤◌, cond, List, [], ◌∷◌, ◌++◌, length, drop, drop-cons, get_or, map, append_assoc, refl, sym, ap, ◌∙◌, arith}
+use Rattle.std.proofs.Common.{◌≡◌, ℕ, zero, suc, ◌+◌, ◌<◌, ◌≤◌, cond, List, [], ◌∷◌, ◌++◌, length, drop, map, refl, sym, ap, ◌∙◌, arith}
 use Rattle.std.proofs.lemmas.Bool.{eq-eqb}
 use Rattle.std.proofs.lemmas.List.{append-nil, drop_all}
 use Rattle.auction_model.specs.Book.{Book}
@@ -42,29 +42,8 @@ module _ (book : Book) (c : CertValue) where
 
   -- one number more
   module _ (choice : List ℕ) (k : ℕ) (lt : k < length choice) (done all : List Single) (before : done ++ singles_behind k (drop k choice) ≡ all) where
-    at-number : (x : ℕ) → get_or choice k 0 ≡ x → drop k choice ≡ x ∷ drop (k + 1) choice
-    at-number x is = drop-cons choice k 0 lt ∙ ap (λ (y : ℕ). y ∷ drop (suc k) choice) is ∙ ap (λ (n : ℕ). x ∷ drop n choice) {x = suc k} {y = k + 1} (omega arith)
-
     further : singles_behind (suc k) (drop (k + 1) choice) ≡ singles_behind (k + 1) (drop (k + 1) choice)
     further = ap (λ (n : ℕ). singles_behind n (drop (k + 1) choice)) {x = suc k} {y = k + 1} (omega arith)
-
-    -- that of a loser
-    pub singles-stay : get_or choice k 0 ≡ 0 → done ++ singles_behind (k + 1) (drop (k + 1) choice) ≡ all
-    singles-stay none = ap (λ (l : List Single). done ++ l) (sym (ap (singles_behind k) (at-number 0 none) ∙ further)) ∙ before
-
-    -- that of a winner
-    pub singles-more : (single : Single) → (get_or choice k 0 ≡ 0 → ⊥) → single ≡ single_at book c (k + 1) → (done ++ single ∷ []) ++ singles_behind (k + 1) (drop (k + 1) choice) ≡ all
-    singles-more single some is = by (get_or choice k 0) refl
-      where
-        by : (x : ℕ) → get_or choice k 0 ≡ x → (done ++ single ∷ []) ++ singles_behind (k + 1) (drop (k + 1) choice) ≡ all
-        by zero e = absurd (some e)
-        by (suc n) e =
-            append_assoc done (single ∷ []) (singles_behind (k + 1) (drop (k + 1) choice))
-            ∙ ap (λ (l : List Single). done ++ l)
-            (ap (λ (x : Single). x ∷ singles_behind (k + 1) (drop (k + 1) choice)) (is ∙ ap (single_at book c) {x = k + 1} {y = suc k} (omega arith))
-            ∙ ap (λ (l : List Single). single_at book c (suc k) ∷ l) (sym further)
-            ∙ sym (ap (singles_behind k) (at-number (suc n) e)))
-            ∙ before
 
   -- no number is left
   pub singles-done : (b s : ℕ) → IsCertificate b s c → (choice : List ℕ) → c.choice ≡ choice → (done : List Single) (k : ℕ) → length choice ≤ k → done ++ singles_behind k (drop k choice) ≡ singles_behind 0 choice → done ≡ map (single_of book c) c.withouts

@@ -1,4 +1,4 @@
-use Rattle.lin_solve.proofs.TestedSystem.{system}
+use Rattle.base_tests.proofs.TestedSystem.{system}
 use Rattle.base_tests.proofs.equations.weighed_answer.Goals as goal
 use Rattle.std.proofs.Common.{arith, inr, rules, ◌^◌}
 

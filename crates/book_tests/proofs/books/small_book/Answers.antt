@@ -1,4 +1,4 @@
-use Rattle.bid_book.proofs.SmallBook.{small_lists}
+use Rattle.book_tests.proofs.SmallBook.{small_lists}
 use Rattle.book_tests.proofs.books.small_book.Goals as goal
 
 pub from_lists-requires : goal.from_lists-requires
