@@ -27,11 +27,15 @@ module _ {A : Type 0} (seen : A → Seen) (told : Bool) (name : List ℕ) (xs ys
     told = refl;
     file = views_same (λ (o : Option A). option_and_then (λ f. (seen f).file) o) name (entry_of seen xs) (entry_of seen ys) old new change file;
     room = views_same (λ (o : Option A). option_and_then (λ f. (seen f).room) o) name (entry_of seen xs) (entry_of seen ys) old new change room;
+    took = refl;
+    since = [];
+    gave = refl;
+    agrees = λ tells. tt;
   }
 
   -- a change of bytes and room changes this file alone
   pub folder_becomes : (bytes : Option (List ℕ)) (n : ℕ) → (seen new).file ≡ bytes → IfSome (seen old).room (λ r. n ≤ r)
-      → (seen new).room ≡ option_map (λ r. r - n) (seen old).room → Becomes name (folder_of seen told xs) (folder_of seen told ys) bytes n
+      → (seen new).room ≡ option_map (λ r. r - n) (seen old).room → Becomes name (folder_of seen told xs) (folder_of seen told ys) bytes [] n
   folder_becomes bytes n file fits room =
       let room_of : Option A → Option ℕ = λ o. option_and_then (λ f. (seen f).room) o in
       let file_of : Option A → Option (List ℕ) = λ o. option_and_then (λ f. (seen f).file) o in
@@ -41,6 +45,8 @@ module _ {A : Type 0} (seen : A → Seen) (told : Bool) (name : List ℕ) (xs ys
         told = refl;
         file = λ told. ap file_of change.is ∙ file;
         other_files = λ other ne. ap file_of (change.others other ne);
+        took = refl;
+        other_took = λ other ne. refl;
         fits = subst (λ (o : Option ℕ). IfSome o (λ r. n ≤ r)) (sym was) fits;
         room = ap room_of change.is ∙ room ∙ sym (ap (option_map (λ r. r - n)) was);
         other_rooms = λ other ne. ap room_of (change.others other ne);

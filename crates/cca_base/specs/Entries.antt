@@ -1,8 +1,9 @@
 -- Files of known names as the entries of a list.
-use Rattle.std.specs.Prelude.{◌≡◌, ℕ, Bool, Option, Some, None, List, IsSome, find, is_some, option_and_then}
+use Rattle.std.specs.Prelude.{◌≡◌, ℕ, Bool, Option, Some, None, List, [], IsSome, find, is_some, option_and_then, unwrap_or}
 use Rattle.std.specs.Option.{option_map_or}
 use Rattle.std.specs.Str.{bytes_eq}
 use Rattle.cca_base.specs.Files.{Folder}
+use Rattle.cca_base.specs.Given.{Given, bytes_under}
 
 -- what one entry means: its name, its bytes, its counts of failed calls and its room
 pub record Seen : Type 0 where
@@ -24,7 +25,17 @@ folder_of seen told files = record {
   load_faults = λ name. option_map_or (λ f. (seen f).load_faults) (entry_of seen files name) 0;
   append_faults = λ name. option_map_or (λ f. (seen f).append_faults) (entry_of seen files name) 0;
   room = λ name. option_and_then (λ f. (seen f).room) (entry_of seen files name);
+  gave = [];
+  took = λ name. [];
 }
+
+-- the same files, which gave this and took this
+abbrev pub with_calls : Folder → List Given → List Given → Folder
+with_calls folder gave took = record folder { gave = gave; took = bytes_under took }
+
+-- files that are told and gave this: what they took is at the end of what they hold
+abbrev pub with_gave : Folder → List Given → Folder
+with_gave folder gave = record folder { gave = gave; took = λ name. unwrap_or (folder.file name) [] }
 
 -- all but the count of failed loads is as before
 pub record KeepsButLoads (old new : Seen) : Type 0 where

@@ -1,12 +1,12 @@
 -- A certificate that is fed to a checker piece by piece.
-use Rattle.std.proofs.Common.{inl, inr, ◌≡◌, ◌∙◌, ℕ, ℤ, ◌≤◌, ◌<◌, ◌+◌, ◌-◌, Bool, IsTrue, Option, Some, None, List, ◌++◌, [], length, take, refl, sym, subst, arith, length-append, length-take}
+use Rattle.std.proofs.Common.{inl, inr, ◌≡◌, ◌∙◌, ℕ, ℤ, ◌≤◌, ◌<◌, ◌+◌, ◌-◌, Bool, IsTrue, Option, Some, None, List, ◌++◌, [], ◌∷◌, length, take, refl, sym, subst, arith, length-append, length-take}
 use Rattle.std.specs.Prelude.{IfErr, IfOk, Result, Ok, Err}
 use Rattle.limits.specs.declared.TheConstants.{CERT_BYTES}
 use Rattle.line_text.specs.LineText.{Said, stated, faulty, beyond}
 use Rattle.auction_model.specs.Book.{Book as BookValue}
 use Rattle.auction_model.specs.Prices.{weight_of}
-use Rattle.cca_base.specs.Files.{Stands}
-use Rattle.cca_base.proofs.Reading.{SoFar, all_read, read_more}
+use Rattle.cca_base.specs.Files.{Folder, GaveMore, KeepsFiles}
+use Rattle.cca_base.proofs.Given.{GaveFront, front_all, front_more, front_none, front_over, next_load}
 use Rattle.cert_form.specs.Certificate.{CertValue}
 use Rattle.cert_form.specs.Says.{CertSays}
 use Rattle.cert_laws.specs.Sound.{IsSound}
@@ -31,63 +31,67 @@ use Rattle.cca_inputs.specs.declared.status.FileKind.TheVariants.{Cert}
 use Rattle.cca_inputs.specs.declared.status.Status.{Status}
 use Rattle.cca_inputs.specs.declared.status.Status.TheVariants.{No}
 
--- The checker stands for the bytes that have come, which are the front of the file where that is told.
-pub record IsFedSoFar (book : BookValue) (weights : List ℕ) (told : Bool) (file : Option (List ℕ)) (room : List ℤ) (checker : StreamCheck) (at : ℕ) : Type 0 where
+-- The checker stands for the bytes that have come, which the loads in between gave of the file from its front on.
+pub record IsFedSoFar (book : BookValue) (weights name : List ℕ) (old now : Folder) (room : List ℤ) (checker : StreamCheck) (at : ℕ) : Type 0 where
   -- the bytes that have come
   pub text : List ℕ
   -- they are as many as were counted
   pub long : length text ≡ at
   -- the checker stands for them
   pub stands : StandsFor checker room text
-  -- they are the front of the file, where that is told
-  pub here : IsTrue told → SoFar file text
+  -- they are what was given
+  pub front : GaveFront name old now text
   -- the checker tests by this book
   pub book_is : checker.book.now ≡ book
   -- and with these weights
   pub weights_are : checker.weights.now ≡ weights
 
 -- at first nothing has come
-pub begins-fed : (book : BookValue) (weights : List ℕ) (told : Bool) (file : Option (List ℕ)) (room : List ℤ) (checker : StreamCheck) → StandsFor checker room []
-    → checker.book.now ≡ book → checker.weights.now ≡ weights → IsFedSoFar book weights told file room checker 0
-begins-fed book weights told file room checker stands book_is weights_are = record {
+pub begins-fed : (book : BookValue) (weights name : List ℕ) (old : Folder) (room : List ℤ) (checker : StreamCheck) → StandsFor checker room []
+    → checker.book.now ≡ book → checker.weights.now ≡ weights → IsFedSoFar book weights name old old room checker 0
+begins-fed book weights name old room checker stands book_is weights_are = record {
   text = [];
   long = refl;
   stands = stands;
-  here = λ tells f is. refl;
+  front = front_none name old;
   book_is = book_is;
   weights_are = weights_are;
 }
 
-module _ (book : BookValue) (weights : List ℕ) (told : Bool) (file : Option (List ℕ)) (room : List ℤ) (checker : StreamCheck) (at : ℕ) (s : IsFedSoFar book weights told file room checker at)
-    (size : ℕ) (buffer : List ℕ) (n : ℕ) (loaded : IsTrue told → (f : List ℕ) → file ≡ Some f → Stands f at size buffer n) where
+module _ (book : BookValue) (weights name : List ℕ) (old mid new : Folder) (room : List ℤ) (checker : StreamCheck) (at : ℕ) (s : IsFedSoFar book weights name old mid room checker at)
+    (size : ℕ) (buffer : List ℕ) (n : ℕ) (le : n ≤ length buffer) (kept : KeepsFiles mid new) (gave : new.gave ≡ next_load name at size buffer n ∷ mid.gave) where
   -- the same behind as many bytes as have come
-  behind-text : IsTrue told → (f : List ℕ) → file ≡ Some f → Stands f (length s.text) size buffer n
-  behind-text tells f is = subst (λ (k : ℕ). Stands f k size buffer n) (sym s.long) (loaded tells f is)
+  behind-text : new.gave ≡ next_load name (length s.text) size buffer n ∷ mid.gave
+  behind-text = subst (λ (k : ℕ). new.gave ≡ next_load name k size buffer n ∷ mid.gave) (sym s.long) gave
 
   -- one more piece was fed
-  pub fed-more : (room2 : List ℤ) (checker2 : StreamCheck) → n ≤ length buffer → ((t : List ℕ) → StandsFor checker room t → StandsFor checker2 room2 (t ++ take n buffer))
-      → checker2.book.now ≡ checker.book.now → checker2.weights.now ≡ checker.weights.now → IsFedSoFar book weights told file room2 checker2 (at + n)
-  fed-more room2 checker2 le feeds same_book same_weights = record {
+  pub fed-more : (room2 : List ℤ) (checker2 : StreamCheck) → 0 < n → ((t : List ℕ) → StandsFor checker room t → StandsFor checker2 room2 (t ++ take n buffer))
+      → checker2.book.now ≡ checker.book.now → checker2.weights.now ≡ checker.weights.now → IsFedSoFar book weights name old new room2 checker2 (at + n)
+  fed-more room2 checker2 some feeds same_book same_weights = record {
     text = s.text ++ take n buffer;
     long = let l = s.long in omega (arith, length-append s.text (take n buffer), length-take n buffer, le, l);
     stands = feeds s.text s.stands;
-    here = λ tells f is. read_more s.text f buffer size n le (s.here tells f is) (behind-text tells f is);
+    front = front_more name old mid new s.text buffer size n le s.front kept behind-text some;
     book_is = same_book ∙ s.book_is;
     weights_are = same_weights ∙ s.weights_are;
   }
 
--- no byte came although there was room for some: that was the whole file
-pub fed-whole : (book : BookValue) (weights : List ℕ) (told : Bool) (file : Option (List ℕ)) (room : List ℤ) (checker : StreamCheck) (at : ℕ) → IsFedSoFar book weights told file room checker at
-    → (size : ℕ) (buffer : List ℕ) → (IsTrue told → (f : List ℕ) → file ≡ Some f → Stands f at size buffer 0) → 0 < size → at ≤ CERT_BYTES → (IsTrue told → file ≡ None → ⊥)
-    → IsFed book weights told file room checker
-fed-whole book weights told file room checker at s size buffer loaded some short there = record {
-  text = s.text;
-  short = let l = s.long in omega (arith, l, short);
-  stands = s.stands;
-  here = λ tells. all_read file s.text buffer size some (there tells) (s.here tells) (λ f is. subst (λ (k : ℕ). Stands f k size buffer 0) (sym s.long) (loaded tells f is));
-  book_is = s.book_is;
-  weights_are = s.weights_are;
-}
+  -- no byte came although there was room for some: that was the whole file
+  pub fed-whole : n ≡ 0 → 0 < size → at ≤ CERT_BYTES → IsFed book weights name old new room checker
+  fed-whole none some short = record {
+    text = s.text;
+    short = let l = s.long in omega (arith, l, short);
+    stands = s.stands;
+    here = front_all name old mid new s.text buffer size n le s.front kept behind-text none some;
+    book_is = s.book_is;
+    weights_are = s.weights_are;
+  }
+
+  -- more bytes came than a certificate may have
+  pub fed-over : at ≤ CERT_BYTES → CERT_BYTES - at < n → GaveMore name old new CERT_BYTES
+  fed-over within over =
+      let l = s.long in
+      front_over name old mid new s.text buffer size n le s.front kept behind-text CERT_BYTES (omega (arith, l, within)) (omega (arith, l, over))
 
 -- the stop of a text is what its bytes answer
 pub text-stop : (b : BookValue) (bytes : List ℕ) (stop : TextStop) → SaysStop (bidders_of b) (states b) bytes stop
@@ -128,33 +132,33 @@ pub judged-no : (b : BookValue) (weights bytes : List ℕ) (v : Verdict) (test p
 judged-no b weights bytes v test place is said = fails b weights bytes said.0 test place said.1 (subst (IsVerdict b (weight_of weights) said.0) is said.2)
 
 -- what the checker answers to which the file was fed is said of the file
-judged-of : (b : BookValue) (weights : List ℕ) (told : Bool) (file : Option (List ℕ)) (room room2 : List ℤ) (k : StreamCheck) (r : Result CertFacts Status) (f : IsFed b weights told file room k) → room2 ≡ room
+judged-of : (b : BookValue) (weights name : List ℕ) (old new : Folder) (room room2 : List ℤ) (k : StreamCheck) (r : Result CertFacts Status) (f : IsFed b weights name old new room k) → room2 ≡ room
     → ((text : List ℕ) → StandsFor k room2 text → IsJudged k.book.now k.weights.now text r) → IsJudged b weights f.text r
-judged-of b weights told file room room2 k r f same judges =
+judged-of b weights name old new room room2 k r f same judges =
     subst (λ (x : BookValue). IsJudged x weights f.text r) f.book_is
     (subst (λ (w : List ℕ). IsJudged k.book.now w f.text r) f.weights_are (judges f.text (subst (λ (x : List ℤ). StandsFor k x f.text) (sym same) f.stands)))
 
 -- its facts are those that the file shows
-pub judged-value : (b : BookValue) (weights : List ℕ) (told : Bool) (file : Option (List ℕ)) (room room2 : List ℤ) (k : StreamCheck) (r : Result CertFacts Status) → IsFed b weights told file room k → room2 ≡ room
-    → ((text : List ℕ) → StandsFor k room2 text → IsJudged k.book.now k.weights.now text r) → IfOk r (IsRead CERT_BYTES (ShowsFacts b weights) told file)
-judged-value b weights told file room room2 k (Ok facts) f same judges = record {
+pub judged-value : (b : BookValue) (weights name : List ℕ) (old new : Folder) (room room2 : List ℤ) (k : StreamCheck) (r : Result CertFacts Status) → IsFed b weights name old new room k → room2 ≡ room
+    → ((text : List ℕ) → StandsFor k room2 text → IsJudged k.book.now k.weights.now text r) → IfOk r (IsRead CERT_BYTES (ShowsFacts b weights) name old new)
+judged-value b weights name old new room room2 k (Ok facts) f same judges = record {
   bytes = f.text;
   short = f.short;
-  says = judged-of b weights told file room room2 k (Ok facts) f same judges;
+  says = judged-of b weights name old new room room2 k (Ok facts) f same judges;
   here = f.here;
 }
-judged-value b weights told file room room2 k (Err status) f same judges = tt
+judged-value b weights name old new room room2 k (Err status) f same judges = tt
 
 -- its status is one by which the file stops the run
-pub judged-stop : (b : BookValue) (weights : List ℕ) (told : Bool) (file : Option (List ℕ)) (place : Option ℕ) (before now : ℕ) (room room2 : List ℤ) (k : StreamCheck) (r : Result CertFacts Status)
-    → IsFed b weights told file room k → room2 ≡ room → ((text : List ℕ) → StandsFor k room2 text → IsJudged k.book.now k.weights.now text r)
-    → IfErr r (InputStops Cert CERT_BYTES (StopsCheck b weights) told file place before now)
-judged-stop b weights told file place before now room room2 k (Ok facts) f same judges = tt
-judged-stop b weights told file place before now room room2 k (Err status) f same judges =
-    elim (judged-of b weights told file room room2 k (Err status) f same judges) [
+pub judged-stop : (b : BookValue) (weights name : List ℕ) (old new : Folder) (room room2 : List ℤ) (k : StreamCheck) (r : Result CertFacts Status)
+    → IsFed b weights name old new room k → room2 ≡ room → ((text : List ℕ) → StandsFor k room2 text → IsJudged k.book.now k.weights.now text r)
+    → IfErr r (InputStops Cert CERT_BYTES (StopsCheck b weights) name old new)
+judged-stop b weights name old new room room2 k (Ok facts) f same judges = tt
+judged-stop b weights name old new room room2 k (Err status) f same judges =
+    elim (judged-of b weights name old new room room2 k (Err status) f same judges) [
       | inl memory ↦ inl memory
       | inr stop ↦ inr (inr (
         stop.0,
-        λ tells. record { bytes = f.text; here = f.here tells; text = λ short. stop.1; long = λ more. absurd (let short = f.short in omega (arith, short, more)) },
+        λ files agrees. record { bytes = f.text; here = f.here.held files agrees; text = λ short. stop.1; long = λ more. absurd (let short = f.short in omega (arith, short, more)) },
       ))
     ]

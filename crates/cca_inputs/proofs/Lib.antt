@@ -3,3 +3,4 @@ mod Stopped
 mod FewWords
 mod Numbers
 mod Feeding
+mod ReadStops

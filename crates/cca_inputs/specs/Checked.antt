@@ -1,8 +1,9 @@
 -- A certificate that is checked from pieces of its file.
-use Rattle.std.specs.Prelude.{◌≡◌, ◌⊎◌, ◌≤◌, ℕ, ℤ, Bool, IsTrue, Option, Some, Result, Ok, Err, List, length}
+use Rattle.std.specs.Prelude.{◌≡◌, ◌⊎◌, ◌≤◌, ℕ, ℤ, Result, Ok, Err, List, length}
 use Rattle.limits.specs.declared.TheConstants.{CERT_BYTES}
 use Rattle.auction_model.specs.Book.{Book as BookValue}
 use Rattle.auction_model.specs.Prices.{weight_of}
+use Rattle.cca_base.specs.Files.{Folder, GaveAll}
 use Rattle.cert_form.specs.Certificate.{CertValue}
 use Rattle.cert_laws.specs.Sound.{IsSound}
 use Rattle.cert_laws.specs.Tests.{FailsFirst, Holds}
@@ -42,12 +43,12 @@ abbrev pub text_status : TextStop → Status
 text_status (text.Form place) = Refused Cert place 0
 text_status (text.Range place) = Refused Cert place 0
 
--- The checker stands for a text within the limit, which is that of the file where it is told.
-pub record IsFed (book : BookValue) (weights : List ℕ) (told : Bool) (file : Option (List ℕ)) (room : List ℤ) (checker : StreamCheck) : Type 0 where
+-- The checker stands for a text within the limit, and that is what the loads in between gave of the file.
+pub record IsFed (book : BookValue) (weights : List ℕ) (name : List ℕ) (old new : Folder) (room : List ℤ) (checker : StreamCheck) : Type 0 where
   pub text : List ℕ
   pub short : length text ≤ CERT_BYTES
   pub stands : StandsFor checker room text
-  pub here : IsTrue told → file ≡ Some text
+  pub here : GaveAll name old new text
   pub book_is : checker.book.now ≡ book
   pub weights_are : checker.weights.now ≡ weights
 

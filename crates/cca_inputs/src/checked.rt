@@ -1,9 +1,9 @@
 // A certificate that is checked from pieces of its file.
-ghost use Rattle.std.specs.Prelude.{◌≡◌, ◌≢◌, ◌≤◌, ◌<◌, ℕ, List, Err, length, IfOk, IfErr, IsTrue, IsSome, IsSomeAnd};
+ghost use Rattle.std.specs.Prelude.{◌≡◌, ◌≢◌, ◌≤◌, ◌<◌, ℕ, List, Err, length, IfOk, IfErr, IsTrue, IsSome};
 ghost use Rattle.limits.specs.declared.TheConstants.{CERT_BYTES};
 ghost use Rattle.auction_model.specs.Prices.{AreWeights};
 ghost use Rattle.cca_base.specs.Faults.{Rose};
-ghost use Rattle.cca_base.specs.Files.{CountsOnly, KeepsFiles};
+ghost use Rattle.cca_base.specs.Files.{CountsOnly, GaveMore, KeepsFiles};
 ghost use Rattle.cert_laws.specs.Tests.{bidders_of, states};
 ghost use Rattle.cert_pieces.specs.Rooms.{room_size};
 ghost use Rattle.stream_check.specs.Standing.{StandsFor};
@@ -55,10 +55,10 @@ fn fed<'a, F: Files>(
     requires room { length room.old ≡ room_size (bidders_of book.now) (states book.now) }
     requires piece { 0 < length piece.old }
     ensures fed { IfOk result
-        (IsFed book.now weights.now (F.folder files.old).told ((F.folder files.old).file name.now) room.new) }
+        (IsFed book.now weights.now name.now (F.folder files.old) (F.folder files.new) room.new) }
     ensures room { length room.new ≡ length room.old }
-    ensures too_long { IsTrue (F.folder files.old).told → result ≡ Err ReadStop.TooLong
-        → IsSomeAnd ((F.folder files.old).file name.now) (λ bytes. CERT_BYTES < length bytes) }
+    ensures too_long { result ≡ Err ReadStop.TooLong
+        → GaveMore name.now (F.folder files.old) (F.folder files.new) CERT_BYTES }
     ensures fault { result ≡ Err ReadStop.Fault
         → Rose ((F.folder files.old).load_faults name.now) ((F.folder files.new).load_faults name.now) }
     ensures no_fault { IsSome ((F.folder files.old).room name.now) → result ≢ Err ReadStop.Fault }
@@ -137,13 +137,10 @@ pub fn check_input<F: Files>(
     requires known { IsTrue ((F.folder files.old).knows name.now) }
     requires weights { AreWeights (bidders_of book.now) weights.now }
     ensures value { IfOk result
-        (IsRead CERT_BYTES (ShowsFacts book.now weights.now) (F.folder files.old).told
-        ((F.folder files.old).file name.now)) }
+        (IsRead CERT_BYTES (ShowsFacts book.now weights.now) name.now (F.folder files.old) (F.folder files.new)) }
     ensures stop { IfErr result
-        (InputStops Cert CERT_BYTES (StopsCheck book.now weights.now) (F.folder files.old).told
-        ((F.folder files.old).file name.now)
-        ((F.folder files.old).room name.now) ((F.folder files.old).load_faults name.now)
-        ((F.folder files.new).load_faults name.now)) }
+        (InputStops Cert CERT_BYTES (StopsCheck book.now weights.now) name.now (F.folder files.old)
+        (F.folder files.new)) }
     ensures loads { OnlyLoads name.now (F.folder files.old) (F.folder files.new) }
 {
     let mut numbers = empty_room(alloc, book)?;

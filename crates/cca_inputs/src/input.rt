@@ -61,13 +61,10 @@ pub fn read_input<F: Files, I: Input>(
 ) -> Result<I::Value, Status>
     requires { IsTrue ((F.folder files.old).knows name.now) }
     ensures value { IfOk result
-        (IsRead (I.room what.now) (I.states what.now) (F.folder files.old).told
-        ((F.folder files.old).file name.now)) }
+        (IsRead (I.room what.now) (I.states what.now) name.now (F.folder files.old) (F.folder files.new)) }
     ensures stop { IfErr result
-        (InputStops (I.part what.now) (I.room what.now) (I.halts what.now) (F.folder files.old).told
-        ((F.folder files.old).file name.now)
-        ((F.folder files.old).room name.now) ((F.folder files.old).load_faults name.now)
-        ((F.folder files.new).load_faults name.now)) }
+        (InputStops (I.part what.now) (I.room what.now) (I.halts what.now) name.now (F.folder files.old)
+        (F.folder files.new)) }
     ensures loads { OnlyLoads name.now (F.folder files.old) (F.folder files.new) }
 {
     match read_all(alloc, files, name, what.most()) {

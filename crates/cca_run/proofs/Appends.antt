@@ -8,6 +8,7 @@ use Rattle.std.proofs.Common.{append_assoc, get_or}
 use Rattle.std.proofs.lemmas.List.{take_all}
 use Rattle.cca_base.specs.Files.{Adds, Folder, KeepsFiles}
 use Rattle.cca_base.specs.Sink.{HasRoom}
+use Rattle.cca_base.proofs.Given.{keeps_still}
 use Rattle.cca_base.specs.declared.write.WriteStop.{WriteStop}
 use Rattle.cca_base.specs.declared.write.WriteStop.TheVariants.{Fault}
 use Rattle.cca_run.proofs.Moved.{all-on}
@@ -20,7 +21,7 @@ use Rattle.cca_run.specs.Works.{AppendEnds, FailsAt, OnlyAppends}
 use Rattle.cca_run.proofs.Counts.{rose-from}
 
 keeps : (folder : Folder) → KeepsFiles folder folder
-keeps folder = record { knows = refl; told = refl; file = refl; room = refl }
+keeps folder = keeps_still folder
 
 -- the names are known after an append as before
 pub known-on : (command : CommandValue) (old new : Folder) → new.knows ≡ old.knows → KnowsFiles old command → KnowsFiles new command
@@ -131,3 +132,8 @@ slice-first command [] first old new kind some is fails = absurd (omega (arith, 
 slice-first command (t ∷ texts) first old new kind some is fails =
     let same : t ≡ first = cc in
     fails-first command t texts old new kind (subst (λ (x : FileText). FailsAt command (x ∷ []) old new kind) (sym same) fails)
+
+-- a slice that is shorter than 1
+pub no_texts : (texts : List FileText) → length texts < 1 → texts ≡ []
+no_texts [] less = refl
+no_texts (t ∷ texts) less = absurd (omega (arith, less))

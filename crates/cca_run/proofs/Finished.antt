@@ -1,7 +1,8 @@
 -- How a command ends that has its work, and how a run then ends.
-use Rattle.std.proofs.Common.{inl, inr, ◌≡◌, ◌⊎◌, ◌∙◌, ℕ, ◌≤◌, ◌<◌, IsTrue, Some, List, length, refl, sym, ap, subst}
+use Rattle.std.proofs.Common.{inl, inr, ◌≡◌, ◌⊎◌, ◌∙◌, ℕ, ◌≤◌, ◌<◌, Option, Some, List, length, refl, sym, ap, subst}
 use Rattle.cca_base.specs.Faults.{Rose}
-use Rattle.cca_base.specs.Files.{Folder}
+use Rattle.cca_base.specs.Files.{Agrees, Folder}
+use Rattle.cca_base.proofs.Given.{agrees_same, agrees_told}
 use Rattle.cca_base.specs.Sink.{HasRoom, Output, Puts}
 use Rattle.cca_inputs.specs.Command.{CommandValue, inputs_of, output_as, outputs_of}
 use Rattle.cca_inputs.specs.Outcome.{Outcome, done}
@@ -58,9 +59,13 @@ append-failed command old new before now printed line appended kind result fails
 
 -- the work was worked out, and the command ended
 module _ (command : CommandValue) (old mid new : Folder) (before now : Output) (printed : List ℕ) (appended : List FileText) (result : Status) (reads : OnlyReads command old mid)
-    (e : FinishEnds command mid new before now printed appended result) (given : IsTrue old.told → FilesGive command old.file (done printed appended)) where
-  gives : IsTrue old.told → (o : Outcome) × FilesGive command old.file o × (o.status ≡ Done) × (o.appended ≡ appended)
-  gives told = (done printed appended, given told, refl, refl)
+    (e : FinishEnds command mid new before now printed appended result) (given : (files : List ℕ → Option (List ℕ)) → Agrees files old mid → FilesGive command files (done printed appended)) where
+  -- appends gave nothing more
+  earlier : (files : List ℕ → Option (List ℕ)) → Agrees files old new → Agrees files old mid
+  earlier files agrees = agrees_same files old new mid (sym e.counts.gave) agrees
+
+  gives : (files : List ℕ → Option (List ℕ)) → Agrees files old new → (o : Outcome) × FilesGive command files o × (o.status ≡ Done) × (o.appended ≡ appended)
+  gives files agrees = (done printed appended, given files (earlier files agrees), refl, refl)
 
   no-other : (P : Type 0) → ((kind : FileKind) → result ≡ WriteFault kind → P) → (result ≡ Done → P) → P
   no-other P wrote finished = elim e.others [
@@ -105,8 +110,8 @@ module _ (command : CommandValue) (old mid new : Folder) (before now : Output) (
     words = λ w. no-other _ (λ kind x. let y : WriteFault kind ≡ Words = sym x ∙ w in absurd cc) (λ x. let y : Done ≡ Words = sym x ∙ w in absurd cc);
     read_fault = λ kind r. no-other _ (λ other x. let y : WriteFault other ≡ ReadFault kind = sym x ∙ r in absurd cc) (λ x. let y : Done ≡ ReadFault kind = sym x ∙ r in absurd cc);
     write_fault = write-fault;
-    answer = λ told decided. no-other _ (λ kind w. absurd (subst IsDecided w decided))
-        (λ d. let x = e.done d in (done printed appended, given told, sym d, x.0, all-on command old mid new reads.kept appended x.1));
+    answer = λ files agrees decided. no-other _ (λ kind w. absurd (subst IsDecided w decided))
+        (λ d. let x = e.done d in (done printed appended, given files (earlier files agrees), sym d, x.0, all-on command old mid new reads.kept appended x.1));
     line = λ h. elim h [
       | inl w ↦ no-other _ (λ kind x. let y : WriteFault kind ≡ Words = sym x ∙ w in absurd cc) (λ x. let y : Done ≡ Words = sym x ∙ w in absurd cc)
       | inr h ↦ e.line h
@@ -116,13 +121,14 @@ module _ (command : CommandValue) (old mid new : Folder) (before now : Output) (
       f.1,
       f.2,
       f.3,
-      λ told. elim f.4 [
-        | inl whole ↦ inl (done printed appended, given told, whole)
+      λ files agrees. elim f.4 [
+        | inl whole ↦ inl (done printed appended, given files (earlier files agrees), whole)
         | inr x ↦ inr (WriteFault x.0, fails-to x.0 x.1, x.2)
       ],
       f.5,
     );
     kept = λ k. no-other _ (λ kind w. absurd (subst KeepsAll w k)) (λ d. absurd (subst KeepsAll d k));
+    told = λ tells. agrees_same old.file old mid new e.counts.gave (agrees_told old mid reads.kept tells);
     files = inr (record {
       appended = appended;
       given = gives;

@@ -11,11 +11,10 @@ use Rattle.cca_run.specs.Run.{Prints}
 use Rattle.cca_run.specs.Works.{Written}
 use Rattle.cca_run.proofs.Counts.{rose-from}
 
-grown : (a b : List ℕ) (n : ℕ) (x y z : Option (List ℕ)) → y ≡ option_map (λ t. t ++ take (length a) a) x → z ≡ option_map (λ t. t ++ take n b) y → z ≡ option_map (λ t. t ++ take (length a + n) (a ++ b)) x
-grown a b n None y z is then = then ∙ ap (option_map (λ t. t ++ take n b)) is
-grown a b n (Some t) y z is then =
-    then ∙ ap (option_map (λ u. u ++ take n b)) is
-    ∙ ap Some (append_assoc t (take (length a) a) (take n b) ∙ ap (λ (p : List ℕ). t ++ p) (ap (λ (p : List ℕ). p ++ take n b) (take-length a) ∙ sym (take-append-add a b n)))
+grown : (a b : List ℕ) (n : ℕ) (x y z : List ℕ) → y ≡ x ++ take (length a) a → z ≡ y ++ take n b → z ≡ x ++ take (length a + n) (a ++ b)
+grown a b n x y z is then =
+    then ∙ ap (λ (u : List ℕ). u ++ take n b) is
+    ∙ append_assoc x (take (length a) a) (take n b) ∙ ap (λ (p : List ℕ). x ++ p) (ap (λ (p : List ℕ). p ++ take n b) (take-length a) ∙ sym (take-append-add a b n))
 
 left : (m n : ℕ) (x y z : Option ℕ) → y ≡ option_map (λ r. r - m) x → z ≡ option_map (λ r. r - n) y → z ≡ option_map (λ r. r - (m + n)) x
 left m n None y z is then = then ∙ ap (option_map (λ r. r - n)) is
@@ -36,7 +35,7 @@ puts-on old mid new a b n p q = record {
 
 -- a front of the first
 puts-first : (old new : Output) (a b : List ℕ) (n : ℕ) → n ≤ length a → Puts old new a n → Puts old new (a ++ b) n
-puts-first old new a b n le p = record { bytes = p.bytes ∙ ap (λ (t : List ℕ). option_map (λ x. x ++ t) old.bytes) (sym (take-append-le n a b le)); fits = p.fits; room = p.room }
+puts-first old new a b n le p = record { bytes = p.bytes ∙ ap (λ (t : List ℕ). old.bytes ++ t) (sym (take-append-le n a b le)); fits = p.fits; room = p.room }
 
 -- room for both is room for the first
 room-first : (room : Option ℕ) (a b : List ℕ) → HasRoom room (length (a ++ b)) → HasRoom room (length a)

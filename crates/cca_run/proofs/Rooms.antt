@@ -5,7 +5,7 @@ use Rattle.std.specs.Option.{option_map, option_map_or}
 use Rattle.std.specs.Str.{bytes_eq}
 use Rattle.std.proofs.lemmas.Bool.{true≢false, cases_Bool}
 use Rattle.std.proofs.lemmas.Slice.Eq.{bytes_eq-Decides}
-use Rattle.cca_base.specs.Files.{Folder}
+use Rattle.cca_base.specs.Files.{Agrees, Folder}
 use Rattle.cca_base.specs.Sink.{HasRoom, Output}
 use Rattle.cca_inputs.specs.Command.{CommandValue, command_of, output_as}
 use Rattle.cca_inputs.specs.StatusLine.{status_line}
@@ -86,7 +86,7 @@ module _ (command : CommandValue) (old new : Folder) (kind : FileKind) (fault : 
       (among-texts command part.name part.before text part.behind (goes-to command part.name part.name text part.output ∙ (bytes_eq-Decides part.name part.name).1 refl))
       (subst (λ (texts : List FileText). HasRoom (old.room part.name) (appended_to command part.name texts)) part.split has)))
 
-module _ (words : List (List ℕ)) (old new : Folder) (before now : Output) (told : IsTrue old.told) (has : HasRooms words old before) where
+module _ (words : List (List ℕ)) (old new : Folder) (before now : Output) (agrees : Agrees old.file old new) (has : HasRooms words old before) where
   -- no load of an input fails
   no-read : (kind : FileKind) → IsReadFault (command_of words) old new kind → ⊥
   no-read kind fault = by (command_of words) refl fault
@@ -103,7 +103,7 @@ module _ (words : List (List ℕ)) (old new : Folder) (before now : Output) (tol
       by None is fault = fault
       by (Some command) is fault =
           let name = fault.part.name in
-          let given = fault.given told in
+          let given = fault.given old.file agrees in
           let room = has.appends given.0 (subst (λ (c : Option CommandValue). WordsGive c old.file given.0) (sym is) given.1) name
           (subst (λ (c : Option CommandValue). Contains (outputs c) name) (sym is) (output-among command kind name fault.part.output)) in
           let here = subst (λ (c : Option CommandValue). HasRoom (old.room name) (told_to c name given.0.appended)) is room in
@@ -122,7 +122,7 @@ module _ (words : List (List ℕ)) (old new : Folder) (before now : Output) (tol
 
   -- no put fails
   no-put : RunEnds (command_of words) old new before now (WriteFault kinds.Out) → ⊥
-  no-put ends = let f = ends.front refl in f.5 (elim (f.4 told) [
+  no-put ends = let f = ends.front refl in f.5 (elim (f.4 old.file agrees) [
     | inl o ↦ subst (λ (t : List ℕ). HasRoom before.room (length t)) (sym o.2) (has.prints o.0 o.1)
     | inr s ↦ subst (λ (t : List ℕ). HasRoom before.room (length t)) (sym s.2) (due-line s.0 s.1)
   ])

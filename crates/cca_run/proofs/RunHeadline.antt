@@ -1,7 +1,7 @@
 -- How the end of a run bears the headline.
 use Rattle.std.proofs.Common.{◌≡◌, ◌⊎◌, ◌∙◌, ℕ, IsTrue, Option, Some, None, List, [], ◌∷◌, length, refl, sym, ap, subst, arith, inl, inr}
 use Rattle.std.proofs.lemmas.List.{take_all}
-use Rattle.cca_base.specs.Files.{Adds, Folder, added}
+use Rattle.cca_base.specs.Files.{Adds, Agrees, Folder, added}
 use Rattle.cca_base.specs.Sink.{Output, Puts}
 use Rattle.cca_inputs.specs.Command.{CommandValue, audit, award, command_of}
 use Rattle.cca_inputs.specs.Outcome.{Outcome}
@@ -21,26 +21,26 @@ use Rattle.cca_run.proofs.Named.{input-among, output-among}
 use Rattle.cca_run.proofs.WordsApart.{IsApart, apart-in}
 
 -- the outcome of a run that is done
-record IsDone (command : Option CommandValue) (old new : Folder) (before now : Output) : Type 0 where
+record IsDone (command : Option CommandValue) (files : List ℕ → Option (List ℕ)) (old new : Folder) (before now : Output) : Type 0 where
   outcome : Outcome
-  gives : WordsGive command old.file outcome
+  gives : WordsGive command files outcome
   ends : outcome.status ≡ Done
   puts : Puts before now outcome.printed (length outcome.printed)
   appends : Appended command outcome.appended old new
 
-is-done : (command : Option CommandValue) (old new : Folder) (before now : Output) (result : Status) → RunEnds command old new before now result → IsTrue old.told → result ≡ Done → IsDone command old new before now
-is-done command old new before now result ends told done =
-    let a = ends.answer told (subst IsDecided (sym done) tt) in
+is-done : (command : Option CommandValue) (old new : Folder) (before now : Output) (result : Status) → RunEnds command old new before now result → (files : List ℕ → Option (List ℕ)) → Agrees files old new → result ≡ Done → IsDone command files old new before now
+is-done command old new before now result ends files agrees done =
+    let a = ends.answer files agrees (subst IsDecided (sym done) tt) in
     record { outcome = a.0; gives = a.1; ends = a.2 ∙ done; puts = a.3; appends = a.4 }
 
 -- a yes of `audit`
 pub run-audit : (law : (file : List ℕ → Option (List ℕ)) (terms log cert : List ℕ) (o : Outcome) → FilesGive (audit terms log cert) file o → o.status ≡ Done → IsAudited file terms log cert o.printed × (o.appended ≡ []))
     → (command : Option CommandValue) (old new : Folder) (before now : Output) (result : Status) → RunEnds command old new before now result
-    → (terms log cert : List ℕ) → command ≡ Some (audit terms log cert) → IsTrue old.told → result ≡ Done → (text : List ℕ) × IsAudited old.file terms log cert text × Puts before now text (length text)
-run-audit law command old new before now result ends terms log cert is told done =
-    let d = is-done command old new before now result ends told done in
-    let gives = subst (λ (k : Option CommandValue). WordsGive k old.file d.outcome) is d.gives in
-    (d.outcome.printed, (law old.file terms log cert d.outcome gives d.ends).0, d.puts)
+    → (terms log cert : List ℕ) → command ≡ Some (audit terms log cert) → (files : List ℕ → Option (List ℕ)) → Agrees files old new → result ≡ Done → (text : List ℕ) × IsAudited files terms log cert text × Puts before now text (length text)
+run-audit law command old new before now result ends terms log cert is files agrees done =
+    let d = is-done command old new before now result ends files agrees done in
+    let gives = subst (λ (k : Option CommandValue). WordsGive k files d.outcome) is d.gives in
+    (d.outcome.printed, (law files terms log cert d.outcome gives d.ends).0, d.puts)
 
 -- what an outcome of `award` that is Done shows of its files
 abbrev pub AwardLaw : Type 0
@@ -48,20 +48,20 @@ AwardLaw = (file : List ℕ → Option (List ℕ)) (terms log cert : List ℕ) (
     → (text : List ℕ) × IsAwarded file terms log text × (o.appended ≡ cert_file text ∷ [])
 
 -- an `award` that is done
-record IsAwardDone (old new : Folder) (terms log cert : List ℕ) (form : PriceForm) : Type 0 where
+record IsAwardDone (files : List ℕ → Option (List ℕ)) (old new : Folder) (terms log cert : List ℕ) (form : PriceForm) : Type 0 where
   outcome : Outcome
-  gives : FilesGive (award terms log cert form) old.file outcome
+  gives : FilesGive (award terms log cert form) files outcome
   text : List ℕ
-  awarded : IsAwarded old.file terms log text
+  awarded : IsAwarded files terms log text
   appended : outcome.appended ≡ cert_file text ∷ []
   appends : AppendsAll (award terms log cert form) (cert_file text ∷ []) old new
 
 award-done : AwardLaw → (command : Option CommandValue) (old new : Folder) (before now : Output) (result : Status) → RunEnds command old new before now result
-    → (terms log cert : List ℕ) (form : PriceForm) → command ≡ Some (award terms log cert form) → IsTrue old.told → result ≡ Done → IsAwardDone old new terms log cert form
-award-done law command old new before now result ends terms log cert form is told done =
-    let d = is-done command old new before now result ends told done in
-    let gives = subst (λ (k : Option CommandValue). WordsGive k old.file d.outcome) is d.gives in
-    let shows = law old.file terms log cert form d.outcome gives d.ends in
+    → (terms log cert : List ℕ) (form : PriceForm) → command ≡ Some (award terms log cert form) → (files : List ℕ → Option (List ℕ)) → Agrees files old new → result ≡ Done → IsAwardDone files old new terms log cert form
+award-done law command old new before now result ends terms log cert form is files agrees done =
+    let d = is-done command old new before now result ends files agrees done in
+    let gives = subst (λ (k : Option CommandValue). WordsGive k files d.outcome) is d.gives in
+    let shows = law files terms log cert form d.outcome gives d.ends in
     let appends = subst (λ (k : Option CommandValue). Appended k d.outcome.appended old new) is d.appends in
     record {
       outcome = d.outcome;
@@ -74,10 +74,10 @@ award-done law command old new before now result ends terms log cert form is tol
 
 -- it appends a certificate that bears the headline
 pub run-award : AwardLaw → (command : Option CommandValue) (old new : Folder) (before now : Output) (result : Status) → RunEnds command old new before now result
-    → (terms log cert : List ℕ) (form : PriceForm) → command ≡ Some (award terms log cert form) → IsTrue old.told → result ≡ Done
-    → (text : List ℕ) × IsAwarded old.file terms log text × AppendsAll (award terms log cert form) (cert_file text ∷ []) old new
-run-award law command old new before now result ends terms log cert form is told done =
-    let d = award-done law command old new before now result ends terms log cert form is told done in
+    → (terms log cert : List ℕ) (form : PriceForm) → command ≡ Some (award terms log cert form) → (files : List ℕ → Option (List ℕ)) → Agrees files old new → result ≡ Done
+    → (text : List ℕ) × IsAwarded files terms log text × AppendsAll (award terms log cert form) (cert_file text ∷ []) old new
+run-award law command old new before now result ends terms log cert form is files agrees done =
+    let d = award-done law command old new before now result ends terms log cert form is files agrees done in
     (d.text, d.awarded, d.appends)
 
 -- a fault of reading was counted
@@ -117,28 +117,28 @@ run-complete command old new before now Memory ends none = inl refl
 run-complete command old new before now (Limit which count) ends none = inr tt
 
 -- without a fault a run whose words and bytes give Done alone is Done, or there was no memory
-module _ (command : Option CommandValue) (old new : Folder) (before now : Output) (result : Status) (ends : RunEnds command old new before now result) (told : IsTrue old.told)
+module _ (command : Option CommandValue) (old new : Folder) (before now : Output) (result : Status) (ends : RunEnds command old new before now result) (files : List ℕ → Option (List ℕ)) (agrees : Agrees files old new)
     (none : HasNoFault command old new before now) where
-  done_or_memory : ((o : Outcome) → WordsGive command old.file o → o.status ≡ Done) → (result ≡ Done) ⊎ (result ≡ Memory)
+  done_or_memory : ((o : Outcome) → WordsGive command files o → o.status ≡ Done) → (result ≡ Done) ⊎ (result ≡ Memory)
   done_or_memory all =
       elim (run-complete command old new before now result ends none) [
         | inl memory ↦ inr memory
-        | inr decided ↦ (let a = ends.answer told decided in inl (sym a.2 ∙ all a.0 a.1))
+        | inr decided ↦ (let a = ends.answer files agrees decided in inl (sym a.2 ∙ all a.0 a.1))
       ]
 
   -- an auction within the limits was awarded
   pub run-awarded : ((file : List ℕ → Option (List ℕ)) (terms log cert : List ℕ) (form : PriceForm) (o : Outcome) → CanBeAwarded file terms log → FilesGive (award terms log cert form) file o → o.status ≡ Done)
-      → (terms log cert : List ℕ) (form : PriceForm) → command ≡ Some (award terms log cert form) → CanBeAwarded old.file terms log → (result ≡ Done) ⊎ (result ≡ Memory)
+      → (terms log cert : List ℕ) (form : PriceForm) → command ≡ Some (award terms log cert form) → CanBeAwarded files terms log → (result ≡ Done) ⊎ (result ≡ Memory)
   run-awarded law terms log cert form is can =
-      done_or_memory (λ o gives. law old.file terms log cert form o can (subst (λ (k : Option CommandValue). WordsGive k old.file o) is gives))
+      done_or_memory (λ o gives. law files terms log cert form o can (subst (λ (k : Option CommandValue). WordsGive k files o) is gives))
 
   -- and its certificate accepted
   pub run-accepted : ((terms log cert : List ℕ) (form : PriceForm) (file later : List ℕ → Option (List ℕ)) (o p : Outcome) → FilesGive (award terms log cert form) file o → HoldsCert (terms ∷ log ∷ []) cert file later o
       → FilesGive (audit terms log cert) later p → p.status ≡ Done)
       → (terms log cert : List ℕ) (form : PriceForm) (earlier : List ℕ → Option (List ℕ)) (o : Outcome) → command ≡ Some (audit terms log cert) → FilesGive (award terms log cert form) earlier o
-      → HoldsCert (terms ∷ log ∷ []) cert earlier old.file o → (result ≡ Done) ⊎ (result ≡ Memory)
+      → HoldsCert (terms ∷ log ∷ []) cert earlier files o → (result ≡ Done) ⊎ (result ≡ Memory)
   run-accepted law terms log cert form earlier o is gave holds =
-      done_or_memory (λ p gives. law terms log cert form earlier old.file o p gave holds (subst (λ (k : Option CommandValue). WordsGive k old.file p) is gives))
+      done_or_memory (λ p gives. law terms log cert form earlier files o p gave holds (subst (λ (k : Option CommandValue). WordsGive k files p) is gives))
 
 -- what a text that was appended whole to a file that is none of these leaves in the files
 appended-cert : (terms log cert text : List ℕ) (form : PriceForm) (old new : Folder) (o : Outcome) → IsApart terms log cert → IsTrue old.told → o.appended ≡ cert_file text ∷ [] → HoldsNothing (old.file cert)
@@ -165,5 +165,5 @@ pub run-hands_on : AwardLaw → (words : List (List ℕ)) (old new : Folder) (be
     → (terms log cert : List ℕ) (form : PriceForm) → command_of words ≡ Some (award terms log cert form) → IsTrue old.told → result ≡ Done → HoldsNothing (old.file cert)
     → (o : Outcome) × FilesGive (award terms log cert form) old.file o × HoldsCert (terms ∷ log ∷ []) cert old.file new.file o
 run-hands_on law words old new before now result ends terms log cert form is told done nothing =
-    let d = award-done law (command_of words) old new before now result ends terms log cert form is told done in
+    let d = award-done law (command_of words) old new before now result ends terms log cert form is old.file (ends.told told) done in
     (d.outcome, d.gives, appended-cert terms log cert d.text form old new d.outcome (apart-in words terms log cert form is) told d.appended nothing d.appends)

@@ -1,7 +1,8 @@
 -- How a run ends whose way to the work stopped, or whose words say no command.
-use Rattle.std.proofs.Common.{inl, inr, ◌≡◌, ◌⊎◌, ◌∙◌, ℕ, ◌<◌, IsTrue, Some, List, [], ◌++◌, length, refl, sym, ap, subst}
+use Rattle.std.proofs.Common.{inl, inr, ◌≡◌, ◌⊎◌, ◌∙◌, ℕ, ◌<◌, Option, Some, List, [], ◌++◌, length, refl, sym, ap, subst}
 use Rattle.cca_base.specs.Faults.{Rose}
-use Rattle.cca_base.specs.Files.{Folder, KeepsFiles}
+use Rattle.cca_base.specs.Files.{Agrees, Folder, KeepsFiles}
+use Rattle.cca_base.proofs.Given.{agrees_told, keeps_still}
 use Rattle.cca_base.specs.Sink.{HasRoom, Output, Puts}
 use Rattle.cca_inputs.specs.Command.{CommandValue, outputs_of}
 use Rattle.cca_inputs.specs.Outcome.{Outcome, stopped_after}
@@ -35,7 +36,7 @@ module _ (before now : Output) (text : List ℕ) (status result : Status) (print
 -- the words say no command
 module _ (folder : Folder) (before now : Output) (line : List ℕ) (result : Status) (is : line ≡ status_line Words) (prints : Prints before now line Words result) where
   keeps : KeepsFiles folder folder
-  keeps = record { knows = refl; told = refl; file = refl; room = refl }
+  keeps = keeps_still folder
 
 -- the way to the work of a command stopped
 module _ (command : CommandValue) (old new : Folder) (before now : Output) (stop : Stop) (result : Status) (reads : OnlyReads command old new) (stops : StopsBy command old new stop)
@@ -45,7 +46,7 @@ module _ (command : CommandValue) (old new : Folder) (before now : Output) (stop
 
   -- by each of the three ways
   by-way : (P : Type 0) → (stop ≡ bare Memory → P) → ((kind : FileKind) → stop ≡ bare (ReadFault kind) → FailsToRead command old new kind → P)
-      → (IsStop stop.status → (IsTrue old.told → FilesGive command old.file (stopped_after (text_before stop) stop.status)) → P) → P
+      → (IsStop stop.status → ((files : List ℕ → Option (List ℕ)) → Agrees files old new → FilesGive command files (stopped_after (text_before stop) stop.status)) → P) → P
   by-way P memory fault given = elim stops [
     | inl m ↦ memory m
     | inr rest ↦ elim rest [
@@ -89,11 +90,11 @@ module _ (command : CommandValue) (old new : Folder) (before now : Output) (stop
           clash Memory a b = a
           clash s a b = b
 
-  due : IsTrue old.told → ((o : Outcome) × WordsGive (Some command) old.file o × (text ≡ o.printed)) ⊎ ((status : Status) × IsHindrance (Some command) old new status × (text ≡ status_line status))
-  due told = by-way _
+  due : (files : List ℕ → Option (List ℕ)) → Agrees files old new → ((o : Outcome) × WordsGive (Some command) files o × (text ≡ o.printed)) ⊎ ((status : Status) × IsHindrance (Some command) old new status × (text ≡ status_line status))
+  due files agrees = by-way _
       (λ m. inr (Memory, tt, ap (λ (x : Stop). text_before x ++ status_line x.status) m))
       (λ kind m f. inr (ReadFault kind, f, ap (λ (x : Stop). text_before x ++ status_line x.status) m))
-      (λ s g. inl (stopped_after (text_before stop) stop.status, g told, refl))
+      (λ s g. inl (stopped_after (text_before stop) stop.status, g files agrees, refl))
 
   -- the files and the output are as a run that stopped leaves them
   pub stop-ends : RunEnds (Some command) old new before now result
@@ -101,9 +102,9 @@ module _ (command : CommandValue) (old new : Folder) (before now : Output) (stop
     words = λ r. as-result before now text stop.status result prints _ (λ e w. absurd (never-words (sym e ∙ r))) (λ e rose cut full. let x : WriteFault Out ≡ Words = sym e ∙ r in absurd cc);
     read_fault = read-fault;
     write_fault = λ kind r. let o = put-failed kind r in subst (λ (k : FileKind). IsWriteFault (Some command) old new before now k) o.0 o.1;
-    answer = λ told decided. as-result before now text stop.status result prints _
+    answer = λ files agrees decided. as-result before now text stop.status result prints _
         (λ e w. by-way _ (λ m. absurd (subst IsDecided (e ∙ status-of _ m) decided)) (λ kind m f. absurd (subst IsDecided (e ∙ status-of _ m) decided))
-        (λ s g. (stopped_after (text_before stop) stop.status, g told, sym e, w, reads.kept)))
+        (λ s g. (stopped_after (text_before stop) stop.status, g files agrees, sym e, w, reads.kept)))
         (λ e rose cut full. absurd (subst IsDecided e decided));
     line = λ h. as-result before now text stop.status result prints _
         (λ e w. let hindered : IsHindered stop.status = elim h [
@@ -116,6 +117,7 @@ module _ (command : CommandValue) (old new : Folder) (before now : Output) (stop
         ]));
     front = λ r. as-result before now text stop.status result prints _ (λ e w. absurd (never-wrote Out (sym e ∙ r))) (λ e rose cut full. (text, cut.0, cut.1, cut.2, due, full));
     kept = λ k. reads.kept;
+    told = agrees_told old new reads.kept;
     files = inl reads.kept;
     loads = reads.loads;
     appends = subst (λ (c : List ℕ → ℕ). CountsAmong (outputs_of command) old.append_faults c) (sym reads.appends) (among-none (outputs_of command) old.append_faults);

@@ -1,7 +1,7 @@
 -- How a run ends: the causes of faults, and what is left in the files and in the output.
 use Rattle.std.specs.Prelude.{◌≡◌, ◌⊎◌, ◌<◌, ◌≤◌, ℕ, IsSome, IsTrue, Option, Some, None, List, [], ◌∷◌, ◌++◌, Contains, length}
 use Rattle.cca_base.specs.Faults.{Rose}
-use Rattle.cca_base.specs.Files.{Folder, KeepsFiles, Adds}
+use Rattle.cca_base.specs.Files.{Adds, Agrees, Folder, KeepsFiles}
 use Rattle.cca_base.specs.Sink.{HasRoom, Output, Puts}
 use Rattle.cca_inputs.specs.Command.{CommandValue, command_of, contents_of, input_as, inputs_of, missing, output_as, outputs_of}
 use Rattle.cca_inputs.specs.Outcome.{Outcome, stopped}
@@ -23,7 +23,7 @@ pub record FailsToRead (command : CommandValue) (old new : Folder) (kind : FileK
   pub input : input_as command kind ≡ Some name
   pub rose : Rose (old.load_faults name) (new.load_faults name)
   pub no_room : IsSome (old.room name) → ⊥
-  pub reached : IsTrue old.told → IsReached command (contents_of command old.file) kind
+  pub reached : (files : List ℕ → Option (List ℕ)) → Agrees files old new → IsReached command (contents_of command files) kind
 
 abbrev pub IsReadFault : Option CommandValue → Folder → Folder → FileKind → Type 0
 IsReadFault None old new kind = ⊥
@@ -64,8 +64,8 @@ pub record FailsToWrite (command : CommandValue) (old new : Folder) (kind : File
   pub output : output_as command kind ≡ Some name
   pub rose : Rose (old.append_faults name) (new.append_faults name)
   pub appended : List FileText
-  pub given : IsTrue old.told
-      → (o : Outcome) × FilesGive command old.file o × (o.status ≡ Done) × (o.appended ≡ appended)
+  pub given : (files : List ℕ → Option (List ℕ)) → Agrees files old new
+      → (o : Outcome) × FilesGive command files o × (o.status ≡ Done) × (o.appended ≡ appended)
   pub part : AppendsUpTo command kind appended old new
 
 abbrev pub IsFileFault : Option CommandValue → Folder → Folder → FileKind → Type 0
@@ -99,9 +99,9 @@ IsHindrance command old new Memory = IsPlain command
 IsHindrance command old new (Limit which count) = ⊥
 
 -- A text that was due to be printed: that of the result, or the line of a hindrance whose own cause holds.
-abbrev pub IsDue : List (List ℕ) → Folder → Folder → List ℕ → Type 0
-IsDue words old new text =
-    ((o : Outcome) × Gives words old.file o × (text ≡ o.printed))
+abbrev pub IsDue : List (List ℕ) → (List ℕ → Option (List ℕ)) → Folder → Folder → List ℕ → Type 0
+IsDue words files old new text =
+    ((o : Outcome) × Gives words files o × (text ≡ o.printed))
     ⊎ ((status : Status) × IsHindrance (command_of words) old new status × (text ≡ status_line status))
 
 -- what a command appends was appended whole
@@ -112,8 +112,8 @@ Appended (Some command) appended old new = AppendsAll command appended old new
 -- The texts that the command gives were appended, whole and in order, up to some place.
 pub record Grows (command : CommandValue) (old new : Folder) : Type 0 where
   pub appended : List FileText
-  pub given : IsTrue old.told
-      → (o : Outcome) × FilesGive command old.file o × (o.status ≡ Done) × (o.appended ≡ appended)
+  pub given : (files : List ℕ → Option (List ℕ)) → Agrees files old new
+      → (o : Outcome) × FilesGive command files o × (o.status ≡ Done) × (o.appended ≡ appended)
   pub grown : AppendsAll command appended old new ⊎ ((kind : FileKind) × AppendsUpTo command kind appended old new)
 
 -- no file changed, or the command's files grew

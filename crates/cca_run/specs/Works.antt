@@ -7,7 +7,7 @@ use Rattle.auction_rules.specs.declared.Event.{Event}
 use Rattle.log_replay.specs.ReplyLines.{end_of}
 use Rattle.log_replay.specs.declared.results.ReplayStop.{ReplayStop}
 use Rattle.cca_base.specs.Faults.{Rose}
-use Rattle.cca_base.specs.Files.{Folder, KeepsFiles}
+use Rattle.cca_base.specs.Files.{Agrees, Folder, KeepsFiles}
 use Rattle.cca_base.specs.Sink.{HasRoom, Output, Puts}
 use Rattle.core_price.specs.declared.priced.PriceStop.{PriceStop}
 use Rattle.core_price.specs.declared.priced.PriceStop.TheVariants as price
@@ -59,7 +59,7 @@ StopsBy command old new stop =
     (stop ≡ bare Memory)
     ⊎ (((kind : FileKind) × (stop ≡ bare (ReadFault kind)) × FailsToRead command old new kind)
     ⊎ (IsStop stop.status
-    × (IsTrue old.told → FilesGive command old.file (stopped_after (text_before stop) stop.status))))
+    × ((files : List ℕ → Option (List ℕ)) → Agrees files old new → FilesGive command files (stopped_after (text_before stop) stop.status))))
 
 -- the command appends to files of these kinds
 abbrev pub AreOutputs : CommandValue → List FileText → Type 0
@@ -67,7 +67,7 @@ AreOutputs command texts = AllByRecursion (λ t. IsSome (output_as command t.kin
 
 abbrev pub WorksOut : CommandValue → Folder → Folder → Result Work Stop → Type 0
 WorksOut command old new (Ok work) = AreOutputs command work.appended.items
-    × (IsTrue old.told → FilesGive command old.file (done work.printed work.appended.items))
+    × ((files : List ℕ → Option (List ℕ)) → Agrees files old new → FilesGive command files (done work.printed work.appended.items))
 WorksOut command old new (Err stop) = StopsBy command old new stop
 
 -- no file changed, and only counts of failed loads of the command's inputs may have risen
@@ -90,6 +90,7 @@ pub record FailsAt (command : CommandValue) (appended : List FileText) (old new 
 
 -- no count of failed loads changed, and of those of failed appends only those of the command's outputs, which didn't fall
 pub record OnlyAppends (command : CommandValue) (old new : Folder) : Type 0 where
+  pub gave : new.gave ≡ old.gave
   pub loads : new.load_faults ≡ old.load_faults
   pub appends : CountsAmong (outputs_of command) old.append_faults new.append_faults
 
@@ -109,16 +110,17 @@ pub record RunEnds (command : Option CommandValue) (old new : Folder) (before no
   pub words : result ≡ Words → command ≡ None
   pub read_fault : (kind : FileKind) → result ≡ ReadFault kind → IsReadFault command old new kind
   pub write_fault : (kind : FileKind) → result ≡ WriteFault kind → IsWriteFault command old new before now kind
-  pub answer : IsTrue old.told → IsDecided result
-      → (o : Outcome) × WordsGive command old.file o × (o.status ≡ result)
+  pub answer : (files : List ℕ → Option (List ℕ)) → Agrees files old new → IsDecided result
+      → (o : Outcome) × WordsGive command files o × (o.status ≡ result)
       × Puts before now o.printed (length o.printed) × Appended command o.appended old new
   pub line : (result ≡ Words) ⊎ IsHindered result → Puts before now (status_line result) (length (status_line result))
   pub front : result ≡ WriteFault Out → (text : List ℕ) × (n : ℕ) × (n < length text) × Puts before now text n
-      × (IsTrue old.told
-      → ((o : Outcome) × WordsGive command old.file o × (text ≡ o.printed))
+      × ((files : List ℕ → Option (List ℕ)) → Agrees files old new
+      → ((o : Outcome) × WordsGive command files o × (text ≡ o.printed))
       ⊎ ((status : Status) × IsHindrance command old new status × (text ≡ status_line status)))
       × (HasRoom before.room (length text) → ⊥)
   pub kept : KeepsAll result → KeepsFiles old new
+  pub told : IsTrue old.told → Agrees old.file old new
   pub files : Changes command old new
   pub loads : CountsAmong (inputs command) old.load_faults new.load_faults
   pub appends : CountsAmong (outputs command) old.append_faults new.append_faults

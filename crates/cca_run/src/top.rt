@@ -1,6 +1,6 @@
 // The top call.
 ghost use Rattle.std.specs.Prelude.{◌≡◌, ◌⊎◌, ◌≤◌, ◌<◌, ◌∷◌, ℕ, List, [], length, map, string_bytes, All, IsTrue, Option, Some, None};
-ghost use Rattle.cca_base.specs.Files.{KeepsFiles};
+ghost use Rattle.cca_base.specs.Files.{Agrees, KeepsFiles};
 ghost use Rattle.cca_base.specs.Sink.{Puts};
 ghost use Rattle.cca_inputs.specs.Command.{audit, award, command_of};
 ghost use Rattle.cca_inputs.specs.Outcome.{Outcome};
@@ -110,27 +110,30 @@ pub fn run<F: Files, O: Sink>(alloc: Global, words: &[String], files: &mut F, ou
     // the first feasible choice of greatest net value, no coalition blocks the prices, their sum is least in the core, and every other
     // core point of that sum lies farther from the Vickrey point; and `award` appends a certificate of such an outcome.
     ensures audit { (terms log cert : List ℕ) → command_of (map string_bytes words.now) ≡ Some (audit terms log cert)
-        → IsTrue (F.folder files.old).told
+        → (given : List ℕ → Option (List ℕ)) → Agrees given (F.folder files.old) (F.folder files.new)
         → result ≡ Status.Done
-        → (text : List ℕ) × IsAudited (F.folder files.old).file terms log cert text
+        → (text : List ℕ) × IsAudited given terms log cert text
         × Puts (O.output out.old) (O.output out.new) text (length text) }
     ensures award { (terms log cert : List ℕ) (form : PriceForm)
-        → command_of (map string_bytes words.now) ≡ Some (award terms log cert form) → IsTrue (F.folder files.old).told
-        → result ≡ Status.Done → (text : List ℕ) × IsAwarded (F.folder files.old).file terms log text
+        → command_of (map string_bytes words.now) ≡ Some (award terms log cert form)
+        → (given : List ℕ → Option (List ℕ)) → Agrees given (F.folder files.old) (F.folder files.new)
+        → result ≡ Status.Done → (text : List ℕ) × IsAwarded given terms log text
         × AppendsAll (award terms log cert form) (cert_file text ∷ []) (F.folder files.old) (F.folder files.new) }
 
     // Its other half: `award` writes such a certificate for every auction within the limits, and `audit` over the same bytes says yes, where
     // the certificate's file held nothing before; but for a fault that was counted, and want of memory.
     ensures awarded { (terms log cert : List ℕ) (form : PriceForm)
-        → command_of (map string_bytes words.now) ≡ Some (award terms log cert form) → IsTrue (F.folder files.old).told
-        → CanBeAwarded (F.folder files.old).file terms log
+        → command_of (map string_bytes words.now) ≡ Some (award terms log cert form)
+        → (given : List ℕ → Option (List ℕ)) → Agrees given (F.folder files.old) (F.folder files.new)
+        → CanBeAwarded given terms log
         → HasNoFault (command_of (map string_bytes words.now)) (F.folder files.old) (F.folder files.new)
         (O.output out.old) (O.output out.new)
         → (result ≡ Status.Done) ⊎ (result ≡ Status.Memory) }
     ensures accepted { (terms log cert : List ℕ) (form : PriceForm) (before : List ℕ → Option (List ℕ)) (o : Outcome)
-        → command_of (map string_bytes words.now) ≡ Some (audit terms log cert) → IsTrue (F.folder files.old).told
+        → command_of (map string_bytes words.now) ≡ Some (audit terms log cert)
+        → (given : List ℕ → Option (List ℕ)) → Agrees given (F.folder files.old) (F.folder files.new)
         → FilesGive (award terms log cert form) before o
-        → HoldsCert (terms ∷ log ∷ []) cert before (F.folder files.old).file o
+        → HoldsCert (terms ∷ log ∷ []) cert before given o
         → HasNoFault (command_of (map string_bytes words.now)) (F.folder files.old) (F.folder files.new)
         (O.output out.old) (O.output out.new) → (result ≡ Status.Done) ⊎ (result ≡ Status.Memory) }
     ensures handed_on { (terms log cert : List ℕ) (form : PriceForm)
@@ -155,10 +158,14 @@ pub fn run<F: Files, O: Sink>(alloc: Global, words: &[String], files: &mut F, ou
         → IsWriteFault (command_of (map string_bytes words.now)) (F.folder files.old) (F.folder files.new)
         (O.output out.old) (O.output out.new) kind }
 
+    // Where the bytes are told, the loads of this call gave them.
+    ensures told { IsTrue (F.folder files.old).told
+        → Agrees (F.folder files.old).file (F.folder files.old) (F.folder files.new) }
+
     // Every other status but want of memory is the one that the words and the bytes give; its text was printed whole, and what it
     // appends was appended whole.
-    ensures answer { IsTrue (F.folder files.old).told → IsDecided result
-        → (o : Outcome) × Gives (map string_bytes words.now) (F.folder files.old).file o
+    ensures answer { (given : List ℕ → Option (List ℕ)) → Agrees given (F.folder files.old) (F.folder files.new)
+        → IsDecided result → (o : Outcome) × Gives (map string_bytes words.now) given o
         × (o.status ≡ result) × Puts (O.output out.old) (O.output out.new) o.printed (length o.printed)
         × Appended (command_of (map string_bytes words.now)) o.appended (F.folder files.old) (F.folder files.new) }
 
@@ -168,8 +175,8 @@ pub fn run<F: Files, O: Sink>(alloc: Global, words: &[String], files: &mut F, ou
         → Puts (O.output out.old) (O.output out.new) (status_line result) (length (status_line result)) }
     ensures front { result ≡ Status.WriteFault FileKind.Out
         → (text : List ℕ) × (n : ℕ) × (n < length text) × Puts (O.output out.old) (O.output out.new) text n
-        × (IsTrue (F.folder files.old).told
-        → IsDue (map string_bytes words.now) (F.folder files.old) (F.folder files.new) text) }
+        × ((given : List ℕ → Option (List ℕ)) → Agrees given (F.folder files.old) (F.folder files.new)
+        → IsDue (map string_bytes words.now) given (F.folder files.old) (F.folder files.new) text) }
 
     // The command's files grow by the front of what it appends, one after the other, and only on Done and faults of writing; no other
     // file changes.

@@ -72,7 +72,7 @@ fn add_bytes(files: &mut [CleanFile], name: &str, piece: &[u8]) -> Result<(), Fa
     requires { IsTrue ((clean_folder files.old).knows name.now) }
     ensures added { OnOk result
         (Becomes name.now (clean_folder files.old) (clean_folder files.new)
-        (Some (unwrap_or ((clean_folder files.old).file name.now) [] ++ piece.now)) (length piece.now)) }
+        (Some (unwrap_or ((clean_folder files.old).file name.now) [] ++ piece.now)) [] (length piece.now)) }
     ensures full { OnErr result (IsSomeAnd ((clean_folder files.old).room name.now) (λ r. r < length piece.now)) }
     ensures kept { OnErr result (KeepsFiles (clean_folder files.old) (clean_folder files.new)) }
     ensures loads { (clean_folder files.new).load_faults ≡ (clean_folder files.old).load_faults }
@@ -89,7 +89,7 @@ pub(crate) fn add_to(files: &mut [CleanFile], name: &str, piece: &[u8]) -> Resul
     requires { IsTrue ((clean_folder files.old).knows name.now) }
     ensures added { OnOk result
         (Becomes name.now (clean_folder files.old) (clean_folder files.new)
-        (Some (unwrap_or ((clean_folder files.old).file name.now) [] ++ piece.now)) (length piece.now)) }
+        (Some (unwrap_or ((clean_folder files.old).file name.now) [] ++ piece.now)) [] (length piece.now)) }
     ensures quiet { OnOk result ((clean_folder files.new).append_faults ≡ (clean_folder files.old).append_faults) }
     ensures full { OnErr result (IsSomeAnd ((clean_folder files.old).room name.now) (λ r. r < length piece.now)) }
     ensures kept { OnErr result (KeepsFiles (clean_folder files.old) (clean_folder files.new)) }

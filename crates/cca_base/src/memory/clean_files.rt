@@ -1,15 +1,16 @@
 // Files in memory that was reserved when they were made.
-ghost use Rattle.std.specs.Prelude.{◌≡◌, ◌<◌, ◌≤◌, ◌^◌, ◌-◌, min, ℕ, List, length, string_bytes, [], Some, IfOk, IsOk, IsTrue, refl, IsSomeAnd, OnOk, OnErr};
+ghost use Rattle.std.specs.Prelude.{◌≡◌, ◌∷◌, take, ◌<◌, ◌≤◌, ◌^◌, ◌-◌, min, ℕ, List, length, string_bytes, [], Some, IfOk, IsOk, IsTrue, refl, IsSomeAnd, OnOk, OnErr};
 ghost use Rattle.std.specs.List.{list_any};
 ghost use Rattle.std.specs.Str.{bytes_eq};
 ghost use Rattle.cca_base.specs.Faults.{Rose};
 ghost use Rattle.cca_base.specs.Files.{KeepsFiles, CountsOnly, Stands, Appends};
 ghost use Rattle.cca_base.specs.CleanFiles.{clean_folder, clean_seen};
-ghost use Rattle.cca_base.specs.Entries.{entry_of, roomy_by};
+ghost use Rattle.cca_base.specs.Entries.{entry_of, roomy_by, with_gave};
 
 use crate::memory::clean_file::{CleanFile, add_to, bytes_of};
 use crate::memory::mem_file::copy_from;
 use crate::named::{append_faults_of, load_faults_of, new_files};
+use crate::trace::{Call, Trace};
 use crate::{Failed, Files};
 use std::alloc::{AllocError, Global};
 
@@ -18,6 +19,7 @@ use std::alloc::{AllocError, Global};
 #[derive(Drop)]
 pub struct CleanFiles {
     files: Vec<CleanFile>,
+    gave: Trace,
 }
 
 impl CleanFiles {
@@ -45,6 +47,7 @@ impl CleanFiles {
     {
         Ok(CleanFiles {
             files: new_files(alloc, names, room as usize)?,
+            gave: Trace::new(),
         })
     }
 
@@ -58,7 +61,7 @@ impl CleanFiles {
 }
 
 impl Files for CleanFiles {
-    ghost folder = { λ s. clean_folder s.files.items };
+    ghost folder = { λ s. with_gave (clean_folder s.files.items) s.gave.calls };
 
     fn load(&mut self, name: &str, at: u64, buf: &mut [u8]) -> Result<usize, Failed>
         requires known { IsTrue ((clean_folder self.old.files.items).knows name.now) }
@@ -68,21 +71,35 @@ impl Files for CleanFiles {
             (file : List ℕ) → (clean_folder self.old.files.items).file name.now ≡ Some file
             → Stands file at (length buf.old) buf.new n) }
 
-        // No load fails, nothing changes, and as many bytes come as the buffer takes.
+        ensures kept { KeepsFiles (with_gave (clean_folder self.old.files.items) self.old.gave.calls)
+            (with_gave (clean_folder self.new.files.items) self.new.gave.calls) }
+        ensures gave { IfOk result (λ n. self.new.gave.calls
+            ≡ record { name = name.now; at = at; room = length buf.old; bytes = take n buf.new } ∷ self.old.gave.calls) }
+
+        // No load fails, no file changes, and as many bytes come as the buffer takes.
         ensures loaded { IsOk result }
-        ensures same { self.new ≡ self.old }
+        ensures same { self.new.files ≡ self.old.files }
         ensures exact { IfOk result (λ n.
             (file : List ℕ) → (clean_folder self.old.files.items).file name.now ≡ Some file
             → n ≡ min (length buf.old) (length file - at)) }
     {
         let bite = buf.len();
-        Ok(copy_from(bytes_of(&self.files, name), at as usize, bite, buf))
+        let n = copy_from(bytes_of(&self.files, name), at as usize, bite, buf);
+        self.gave = self.gave.with(&Call {
+            name,
+            at,
+            room: buf.len(),
+            bytes: &buf[..n],
+        });
+        Ok(n)
     }
 
     fn append(&mut self, name: &str, piece: &[u8]) -> Result<usize, Failed>
         requires { IsTrue ((clean_folder self.old.files.items).knows name.now) }
         ensures kept { OnErr result
-            (KeepsFiles (clean_folder self.old.files.items) (clean_folder self.new.files.items)) }
+            (KeepsFiles (with_gave (clean_folder self.old.files.items) self.old.gave.calls)
+            (with_gave (clean_folder self.new.files.items) self.new.gave.calls)) }
+        ensures gave { self.new.gave.calls ≡ self.old.gave.calls }
         ensures count { CountsOnly name.now (clean_folder self.old.files.items).append_faults
             (clean_folder self.new.files.items).append_faults }
         ensures loads { (clean_folder self.new.files.items).load_faults
@@ -96,8 +113,8 @@ impl Files for CleanFiles {
 
         // The whole piece, or a failure exactly where it is longer than the room.
         ensures bytes { IfOk result
-            (λ n. Appends name.now (clean_folder self.old.files.items)
-            (clean_folder self.new.files.items) piece.now n × (n ≡ length piece.now)) }
+            (λ n. Appends name.now (with_gave (clean_folder self.old.files.items) self.old.gave.calls)
+            (with_gave (clean_folder self.new.files.items) self.new.gave.calls) piece.now n × (n ≡ length piece.now)) }
         ensures full { OnErr result
             (IsSomeAnd ((clean_folder self.old.files.items).room name.now) (λ r. r < length piece.now)) }
     {

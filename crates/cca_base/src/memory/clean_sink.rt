@@ -22,7 +22,7 @@ impl CleanSink {
     ///
     /// `AllocError` for want of memory.
     pub fn new(alloc: Global, room: u64) -> Result<CleanSink, AllocError>
-        ensures empty { IfOk result (λ out. (⟦<CleanSink as Sink>⟧.output out).bytes ≡ Some []) }
+        ensures empty { IfOk result (λ out. (⟦<CleanSink as Sink>⟧.output out).bytes ≡ []) }
         ensures room { IfOk result (λ out. (⟦<CleanSink as Sink>⟧.output out).room ≡ Some room) }
         ensures faults { IfOk result (λ out. (⟦<CleanSink as Sink>⟧.output out).faults ≡ 0) }
     {
@@ -34,14 +34,14 @@ impl CleanSink {
 
     /// The bytes that it has taken.
     pub fn bytes(&self) -> &[u8]
-        ensures { (⟦<CleanSink as Sink>⟧.output self.now).bytes ≡ Some result.now }
+        ensures { (⟦<CleanSink as Sink>⟧.output self.now).bytes ≡ result.now }
     {
         self.buffer.held()
     }
 }
 
 impl Sink for CleanSink {
-    ghost output = { λ s. record { bytes = Some (held s.buffer); faults = s.faults; room = Some (left s.buffer) } };
+    ghost output = { λ s. record { bytes = held s.buffer; faults = s.faults; room = Some (left s.buffer) } };
 
     fn put(&mut self, piece: &[u8]) -> Result<usize, Failed>
         ensures count { self.old.faults ≤ self.new.faults }

@@ -93,7 +93,7 @@ fn add_bytes(
     requires { IsTrue ((mem_folder files.old).knows name.now) }
     ensures added { OnOk result
         (Becomes name.now (mem_folder files.old) (mem_folder files.new)
-        (Some (unwrap_or ((mem_folder files.old).file name.now) [] ++ piece.now)) (length piece.now)) }
+        (Some (unwrap_or ((mem_folder files.old).file name.now) [] ++ piece.now)) [] (length piece.now)) }
     ensures kept { OnErr result (KeepsFiles (mem_folder files.old) (mem_folder files.new)) }
     ensures appends { (mem_folder files.new).append_faults ≡ (mem_folder files.old).append_faults }
     ensures loads { (mem_folder files.new).load_faults ≡ (mem_folder files.old).load_faults }
@@ -114,7 +114,7 @@ pub(crate) fn add_to(
     requires { IsTrue ((mem_folder files.old).knows name.now) }
     ensures added { OnOk result
         (Becomes name.now (mem_folder files.old) (mem_folder files.new)
-        (Some (unwrap_or ((mem_folder files.old).file name.now) [] ++ piece.now)) (length piece.now)) }
+        (Some (unwrap_or ((mem_folder files.old).file name.now) [] ++ piece.now)) [] (length piece.now)) }
     ensures quiet { OnOk result ((mem_folder files.new).append_faults ≡ (mem_folder files.old).append_faults) }
     ensures kept { OnErr result (KeepsFiles (mem_folder files.old) (mem_folder files.new)) }
     ensures count { CountsOnly name.now (mem_folder files.old).append_faults (mem_folder files.new).append_faults }
@@ -132,7 +132,7 @@ pub(crate) fn add_to(
 // Gives the file of this name these bytes.
 pub(crate) fn set_bytes(files: &mut [MemFile], name: &str, bytes: Vec<u8>)
     requires { IsTrue ((mem_folder files.old).knows name.now) }
-    ensures set { Becomes name.now (mem_folder files.old) (mem_folder files.new) (Some bytes.items) 0 }
+    ensures set { Becomes name.now (mem_folder files.old) (mem_folder files.new) (Some bytes.items) [] 0 }
     ensures loads { (mem_folder files.new).load_faults ≡ (mem_folder files.old).load_faults }
     ensures appends { (mem_folder files.new).append_faults ≡ (mem_folder files.old).append_faults }
 {

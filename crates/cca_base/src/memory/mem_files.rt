@@ -1,17 +1,18 @@
 // Files in memory.
-ghost use Rattle.std.specs.Prelude.{◌≡◌, ◌≢◌, ◌+◌, ◌≤◌, ◌<◌, ◌^◌, ◌-◌, ◌⊎◌, min, ℕ, List, AllPairs, Contains, length, string_bytes, [], Some, None, IfOk, IsOk, IsErr, OnOk, OnErr, IsTrue};
+ghost use Rattle.std.specs.Prelude.{◌≡◌, ◌≢◌, ◌∷◌, take, ◌+◌, ◌≤◌, ◌<◌, ◌^◌, ◌-◌, ◌⊎◌, min, ℕ, List, AllPairs, Contains, length, string_bytes, [], Some, None, IfOk, IsOk, IsErr, OnOk, OnErr, IsTrue};
 ghost use Rattle.std.specs.List.{list_any};
 ghost use Rattle.std.specs.Option.{option_map};
 ghost use Rattle.std.specs.Str.{bytes_eq};
 ghost use Rattle.cca_base.specs.Faults.{Rose};
 ghost use Rattle.cca_base.specs.Files.{KeepsFiles, CountsOnly, Stands, Becomes, Appends};
-ghost use Rattle.cca_base.specs.MemFiles.{mem_folder, mem_seen, entry};
-ghost use Rattle.cca_base.specs.Entries.{roomy_by};
+ghost use Rattle.cca_base.specs.MemFiles.{entry, mem_folder, mem_seen};
+ghost use Rattle.cca_base.specs.Entries.{roomy_by, with_gave};
 
 use crate::memory::mem_file::{MemFile, add_to, bytes_of, copy_from, set_bytes};
 use crate::named::{
     append_faults_of, count_append_fault, count_load_fault, load_faults_of, new_files,
 };
+use crate::trace::{Call, Trace};
 use crate::{Failed, Files};
 use std::alloc::{AllocError, Global};
 
@@ -31,6 +32,7 @@ pub struct MemFiles {
     pub fail_loads: Vec<u64>,
     pub fail_appends: Vec<u64>,
     pub refused: u64,
+    gave: Trace,
     ghost bites: { 0 < bite },
 }
 
@@ -67,6 +69,7 @@ impl MemFiles {
             fail_loads: Vec::new(alloc),
             fail_appends: Vec::new(alloc),
             refused: 0,
+            gave: Trace::new(),
         })
     }
 
@@ -79,7 +82,7 @@ impl MemFiles {
         requires { IsTrue ((mem_folder self.old.files.items).knows name.now) }
         ensures file { OnOk result
             (Becomes name.now (mem_folder self.old.files.items) (mem_folder self.new.files.items)
-            (Some bytes.now) 0) }
+            (Some bytes.now) [] 0) }
         ensures faults { ((mem_folder self.new.files.items).load_faults ≡ (mem_folder self.old.files.items).load_faults)
             × ((mem_folder self.new.files.items).append_faults ≡ (mem_folder self.old.files.items).append_faults) }
         ensures counts { (self.new.loads ≡ self.old.loads) × (self.new.appends ≡ self.old.appends)
@@ -103,13 +106,17 @@ impl MemFiles {
 }
 
 impl Files for MemFiles {
-    ghost folder = { λ s. mem_folder s.files.items };
+    ghost folder = { λ s. with_gave (mem_folder s.files.items) s.gave.calls };
 
     fn load(&mut self, name: &str, at: u64, buf: &mut [u8]) -> Result<usize, Failed>
         requires known { IsTrue ((mem_folder self.old.files.items).knows name.now) }
         requires place { at < 2 ^ 40 }
         ensures within { IfOk result (λ n. n ≤ length buf.old) }
-        ensures kept { KeepsFiles (mem_folder self.old.files.items) (mem_folder self.new.files.items) }
+        ensures kept { KeepsFiles (with_gave (mem_folder self.old.files.items) self.old.gave.calls)
+            (with_gave (mem_folder self.new.files.items) self.new.gave.calls) }
+        ensures gave { IfOk result (λ n. self.new.gave.calls
+            ≡ record { name = name.now; at = at; room = length buf.old; bytes = take n buf.new } ∷ self.old.gave.calls) }
+        ensures gave_none { OnErr result (self.new.gave.calls ≡ self.old.gave.calls) }
         ensures bytes { IfOk result (λ n.
             (file : List ℕ) → (mem_folder self.old.files.items).file name.now ≡ Some file
             → Stands file at (length buf.old) buf.new n) }
@@ -142,7 +149,16 @@ impl Files for MemFiles {
             return Err(Failed);
         }
         match bytes_of(&self.files, name) {
-            Some(file) => Ok(copy_from(file, at as usize, self.bite, buf)),
+            Some(file) => {
+                let n = copy_from(file, at as usize, self.bite, buf);
+                self.gave = self.gave.with(&Call {
+                    name,
+                    at,
+                    room: buf.len(),
+                    bytes: &buf[..n],
+                });
+                Ok(n)
+            }
             None => {
                 count_load_fault(&mut self.files, name);
                 Err(Failed)
@@ -154,9 +170,12 @@ impl Files for MemFiles {
         requires { IsTrue ((mem_folder self.old.files.items).knows name.now) }
         ensures some { IfOk result (λ n. (n ≤ length piece.now) × (0 < length piece.now → 0 < n)) }
         ensures bytes { IfOk result
-            (λ n. Appends name.now (mem_folder self.old.files.items) (mem_folder self.new.files.items) piece.now n
+            (λ n. Appends name.now (with_gave (mem_folder self.old.files.items) self.old.gave.calls)
+            (with_gave (mem_folder self.new.files.items) self.new.gave.calls) piece.now n
             × (n ≡ min (length piece.now) self.old.bite)) }
-        ensures kept { OnErr result (KeepsFiles (mem_folder self.old.files.items) (mem_folder self.new.files.items)) }
+        ensures kept { OnErr result (KeepsFiles (with_gave (mem_folder self.old.files.items) self.old.gave.calls)
+            (with_gave (mem_folder self.new.files.items) self.new.gave.calls)) }
+        ensures gave { self.new.gave.calls ≡ self.old.gave.calls }
         ensures count { CountsOnly name.now (mem_folder self.old.files.items).append_faults
             (mem_folder self.new.files.items).append_faults }
         ensures loads { (mem_folder self.new.files.items).load_faults ≡ (mem_folder self.old.files.items).load_faults }

@@ -1,16 +1,17 @@
-// Files of the system. They tell no bytes.
+// Files of the system. They tell no bytes, but know what they gave and took.
 ghost use Rattle.std.specs.Prelude.{◌≡◌, ℕ, List, string_bytes, IfOk};
 ghost use Rattle.std.specs.List.{list_any};
 ghost use Rattle.std.specs.Str.{bytes_eq};
 ghost use Rattle.std.specs.Io.{ReadsAtMost, WritesAtMost};
 ghost use Rattle.cca_base.specs.RealFiles.{real_folder, real_seen, known};
-ghost use Rattle.cca_base.specs.Entries.{roomy_by};
+ghost use Rattle.cca_base.specs.Entries.{roomy_by, with_calls};
 
 use crate::named::{
     append_faults_of, count_append_fault, count_load_fault, load_faults_of, new_files, place_of,
 };
 use crate::sink::taken;
 use crate::system::known_file::KnownFile;
+use crate::trace::{Call, Trace};
 use crate::{Failed, Files};
 use std::alloc::{AllocError, Global};
 use std::fs::{File, OpenOptions};
@@ -35,6 +36,8 @@ pub struct RealFiles<R: Drop> {
     rt: R,
     files: Vec<KnownFile>,
     opened: Option<Opened>,
+    gave: Trace,
+    took: Trace,
 }
 
 impl<R: rt::Files<File = File> + Drop> RealFiles<R> {
@@ -57,6 +60,8 @@ impl<R: rt::Files<File = File> + Drop> RealFiles<R> {
             rt,
             files: new_files(alloc, names, 0)?,
             opened: None,
+            gave: Trace::new(),
+            took: Trace::new(),
         })
     }
 }
@@ -103,7 +108,7 @@ fn append_to<R: rt::Files>(rt: &R, name: &str, piece: &[u8]) -> io::Result<usize
 }
 
 impl<R: rt::Files<File = File> + Drop> Files for RealFiles<R> {
-    ghost folder = { λ s. real_folder s.files.items };
+    ghost folder = { λ s. with_calls (real_folder s.files.items) s.gave.calls s.took.calls };
 
     fn load(&mut self, name: &str, at: u64, buf: &mut [u8]) -> Result<usize, Failed> {
         let place = place_of(&self.files, name);
@@ -111,14 +116,28 @@ impl<R: rt::Files<File = File> + Drop> Files for RealFiles<R> {
             count_load_fault(&mut self.files, name);
             return Err(Failed);
         };
+        self.gave = self.gave.with(&Call {
+            name,
+            at,
+            room: buf.len(),
+            bytes: &buf[..n],
+        });
         Ok(n)
     }
 
     fn append(&mut self, name: &str, piece: &[u8]) -> Result<usize, Failed> {
         self.opened = None;
         let appended = taken(append_to(&self.rt, name, piece), piece.len());
-        if appended.is_err() {
-            count_append_fault(&mut self.files, name);
+        match appended {
+            Ok(n) => {
+                self.took = self.took.with(&Call {
+                    name,
+                    at: 0,
+                    room: piece.len(),
+                    bytes: &piece[..n],
+                });
+            }
+            Err(_) => count_append_fault(&mut self.files, name),
         }
         appended
     }

@@ -1,7 +1,9 @@
-// Standard output. It tells no bytes.
-ghost use Rattle.std.specs.Prelude.{◌≡◌, None};
+// Standard output. It knows what it has taken.
+ghost use Rattle.std.specs.Prelude.{◌≡◌, [], None};
+ghost use Rattle.cca_base.specs.Given.{all_bytes};
 
 use crate::sink::taken;
+use crate::trace::{Call, Trace};
 use crate::{Failed, Sink};
 use std::io;
 use std::io::Write;
@@ -11,24 +13,38 @@ use std::io::Write;
 pub struct RealSink<R: Print + Drop> {
     rt: R,
     faults: u64,
+    took: Trace,
 }
 
 impl<R: Print + Drop> RealSink<R> {
-    /// The standard output of this runtime, with no fault yet.
+    /// The standard output of this runtime, which has taken nothing and has no fault yet.
     pub fn new(rt: R) -> Self
-        ensures { (⟦<RealSink<R> as Sink>⟧.output result).faults ≡ 0 }
+        ensures empty { (⟦<RealSink<R> as Sink>⟧.output result).bytes ≡ [] }
+        ensures faults { (⟦<RealSink<R> as Sink>⟧.output result).faults ≡ 0 }
     {
-        RealSink { rt, faults: 0 }
+        RealSink {
+            rt,
+            faults: 0,
+            took: Trace::new(),
+        }
     }
 }
 
 impl<R: Print + Drop> Sink for RealSink<R> {
-    ghost output = { λ s. record { bytes = None; faults = s.faults; room = None } };
+    ghost output = { λ s. record { bytes = all_bytes s.took.calls; faults = s.faults; room = None } };
 
     fn put(&mut self, piece: &[u8]) -> Result<usize, Failed> {
         let put = taken(io::writer(&self.rt).write(piece), piece.len());
-        if put.is_err() {
-            self.faults = self.faults.saturating_add(1);
+        match put {
+            Ok(n) => {
+                self.took = self.took.with(&Call {
+                    name: "",
+                    at: 0,
+                    room: piece.len(),
+                    bytes: &piece[..n],
+                });
+            }
+            Err(_) => self.faults = self.faults.saturating_add(1),
         }
         put
     }

@@ -1,30 +1,23 @@
 use Rattle.std.proofs.Common.{length, refl, subst, ◌∙◌, arith, rules}
-use Rattle.cca_base.specs.Files.{Stands}
-use Rattle.cca_base.proofs.Reading.{file_then, keeps_more, told_then}
-use Rattle.cca_inputs.proofs.Feeding.{begins-fed, fed-more, fed-whole}
+use Rattle.cca_base.proofs.Given.{keeps_more, keeps_still}
+use Rattle.cca_inputs.proofs.Feeding.{begins-fed, fed-more, fed-over, fed-whole}
 use Rattle.cca_inputs.proofs.checked.fed.Goals as goal
 
 pub returns-in-Ok-eq0-clause-fed : goal.returns-in-Ok-eq0-clause-fed
 returns-in-Ok-eq0-clause-fed g c =
     let l = c.loop-checker in
-    let kept = l.invariant.kept in
-    let same = file_then _ _ c.args.name.now kept in
-    fed-whole c.args.book.now c.args.weights.now _ _ _ _ l.at l.invariant.fed (length l.piece) c.load.new.buf
-    (λ tells f is. subst (Stands f l.at (length l.piece) c.load.new.buf) c.in-Ok-eq0.field-0-test (c.in-Ok-eq0.ensures.bytes (told_then _ _ kept tells) f (same ∙ is)))
-    (search rules) l.invariant.within
-    (λ tells none. let missing = c.in-Ok-eq0.ensures.missing (told_then _ _ kept tells) (same ∙ none) in cc)
+    fed-whole c.args.book.now c.args.weights.now _ _ _ _ _ _ l.at l.invariant.fed _ c.load.new.buf c.in-Ok-eq0.field-0 (search rules) c.load.ensures.kept c.in-Ok-eq0.ensures.gave
+    c.in-Ok-eq0.field-0-test (search rules) l.invariant.within
 
 pub loop-checker-preserved : goal.loop-checker-preserved
 loop-checker-preserved g c =
     let l = c.loop-checker in
-    let kept = l.invariant.kept in
-    let same = file_then _ _ c.args.name.now kept in
     record {
       within = search rules;
       room = c.feed.ensures.room ∙ l.invariant.room;
-      fed = fed-more c.args.book.now c.args.weights.now _ _ _ _ l.at l.invariant.fed (length l.piece) c.load.new.buf c.in-Ok.n
-          (λ tells f is. c.in-Ok.ensures.bytes (told_then _ _ kept tells) f (same ∙ is)) _ _ (search rules) (search rules) c.feed.ensures.book c.feed.ensures.weights;
-      kept = keeps_more _ _ _ kept c.load.ensures.kept;
+      fed = fed-more c.args.book.now c.args.weights.now _ _ _ _ _ _ l.at l.invariant.fed _ c.load.new.buf c.in-Ok.n (search rules) c.load.ensures.kept c.in-Ok.ensures.gave
+          _ _ (search rules) (search rules) c.feed.ensures.book c.feed.ensures.weights;
+      kept = keeps_more _ _ _ l.invariant.kept c.load.ensures.kept;
       quiet = c.in-Ok.ensures.quiet ∙ l.invariant.quiet;
       appends = c.load.ensures.appends ∙ l.invariant.appends;
     }
@@ -34,7 +27,7 @@ loop-checker-init g c = record {
   within = omega arith;
   room = c.start-checker.ensures.room ∙ c.requires.room;
   fed = begins-fed _ _ _ _ _ _ c.start-checker.ensures.stands c.start-checker.ensures.book c.start-checker.ensures.weights;
-  kept = record { knows = refl; told = refl; file = refl; room = refl };
+  kept = keeps_still _;
   quiet = refl;
   appends = refl;
 }
@@ -45,3 +38,14 @@ feed-requires-clause-stands g c =
     let long = s.long in
     let within = c.loop-checker.invariant.within in
     (s.text, s.stands, search rules)
+
+pub returns-in-Ok-eq0-clause-kept : goal.returns-in-Ok-eq0-clause-kept
+returns-in-Ok-eq0-clause-kept g c = keeps_more _ _ _ c.loop-checker.invariant.kept c.load.ensures.kept
+
+pub returns-then-n-at-clause-kept : goal.returns-then-n-at-clause-kept
+returns-then-n-at-clause-kept g c = keeps_more _ _ _ c.loop-checker.invariant.kept c.load.ensures.kept
+
+pub returns-then-n-at-clause-too_long : goal.returns-then-n-at-clause-too_long
+returns-then-n-at-clause-too_long g c = λ too_long.
+    let l = c.loop-checker in
+    fed-over c.args.book.now c.args.weights.now _ _ _ _ _ _ l.at l.invariant.fed _ c.load.new.buf c.in-Ok.n (search rules) c.load.ensures.kept c.in-Ok.ensures.gave l.invariant.within (search rules)

@@ -10,7 +10,7 @@ abbrev pub invariant-loop-checker : goal.invariant-loop-checker
 invariant-loop-checker g l = record {
   within : l.at ≤ CERT_BYTES;
   room : length l.room ≡ room_size (bidders_of l.book) (states l.book);
-  fed : IsFedSoFar l.book l.weights (g.F.Files.folder l.initial.files).told ((g.F.Files.folder l.initial.files).file l.name) l.room l.checker l.at;
+  fed : IsFedSoFar l.book l.weights l.name (g.F.Files.folder l.initial.files) (g.F.Files.folder l.files) l.room l.checker l.at;
   kept : KeepsFiles (g.F.Files.folder l.initial.files) (g.F.Files.folder l.files);
   quiet : (g.F.Files.folder l.files).load_faults ≡ (g.F.Files.folder l.initial.files).load_faults;
   appends : (g.F.Files.folder l.files).append_faults ≡ (g.F.Files.folder l.initial.files).append_faults;

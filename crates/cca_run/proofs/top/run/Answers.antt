@@ -23,13 +23,13 @@ returns-in-Some-clause-roomy g c =
     let old = g.F.Files.folder c.args.files.now in
     let new = g.F.Files.folder c.run_command.new.files in
     let ends = subst (λ (x : Option CommandValue). RunEnds x old new (g.O.Sink.output c.args.out.now) (g.O.Sink.output c.run_command.new.out) c.run_command.result) c.in-Some.ensures.command c.run_command.ensures.ends in
-    λ told has. run-roomy (map string_bytes c.args.words.now) old new _ _ told has c.run_command.result ends
+    λ told has. run-roomy (map string_bytes c.args.words.now) old new _ _ (ends.told told) has c.run_command.result ends
 
 pub returns-in-None-clause-roomy : goal.returns-in-None-clause-roomy
 returns-in-None-clause-roomy g c =
     let folder = g.F.Files.folder c.args.files.now in
     let ends = subst (λ (x : Option CommandValue). RunEnds x folder folder (g.O.Sink.output c.args.out.now) (g.O.Sink.output c.tell_words.new.out) c.tell_words.result) c.in-None.ensures.command c.tell_words.ensures.ends in
-    λ told has. run-roomy (map string_bytes c.args.words.now) folder folder _ _ told has c.tell_words.result ends
+    λ told has. run-roomy (map string_bytes c.args.words.now) folder folder _ _ (ends.told told) has c.tell_words.result ends
 
 pub returns-in-Some-clause-read_fault : goal.returns-in-Some-clause-read_fault
 returns-in-Some-clause-read_fault g c =
@@ -70,16 +70,16 @@ returns-in-Some-clause-awarded g c =
     let old = g.F.Files.folder c.args.files.now in
     let new = g.F.Files.folder c.run_command.new.files in
     let ends = subst (λ (x : Option CommandValue). RunEnds x old new (g.O.Sink.output c.args.out.now) (g.O.Sink.output c.run_command.new.out) c.run_command.result) c.in-Some.ensures.command c.run_command.ensures.ends in
-    λ terms log cert form is told can none.
-    run-awarded _ old new _ _ c.run_command.result ends told none c.complete_log_is_awarded.ensures.done terms log cert form is can
+    λ terms log cert form is files agrees can none.
+    run-awarded _ old new _ _ c.run_command.result ends files agrees none c.complete_log_is_awarded.ensures.done terms log cert form is can
 
 pub returns-in-Some-clause-accepted : goal.returns-in-Some-clause-accepted
 returns-in-Some-clause-accepted g c =
     let old = g.F.Files.folder c.args.files.now in
     let new = g.F.Files.folder c.run_command.new.files in
     let ends = subst (λ (x : Option CommandValue). RunEnds x old new (g.O.Sink.output c.args.out.now) (g.O.Sink.output c.run_command.new.out) c.run_command.result) c.in-Some.ensures.command c.run_command.ensures.ends in
-    λ terms log cert form earlier o is told gave holds none.
-    run-accepted _ old new _ _ c.run_command.result ends told none c.awarded_cert_passes.ensures.passes terms log cert form earlier o is gave holds
+    λ terms log cert form earlier o is files agrees gave holds none.
+    run-accepted _ old new _ _ c.run_command.result ends files agrees none c.awarded_cert_passes.ensures.passes terms log cert form earlier o is gave holds
 
 pub returns-in-Some-clause-handed_on : goal.returns-in-Some-clause-handed_on
 returns-in-Some-clause-handed_on g c =
@@ -87,3 +87,17 @@ returns-in-Some-clause-handed_on g c =
     let new = g.F.Files.folder c.run_command.new.files in
     let ends = subst (λ (x : Option CommandValue). RunEnds x old new (g.O.Sink.output c.args.out.now) (g.O.Sink.output c.run_command.new.out) c.run_command.result) c.in-Some.ensures.command c.run_command.ensures.ends in
     run-hands_on c.headline.ensures.award (map string_bytes c.args.words.now) old new _ _ c.run_command.result ends
+
+pub returns-in-Some-clause-answer : goal.returns-in-Some-clause-answer
+returns-in-Some-clause-answer g c =
+    let old = g.F.Files.folder c.args.files.now in
+    let new = g.F.Files.folder c.run_command.new.files in
+    let ends = subst (λ (x : Option CommandValue). RunEnds x old new (g.O.Sink.output c.args.out.now) (g.O.Sink.output c.run_command.new.out) c.run_command.result) c.in-Some.ensures.command c.run_command.ensures.ends in
+    ends.answer
+
+pub returns-in-None-clause-answer : goal.returns-in-None-clause-answer
+returns-in-None-clause-answer g c =
+    let old = g.F.Files.folder c.args.files.now in
+    let new = g.F.Files.folder c.args.files.now in
+    let ends = subst (λ (x : Option CommandValue). RunEnds x old new (g.O.Sink.output c.args.out.now) (g.O.Sink.output c.tell_words.new.out) c.tell_words.result) c.in-None.ensures.command c.tell_words.ensures.ends in
+    ends.answer

@@ -17,8 +17,9 @@ returns-in_err-award g c =
     let old = g.F.Files.folder c.args.files.now in
     let new = g.F.Files.folder c.read_input.new.files in
     let stopped = stops-next command old old new [] Award AWARD_BYTES AwardAnswers (λ contents t. LogGives t (contents Log) (λ events. BookOfLogGives t events (λ b. CertGives b (contents Cert) (VerdictGives b (ones b))))) c.args.terms.now refl (0, omega arith, refl) (begins command old)
-    c.in_err-award.ensures.loads _ (λ bytes s x. x) refl tt c.in_err-award.field-0.0 c.in_err-award.ensures.stop in
-    search rules
+    c.in_err-award.ensures.loads _ (λ bytes s x. x) (λ files. refl) (λ files. tt) c.in_err-award.field-0.0 c.in_err-award.ensures.stop in
+    let is = err_from_is_err_and c.from_residual.result c.from_residual.ensures.1 in
+    subst (Works command old new) (sym (is.1 ∙ ap (λ (s : Stop). Err s) is.2)) stopped
 
 pub returns-in_err-events : goal.returns-in_err-events
 returns-in_err-events g c =
@@ -31,7 +32,7 @@ returns-in_err-events g c =
     let at = reads-next command old old mid [] Award AWARD_BYTES AwardAnswers (λ contents t. LogGives t (contents Log) (λ events. BookOfLogGives t events (λ b. CertGives b (contents Cert) (VerdictGives b (ones b))))) c.args.terms.now refl (0, omega arith, refl) (begins command old)
     c.in_ok-award.ensures.loads terms read.bytes read.short read.says read.here in
     let stopped = stops-next command old mid new _ Log LOG_BYTES (LogAnswers terms) (λ contents events. BookOfLogGives terms events (λ b. CertGives b (contents Cert) (VerdictGives b (ones b)))) c.args.log.now refl (1, omega arith, refl) at
-    c.in_err-events.ensures.loads _ (λ bytes s x. x) refl (refl, tt) c.in_err-events.field-0.0 c.in_err-events.ensures.stop in
+    c.in_err-events.ensures.loads _ (λ bytes s x. x) (λ files. refl) (λ files. (refl, tt)) c.in_err-events.field-0.0 c.in_err-events.ensures.stop in
     let is = err_from_is_err_and c.from_residual-in_err-events.result c.from_residual-in_err-events.ensures.1 in
     subst (Works command old new) (sym (is.1 ∙ ap (λ (s : Stop). Err s) is.2)) stopped
 
@@ -96,7 +97,7 @@ returns-in_err-facts g c =
     let found = book-next command old new _ terms events (λ contents. (λ b. CertGives b (contents Cert) (VerdictGives b (ones b)))) book behind c.in_ok-book.ensures in
     let stop = rw (c.deref.ensures.value ∙ c.in_ok-weights.ensures) at c.in_err-facts.ensures.stop in
     let stopped = stops-with command old new end _ Cert CERT_BYTES (CertAnswers book) (λ contents. VerdictGives book (ones book)) c.args.cert.now refl (2, omega arith, refl) found
-    c.in_err-facts.ensures.loads _ (check-turn book (ones book)) refl (refl, (refl, tt)) c.in_err-facts.field-0.0 stop in
+    c.in_err-facts.ensures.loads _ (check-turn book (ones book)) (λ files. refl) (λ files. (refl, (refl, tt))) c.in_err-facts.field-0.0 stop in
     let is = err_from_is_err_and c.from_residual-in_err-facts.result c.from_residual-in_err-facts.ensures.1 in
     subst (Works command old end) (sym (is.1 ∙ ap (λ (s : Stop). Err s) is.2)) stopped
 
@@ -121,4 +122,4 @@ returns g c =
     let c_is = rw (c.deref.ensures.value ∙ c.in_ok-weights.ensures) at shown.says in
     let last = reads-next command old new end _ Cert CERT_BYTES (CertAnswers book) (λ contents. VerdictGives book (ones book)) c.args.cert.now refl (2, omega arith, refl) found
     c.in_ok-facts.ensures.loads c_is.0 shown.bytes shown.short c_is.1 shown.here in
-    works command old end _ _ last [] tt c.accepted.result (c.accepted.ensures (ones book) c_is.0 c_is.2 c_is.3 c_is.4)
+    works command old end _ _ last [] tt c.accepted.result (λ files. (c.accepted.ensures (ones book) c_is.0 c_is.2 c_is.3 c_is.4))

@@ -17,8 +17,9 @@ returns-in_err-award g c = λ cert.
     let old = g.F.Files.folder c.args.files.now in
     let new = g.F.Files.folder c.read_input.new.files in
     let stopped = stops-next command old old new [] Award AWARD_BYTES AwardAnswers (λ contents t. LogGives t (contents Log) (λ events. BookOfLogGives t events (λ b. PriceGives b (ones b) c.args.form))) c.args.terms.now refl (0, omega arith, refl) (begins command old)
-    c.in_err-award.ensures.loads _ (λ bytes s x. x) refl tt c.in_err-award.field-0.0 c.in_err-award.ensures.stop in
-    search rules
+    c.in_err-award.ensures.loads _ (λ bytes s x. x) (λ files. refl) (λ files. tt) c.in_err-award.field-0.0 c.in_err-award.ensures.stop in
+    let is = err_from_is_err_and c.from_residual.result c.from_residual.ensures.1 in
+    subst (Works command old new) (sym (is.1 ∙ ap (λ (s : Stop). Err s) is.2)) stopped
 
 pub returns-in_err-events : goal.returns-in_err-events
 returns-in_err-events g c = λ cert.
@@ -31,7 +32,7 @@ returns-in_err-events g c = λ cert.
     let at = reads-next command old old mid [] Award AWARD_BYTES AwardAnswers (λ contents t. LogGives t (contents Log) (λ events. BookOfLogGives t events (λ b. PriceGives b (ones b) c.args.form))) c.args.terms.now refl (0, omega arith, refl) (begins command old)
     c.in_ok-award.ensures.loads terms read.bytes read.short read.says read.here in
     let stopped = stops-next command old mid new _ Log LOG_BYTES (LogAnswers terms) (λ contents events. BookOfLogGives terms events (λ b. PriceGives b (ones b) c.args.form)) c.args.log.now refl (1, omega arith, refl) at
-    c.in_err-events.ensures.loads _ (λ bytes s x. x) refl (refl, tt) c.in_err-events.field-0.0 c.in_err-events.ensures.stop in
+    c.in_err-events.ensures.loads _ (λ bytes s x. x) (λ files. refl) (λ files. (refl, tt)) c.in_err-events.field-0.0 c.in_err-events.ensures.stop in
     let is = err_from_is_err_and c.from_residual-in_err-events.result c.from_residual-in_err-events.ensures.1 in
     subst (Works command old new) (sym (is.1 ∙ ap (λ (s : Stop). Err s) is.2)) stopped
 
@@ -73,4 +74,4 @@ returns g c = λ cert.
     c.in_ok-events.ensures.loads events stated.bytes stated.short stated.says stated.here in
     let book = c.in_ok-book.book in
     let last = book-next command old new _ terms events (λ contents. (λ b. PriceGives b (ones b) c.args.form)) book behind c.in_ok-book.ensures in
-    works command old new _ _ last (Cert ∷ []) (refl, tt) c.price_alike.result c.price_alike.ensures
+    works command old new _ _ last (Cert ∷ []) (refl, tt) c.price_alike.result (λ files. c.price_alike.ensures)

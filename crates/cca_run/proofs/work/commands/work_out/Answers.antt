@@ -21,7 +21,7 @@ pub returns-in-Make : goal.returns-in-Make
 returns-in-Make g c =
     let command = make c.in-Make.number c.in-Make.award.now c.in-Make.log.now in
     let old = g.F.Files.folder c.args.files.now in
-    let made = works command old old [] (CommandGives command) (begins command old) (Award ∷ Log ∷ []) (refl, (refl, tt)) c.made.result c.made.ensures in
+    let made = works command old old [] (CommandGives command) (begins command old) (Award ∷ Log ∷ []) (refl, (refl, tt)) c.made.result (λ files. c.made.ensures) in
     search rules
 
 pub returns-in-Place : goal.returns-in-Place
