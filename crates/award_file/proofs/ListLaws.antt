@@ -1,16 +1,24 @@
 -- A list of tables, read table by table.
-use Rattle.std.proofs.Common.{◌≡◌, ℕ, ◌+◌, ◌<◌, List, [], ◌∷◌, ◌++◌, length, get_or, drop, map, Option, None, String, BTreeMap, Global, sym, ap, subst, ◌∙◌, append_assoc}
+use Rattle.std.proofs.Common.{◌≡◌, ℕ, ◌+◌, ◌<◌, List, [], ◌∷◌, ◌++◌, length, get_or, drop, map, Option, None, String, BTreeMap, Global, sym, ap, subst, ◌∙◌, append_assoc, rules}
 use Rattle.std.specs.Option.{option_or}
 use Rattle.std.proofs.lemmas.List.{map-append}
 use Rattle.toml.specs.Data.{Data, table, item, Members}
 use Rattle.toml.specs.View.{view, items_view, table_view}
-use Rattle.toml.specs.declared.value.Value.{Value, Table}
+use Rattle.toml.specs.declared.value.Value.{Value, Table, the_lemmas}
 use Rattle.toml.proofs.Views.{items_view-drop, view-Table}
 use Rattle.award_file.specs.declared.read.AwardStop.{AwardStop}
 use Rattle.award_file.specs.declared.read.AwardStop.TheVariants.{Text, Field, Limit, Memory}
 use Rattle.award_file.specs.Reading.{IsFault}
 use Rattle.award_file.specs.Stated.{tables_of}
 use Rattle.award_file.specs.Walk.{Fault, tables_fault}
+
+-- an element that is no table is left out
+pub left-out : (vs : List Value) (i : ℕ) (v : Value) → i < length vs → v ≡ get_or vs i v → ((m : BTreeMap (String Global) Value) → v ≡ Table m → ⊥)
+    → tables_of (items_view (drop (i + 1) vs)) ≡ tables_of (items_view (drop i vs))
+left-out vs i v lt at other =
+    let d : view v ≡ view (get_or vs i v) = ap view at in
+    let here : items_view (drop i vs) ≡ item (view v) (items_view (drop (i + 1) vs)) = rw d (items_view-drop vs i v lt) in
+    rw here (search (rules, the_lemmas))
 
 -- the stop at the first of two faults
 pub first-stops : (f g : Option Fault) (e : AwardStop) → IsFault f e → IsFault (option_or f g) e

@@ -2,7 +2,9 @@
 use Rattle.std.specs.Prelude.{ℕ, List, map, string_bytes}
 use Rattle.award_file.specs.declared.caps.SpectrumCap.{SpectrumCap}
 use Rattle.award_file.specs.declared.read.categories.Category.{Category as Read}
+use Rattle.award_file.specs.declared.read.Made.{Made}
 use Rattle.award_file.specs.declared.read.Parts.{Parts}
+use Rattle.award_file.specs.Award.{terms_with}
 use Rattle.award_file.specs.Fields.{cap_values}
 use Rattle.award_file.specs.Walk.{Category, terms_from}
 use Rattle.auction_rules.specs.Terms.{Terms}
@@ -34,3 +36,7 @@ counts categories = map (λ c. c.supply) categories
 -- the terms of these parts
 abbrev pub terms_value : Parts → Terms
 terms_value p = terms_from p.version p.tick (category_values p.categories.items) p.thresholds.items (cap_values p.caps.items) p.bidders
+
+-- the award of these parts with what is made of them
+abbrev pub award_value : Parts → Made → Terms
+award_value p m = terms_with p.version m.supply m.points.items m.reserves.items m.steps p.bidders (cap_values p.caps.items)

@@ -4,7 +4,8 @@ ghost use Rattle.toml.specs.View.{table_view};
 ghost use Rattle.book_form.specs.BookForm.{IsOffer};
 ghost use Rattle.book_form.specs.BookLines.{supply_excess};
 ghost use Rattle.lots.specs.Limits.{IsSupply};
-ghost use Rattle.award_file.specs.Parts.{counts, terms_value};
+ghost use Rattle.award_file.specs.Award.{IsAward};
+ghost use Rattle.award_file.specs.Parts.{award_value, counts, terms_value};
 ghost use Rattle.award_file.specs.Reading.{IsFault, IsLimit, IsStated, IsStop, limit_stop, reading, reading_of, states, terms_excess};
 ghost use Rattle.award_file.specs.Walk.{award_fault, terms_of};
 ghost use Rattle.award_file.specs.declared.read.AwardStop.TheVariants.{Memory};
@@ -104,6 +105,15 @@ struct Parts {
     bidders: Entrants,
 }
 
+/// What is made of the parts of an award.
+#[derive(Drop)]
+struct Made {
+    supply: Supply,
+    points: Vec<u32>,
+    reserves: Vec<u64>,
+    steps: StepTable,
+}
+
 /// Reads an award: TOML text that breaks no rule and exceeds no limit. The rules are tested in the order of their fields, each
 /// table whole before the next, and the limits after them: categories, lots, states, bidders.
 pub fn read_award(alloc: Global, bytes: &[u8]) -> Result<Award, AwardStop>
@@ -168,6 +178,25 @@ fn make_award(alloc: Global, parts: Parts) -> Result<Award, AwardStop>
     ensures ok { IfOk result (λ award. (terms_excess (terms_value parts) ≡ None) × (award ≡ terms_value parts)) }
     ensures err { IfErr result (IsLimit (terms_excess (terms_value parts))) }
 {
+    let made = made_of(alloc, &parts)?;
+    Ok(Award::from_parts(
+        parts.version,
+        made.supply,
+        made.points,
+        made.reserves,
+        made.steps,
+        parts.bidders,
+        parts.caps,
+    ))
+}
+
+/// What is made of the parts of an award, or the first limit that they exceed.
+fn made_of(alloc: Global, parts: &Parts) -> Result<Made, AwardStop>
+    requires { IsStated (terms_value parts.now) }
+    ensures ok { IfOk result (λ made. (terms_excess (terms_value parts.now) ≡ None) × IsAward (award_value parts.now made)
+        × (award_value parts.now made ≡ terms_value parts.now)) }
+    ensures err { IfErr result (IsLimit (terms_excess (terms_value parts.now))) }
+{
     let supply = make_supply(alloc, &parts.categories)?;
     let bidders = parts.bidders.count();
     if bidders > MOST_BIDDERS {
@@ -176,15 +205,12 @@ fn make_award(alloc: Global, parts: Parts) -> Result<Award, AwardStop>
     let points = points_of(alloc, &parts.categories)?;
     let reserves = reserves_of(alloc, &parts.categories)?;
     let steps = StepTable::new(alloc, parts.tick, &parts.thresholds)?;
-    Ok(Award::from_parts(
-        parts.version,
+    Ok(Made {
         supply,
         points,
         reserves,
         steps,
-        parts.bidders,
-        parts.caps,
-    ))
+    })
 }
 
 /// The supply of the categories, or the first limit that it exceeds.

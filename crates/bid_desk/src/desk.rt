@@ -1,5 +1,5 @@
 // The desk.
-ghost use Rattle.std.specs.Prelude.{◌≡◌, ◌≢◌, ◌⊎◌, ◌∷◌, ◌&&◌, [], Err, IfOk, IsTrue, List, ℕ, length, map, nat_le, nat_lt, not, option_map, true, false};
+ghost use Rattle.std.specs.Prelude.{◌≡◌, ◌≢◌, ◌⊎◌, ◌∷◌, ◌&&◌, [], Err, IfOk, IsTrue, List, None, ℕ, length, map, nat_le, nat_lt, not, option_map, replicate, true, false};
 ghost use Rattle.limits.specs.declared.TheConstants.{MOST_DRAFTS};
 ghost use Rattle.auction_model.specs.Package.{cost_of};
 ghost use Rattle.auction_rules.specs.declared.Event.{Event};
@@ -13,11 +13,13 @@ ghost use Rattle.auction_rules.specs.Replies.{has_entry, is_of, is_sealed, reply
 ghost use Rattle.auction_rules.specs.State.{drafts_of, reply_in, state_of, state_with};
 ghost use Rattle.auction_rules.specs.View.{view};
 ghost use Rattle.award_file.specs.Award.{IsAward};
-ghost use Rattle.clock_stage.specs.Kept.{IsHeld};
+ghost use Rattle.clock_stage.specs.ClockState.{clock_of};
+ghost use Rattle.clock_stage.specs.Kept.{IsFor, IsHeld};
 ghost use Rattle.relative_cap.specs.Answer.{excess_value};
 ghost use Rattle.relative_cap.specs.OwnRounds.{bid_value, rounds_of};
 ghost use Rattle.bid_desk.specs.Closes.{reply_value};
 ghost use Rattle.bid_desk.specs.DeskValue.{round_in};
+ghost use Rattle.bid_desk.specs.Lists.{lists_with};
 ghost use Rattle.bid_desk.specs.Known.{IsKnown, amount_reply, fault_in, submitted_of};
 ghost use Rattle.bid_desk.specs.Reached.{IsBidOrDrop, IsTaken, IsTakenOrMemory, StandsNext, Takes};
 
@@ -41,6 +43,31 @@ pub enum DeskStop {
     NotClosed,
     /// There was no memory.
     Memory,
+}
+
+/// What a desk begins with, beside its award.
+#[derive(Drop)]
+struct Start {
+    clock: Clock,
+    bidders: Vec<BidderLists>,
+    testers: Vec<Option<ListTester>>,
+}
+
+/// What the desk of this award begins with.
+fn start_of(alloc: Global, award: &Award) -> Result<Start, AllocError>
+    ensures clock { IfOk result (λ s. s.clock ≡ clock_of (state_of award.now [])) }
+    ensures award { IfOk result (λ s. IsFor award.now s.clock) }
+    ensures bidders { IfOk result (λ s. s.bidders.items ≡ replicate (length award.now.bidders) (lists_with [] [])) }
+    ensures testers { IfOk result (λ s. s.testers.items ≡ replicate (length award.now.bidders) None) }
+{
+    let clock = Clock::start(alloc, award)?;
+    let bidders = empty_lists(alloc, award.bidders())?;
+    let testers = no_testers(alloc, award.bidders())?;
+    Ok(Start {
+        clock,
+        bidders,
+        testers,
+    })
 }
 
 /// The desk of an auction. It takes the lines of a log one by one, and keeps the clock, and of each bidder a draft list and a
@@ -76,15 +103,13 @@ impl Desk {
     pub fn new(alloc: Global, award: Award) -> Result<Desk, AllocError>
         ensures { IfOk result (λ desk. desk ≡ state_of award []) }
     {
-        let clock = Clock::start(alloc, &award)?;
-        let bidders = empty_lists(alloc, award.bidders())?;
-        let testers = no_testers(alloc, award.bidders())?;
+        let start = start_of(alloc, &award)?;
         Ok(Desk {
             award,
-            clock,
+            clock: start.clock,
             closed: false,
-            bidders,
-            testers,
+            bidders: start.bidders,
+            testers: start.testers,
         })
     }
 

@@ -1,5 +1,5 @@
 use Rattle.std.proofs.Common.{◌≡◌, ◌≢◌, ◌∙◌, ◌<◌, ◌≤◌, ◌+◌, ◌-◌, sym, ap, arith, get_or, length, take, map, [], ◌∷◌, ◌++◌}
-use Rattle.std.proofs.lemmas.List.{map-append, take_all}
+use Rattle.std.proofs.lemmas.List.{map-append, take_all, length-map}
 use Rattle.auction_model.specs.Book.{market_of}
 use Rattle.choices.specs.declared.chooser.Single.{Single}
 use Rattle.choices.specs.Singles.{winners_after, IsSingle}
@@ -60,3 +60,9 @@ returns-clause-tables c =
     let z = c.args.winners.now in
     let all : length z ≤ c.loop-k.k = omega (arith, c.bidders-k-end.ensures.bidders, winning-count c.args.book.now z c.requires.winners) in
     rw c.new.ensures.tables (rw take_all at c.loop-k.invariant.tables)
+
+pub new-requires : goal.new-requires
+new-requires c =
+    let tables = length-map c.loop-k.tables.items (λ (t : TableValue). t.lines) in
+    let singles = length-map c.loop-k.singles.items (λ (s : Single). s.winner) in
+    omega (arith, tables, singles, c.loop-k.invariant.tables.count, ap length c.loop-k.invariant.winners)

@@ -1,4 +1,4 @@
-use Rattle.std.proofs.Common.{◌∙◌, ap, rules, pos, ◌-ℤ◌}
+use Rattle.std.proofs.Common.{◌∙◌, ap, arith, rules, pos, ◌-ℤ◌}
 use Rattle.std.proofs.lemmas.Int.{to_z-of_z, fits_signed_from_abs}
 use Rattle.auction_model.specs.Book.{net_of, market_of}
 use Rattle.auction_model.specs.Lowered.{lowered}
@@ -7,6 +7,7 @@ use Rattle.auction_model.specs.Menu.{fits_after}
 use Rattle.auction_model.specs.Greatest.{IsFirstGreatest}
 use Rattle.auction_model.specs.Prices.{IsVickreyPrice}
 use Rattle.auction_model.specs.Table.{IsEntry}
+use Rattle.auction_model.proofs.BookMarket.{winning-count}
 use Rattle.value_table.specs.BookTable.{menu_without}
 use Rattle.vickrey.proofs.VickreyLaws.{greatest-all, first-without, some-used, price-is, winner-known, own-small, left-size, price-size, table-without}
 use mir.Val.{SFits}
@@ -83,3 +84,6 @@ returns-clause-single c =
 
 pub returns-clause-table : goal.returns-clause-table
 returns-clause-table c = table-without c.args.book.now c.args.j c.in_ok-table.table c.in_ok-table.ensures.exact c.in_ok-table.ensures.plain
+
+pub number-requires : goal.number-requires
+number-requires c = (c.requires.bidder.0, omega (arith, c.requires.bidder.1, winning-count c.args.book.now c.args.winners.now c.requires.winners))

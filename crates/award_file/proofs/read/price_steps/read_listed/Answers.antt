@@ -1,11 +1,12 @@
-use Rattle.std.proofs.Common.{◌≡◌, ℕ, ◌+◌, ◌∙◌, ◌++◌, ◌∷◌, [], List, map, drop, None, ap}
+use Rattle.std.proofs.Common.{◌≡◌, ℕ, ◌+◌, ◌∙◌, ◌++◌, ◌∷◌, [], List, map, drop, None, ap, sym, append-nil, arith}
+use Rattle.std.proofs.lemmas.List.{drop_all}
 use Rattle.std.proofs.lemmas.Result.{err_from_is_err_and}
 use Rattle.toml.specs.View.{items_view, table_view}
 use Rattle.award_file.specs.Parts.{excesses}
 use Rattle.award_file.specs.Reading.{IsFault}
 use Rattle.award_file.specs.Stated.{tables_of}
 use Rattle.award_file.specs.Walk.{tables_fault, step_fault, threshold_of, excess_or_none}
-use Rattle.award_file.proofs.ListLaws.{table-here, stops-here, passes-here, reads-here, part-more}
+use Rattle.award_file.proofs.ListLaws.{left-out, table-here, stops-here, passes-here, reads-here, part-more}
 use Rattle.award_file.proofs.read.price_steps.read_listed.Goals as goal
 
 pub returns-in_err-step-clause-err : goal.returns-in_err-step-clause-err
@@ -27,3 +28,15 @@ tables-preserved c =
       ap (λ (before : List ℕ). tables_fault step_fault excess_or_none before later) (ap excesses items ∙ part) ∙ passes-here step_fault excess_or_none (excesses c.tables.steps.items) t _ later _ here c.tables.invariant.0 passes,
       ap (λ (read : List (ℕ × ℕ)). read ++ map threshold_of later) (items ∙ ap (λ (s : ℕ × ℕ). c.tables.steps.items ++ s ∷ []) is) ∙ reads-here threshold_of c.tables.steps.items t _ later _ here c.tables.invariant.1,
     )
+
+pub tables-preserved-in_default : goal.tables-preserved-in_default
+tables-preserved-in_default c =
+    let same = left-out c.args.tables.now c.tables.element-index c.element-item.result c.tables-test.true c.element-item.is c.in_default.not-Table in
+    rw same c.tables.invariant
+
+pub returns-clause-ok : goal.returns-clause-ok
+returns-clause-ok c =
+    let done = drop_all c.tables.element-index c.args.tables.now (omega arith) in
+    let none = rw done at c.tables.invariant.0 in
+    let read = rw done at c.tables.invariant.1 in
+    (sym none, sym (append-nil c.tables.steps.items) ∙ read)

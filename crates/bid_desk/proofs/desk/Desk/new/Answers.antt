@@ -1,18 +1,20 @@
 -- No line has been taken.
-use Rattle.std.proofs.Common.{false, refl}
+use Rattle.std.proofs.Common.{false, refl, length}
 use Rattle.bid_desk.specs.DeskValue.{desk_value}
 use Rattle.bid_desk.proofs.DeskLaws.{reached-start, start-state}
 use Rattle.bid_desk.proofs.TesterLaws.{testers-start}
 use Rattle.bid_desk.proofs.desk.Desk.new.Goals as goal
 
 pub invariant_of-result : goal.invariant_of-result
-invariant_of-result c = (
-  c.in_ok-clock.ensures.award,
-  reached-start c.args.award (desk_value c.args.award c.in_ok-clock.clock false c.in_ok-bidders.bidders.items) refl
-      (start-state c.args.award c.in_ok-clock.clock c.bidders.result c.in_ok-bidders.bidders.items c.in_ok-clock.ensures.clock c.bidders.ensures.bidders c.in_ok-bidders.ensures),
-  testers-start c.args.award c.in_ok-clock.clock c.bidders-2.result c.in_ok-testers.testers.items c.bidders-2.ensures.bidders c.in_ok-testers.ensures,
-)
+invariant_of-result c =
+    let s = c.in_ok-start in (
+      s.ensures.award,
+      reached-start c.args.award (desk_value c.args.award s.start.clock false s.start.bidders.items) refl
+          (start-state c.args.award s.start.clock (length c.args.award.bidders) s.start.bidders.items s.ensures.clock refl s.ensures.bidders),
+      testers-start c.args.award s.start.clock (length c.args.award.bidders) s.start.testers.items refl s.ensures.testers,
+    )
 
 pub returns : goal.returns
 returns c =
-    start-state c.args.award c.in_ok-clock.clock c.bidders.result c.in_ok-bidders.bidders.items c.in_ok-clock.ensures.clock c.bidders.ensures.bidders c.in_ok-bidders.ensures
+    let s = c.in_ok-start in
+    start-state c.args.award s.start.clock (length c.args.award.bidders) s.start.bidders.items s.ensures.clock refl s.ensures.bidders

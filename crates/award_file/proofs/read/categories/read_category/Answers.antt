@@ -1,0 +1,21 @@
+use Rattle.std.proofs.Common.{arith}
+use Rattle.std.proofs.lemmas.Grind.{common_steps}
+use Rattle.award_file.proofs.read.categories.read_category.Goals as goal
+
+pub returns-in_default-clause-err : goal.returns-in_default-clause-err
+returns-in_default-clause-err c = grind (arith, common_steps)
+
+pub returns-then-has_name-clause-err : goal.returns-then-has_name-clause-err
+returns-then-has_name-clause-err c = grind (arith, common_steps)
+
+pub returns-in_default-number_at-clause-err : goal.returns-in_default-number_at-clause-err
+returns-in_default-number_at-clause-err c = grind (arith, common_steps)
+
+pub returns-in_default-number_at-2-clause-err : goal.returns-in_default-number_at-2-clause-err
+returns-in_default-number_at-2-clause-err c = grind (arith, common_steps)
+
+pub returns-in_default-number_at-3-clause-err : goal.returns-in_default-number_at-3-clause-err
+returns-in_default-number_at-3-clause-err c = grind (arith, common_steps)
+
+pub returns-then-has_other-clause-err : goal.returns-then-has_other-clause-err
+returns-then-has_other-clause-err c = grind (arith, common_steps)
