@@ -1,10 +1,12 @@
 pub mod Package
+pub mod PackageTests
 pub mod Place
 pub mod Market
 pub mod Greatest
 pub mod Lawful
 pub mod Menu
 pub mod Book
+pub mod Entries
 pub mod Lowered
 pub mod Table
 pub mod Steps

@@ -3,7 +3,7 @@ use Rattle.std.proofs.Common.{◌≡◌, ℕ, zero, suc, ◌≤◌, List, [], �
 use Rattle.std.specs.Prelude.{filter, not}
 use Rattle.auction_model.specs.Book.{BookBid, Bidder, Book, no_bidder, bidder_of}
 use Rattle.auction_rules.specs.declared.Event.{Event}
-use Rattle.auction_rules.specs.PackageTests.{is_empty, InOrder}
+use Rattle.auction_model.specs.PackageTests.{is_empty, InOrder}
 use Rattle.auction_rules.specs.Terms.{Terms, entrant}
 use Rattle.auction_rules.specs.Caps.{clock_bid, greatest}
 use Rattle.auction_rules.specs.Lines.{in_order, priced}

@@ -9,16 +9,17 @@ use Rattle.auction_rules.specs.declared.Event.{Event}
 use Rattle.auction_rules.specs.declared.Event.TheVariants.{Bid, Draft, Drop, Submit, Close}
 use Rattle.auction_rules.specs.declared.Reply.{Reply}
 use Rattle.auction_rules.specs.declared.Reply.TheVariants as reply
-use Rattle.auction_rules.specs.PackageTests.{is_same, is_before, AllAfter, InOrder}
+use Rattle.auction_model.specs.PackageTests.{is_same, is_before, AllAfter, InOrder}
 use Rattle.auction_rules.specs.Terms.{Terms, entrant}
 use Rattle.auction_rules.specs.Rounds.{OwnRound, demand, prices_after, final_round, stage_by, stage_after, closed_by, closed_after, own_round, own_rounds}
 use Rattle.auction_rules.specs.Caps.{clock_bid, no_round, round_at}
-use Rattle.auction_rules.specs.Lines.{is_close, is_submit, closes, held_in, in_order, entry_before, priced, draft_of, drafted, draft_list, submitted_list, with_entry, without_entry, drafts_after}
+use Rattle.auction_rules.specs.Lines.{is_close, is_submit, closes, held_in, in_order, entry_before, priced, draft_of, drafted, draft_list, submitted_list, drafts_after}
+use Rattle.auction_model.specs.Entries.{with_entry, without_entry}
 use Rattle.auction_rules.specs.Replies.{Standing, is_clock, is_closed, is_ok_reply, first_reply, when, has_entry, price_top, has_excess, own_reply, reply_after, admitted, standing}
 use Rattle.auction_rules.specs.View.{posted}
 use Rattle.auction_rules.specs.BookOfLog.{bid_lots, pairs_of, bids_in_book}
 use Rattle.auction_rules.specs.Lawful.{HasCategories, NeverRises, AreDrafts}
-use Rattle.auction_rules.proofs.PackageLaws.{is_same-true, is_same-refl, is_before-not_same}
+use Rattle.auction_model.proofs.PackageTestLaws.{is_same-true, is_same-refl, is_before-not_same, not_same-sym}
 use Rattle.auction_rules.proofs.Drafts.{AllAfter-trans, InOrder-in_order}
 use Rattle.auction_rules.proofs.Standings.{IsFinal, stopped, IsFinal-final_round, after_own, after_close, own_now, standing-own, standing-other, standing-close}
 use Rattle.auction_rules.proofs.States.{get_or-listing}
@@ -58,14 +59,6 @@ InOrder-submitted_list j (e ∷ lines) =
     ]
 
 -- ---- the length of draft lists
-
--- where p isn't the same as q, q isn't the same as p
-pub not_same-sym : (p q : List ℕ) → is_same p q ≡ false → is_same q p ≡ false
-not_same-sym p q apart =
-    elim (cases_Bool (is_same q p)) [
-      | inl same ↦ let no : true ≡ false = sym (subst (λ (x : List ℕ). is_same x q ≡ true) (is_same-true q p same) (is_same-refl q)) ∙ apart in cc
-      | inr other ↦ other
-    ]
 
 -- a package before all those of a list has no entry in it
 pub absent-before : (x : List ℕ) (list : List BookBid) → AllAfter x (map bid_lots list) → has_entry x list ≡ false

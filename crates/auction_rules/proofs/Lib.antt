@@ -1,4 +1,3 @@
-pub mod PackageLaws
 pub mod Held
 pub mod Agree
 pub mod Drafts

@@ -6,7 +6,7 @@ use Rattle.auction_model.specs.Book.{BookBid}
 use Rattle.auction_model.specs.Package.{is_within, cost_of}
 use Rattle.auction_rules.specs.declared.Event.{Event}
 use Rattle.auction_rules.specs.declared.Event.TheVariants.{Bid, Draft, Drop, Submit, Close}
-use Rattle.auction_rules.specs.PackageTests.{is_empty, InOrder}
+use Rattle.auction_model.specs.PackageTests.{is_empty, InOrder}
 use Rattle.auction_rules.specs.Terms.{Terms, entrant}
 use Rattle.auction_rules.specs.Rounds.{OwnRound}
 use Rattle.auction_rules.specs.BookOfLog.{bid_lots}

@@ -1,4 +1,3 @@
-pub mod PackageTests
 pub mod Terms
 pub mod Step
 pub mod Rounds

@@ -1,9 +1,10 @@
 -- Lists of lines, the newest line first, and what is found in them by looking through the whole list.
-use Rattle.std.specs.Prelude.{not, filter, ℕ, suc, Bool, true, false, ◌&&◌, List, [], ◌∷◌, Option, Some, None, filter_map, unwrap_or, ◌==◌, if◌then◌else◌}
+use Rattle.std.specs.Prelude.{ℕ, suc, Bool, true, false, ◌&&◌, List, [], ◌∷◌, Option, Some, None, filter_map, unwrap_or, ◌==◌, if◌then◌else◌}
 use Rattle.auction_rules.specs.declared.Event.{Event}
 use Rattle.auction_rules.specs.declared.Event.TheVariants.{Bid, Draft, Drop, Submit, Close}
 use Rattle.auction_model.specs.Book.{BookBid}
-use Rattle.auction_rules.specs.PackageTests.{is_same, is_before}
+use Rattle.auction_model.specs.PackageTests.{is_same, is_before}
+use Rattle.auction_model.specs.Entries.{with_entry, without_entry}
 use Rattle.auction_rules.specs.Terms.{Terms, no_lots}
 
 abbrev pub is_close : Event → Bool
@@ -103,18 +104,6 @@ is_submit j Close = false
 abbrev pub submitted_list : ℕ → List Event → List BookBid
 submitted_list j [] = []
 submitted_list j (e ∷ earlier) = if is_submit j e then draft_list j earlier else submitted_list j earlier
-
--- the list with this amount for the package, in its place
-abbrev pub with_entry : List ℕ → ℕ → List BookBid → List BookBid
-with_entry lots amount [] = record { lots = lots; amount = amount } ∷ []
-with_entry lots amount (b ∷ bids) =
-    if is_same lots b.lots then record { lots = lots; amount = amount } ∷ bids
-    else if is_before lots b.lots then record { lots = lots; amount = amount } ∷ b ∷ bids
-    else b ∷ with_entry lots amount bids
-
--- the list with no entry for the package
-abbrev pub without_entry : List ℕ → List BookBid → List BookBid
-without_entry lots list = filter (λ b. not (is_same lots b.lots)) list
 
 -- what an admitted line of the bidder's own changes of its draft list
 abbrev pub drafts_after : Event → List BookBid → List BookBid

@@ -10,7 +10,7 @@ use Rattle.auction_rules.specs.declared.Stage.{Stage}
 use Rattle.auction_rules.specs.declared.Stage.TheVariants.{Clock, Sealed, Closed}
 use Rattle.auction_model.specs.Book.{BookBid}
 use Rattle.auction_model.specs.Package.{is_within, cost_of}
-use Rattle.auction_rules.specs.PackageTests.{first_over, is_empty, is_same}
+use Rattle.auction_model.specs.PackageTests.{first_over, is_empty, is_same}
 use Rattle.auction_rules.specs.Terms.{Terms, final_cap, entrant, broken_cap}
 use Rattle.auction_rules.specs.Rounds.{OwnRound, prices_after, eligibility_after, stage_after, round_after, closed_after, own_rounds, demand}
 use Rattle.auction_rules.specs.Caps.{clock_bid, greatest, list_fault}

@@ -9,7 +9,8 @@ use Rattle.auction_rules.specs.declared.Stage.TheVariants.{Clock, Sealed, Closed
 use Rattle.auction_model.specs.Package.{is_within, cost_of}
 use Rattle.auction_rules.specs.Terms.{Terms, no_lots}
 use Rattle.auction_rules.specs.Rounds.{OwnRound, listing, sum_of, raised_prices, prices_after, eligibility_after, stage_after, round_after, closed_after}
-use Rattle.auction_rules.specs.Lines.{is_close, line_bidder, with_entry, without_entry, closes, held_in, draft_list, submitted_list}
+use Rattle.auction_rules.specs.Lines.{is_close, line_bidder, closes, held_in, draft_list, submitted_list}
+use Rattle.auction_model.specs.Entries.{with_entry, without_entry}
 use Rattle.auction_rules.specs.Replies.{Standing, is_clock, is_closed, is_ok_reply, closing_reply, own_reply, admitted}
 
 -- one closed clock round: the prices, and of each bidder its eligibility at the start and its package

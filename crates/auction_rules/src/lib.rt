@@ -15,7 +15,7 @@ ghost use Rattle.std.specs.List.{AllByRecursion};
 ghost use Rattle.limits.specs.declared.TheConstants.{MOST_BIDS, MOST_ROUNDS};
 ghost use Rattle.auction_model.specs.Book.{bidder_of};
 ghost use Rattle.auction_model.specs.Package.{ComesBefore, is_within, cost_of};
-ghost use Rattle.auction_rules.specs.PackageTests.{first_over, is_empty, is_same, is_before, InOrder};
+ghost use Rattle.auction_model.specs.PackageTests.{first_over, is_empty, is_same, is_before, InOrder};
 ghost use Rattle.auction_rules.specs.Terms.{Terms, entrant, final_cap};
 ghost use Rattle.auction_rules.specs.Step.{AreRisingFrom, IsRaise, IsReachedShare, permille_at, ticks_of};
 ghost use Rattle.auction_rules.specs.Rounds.{OwnRound, prices_after};

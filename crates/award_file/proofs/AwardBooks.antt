@@ -18,7 +18,7 @@ use Rattle.auction_model.proofs.ListLaws.{each-push}
 use Rattle.book_form.specs.BookForm.{AreBids, IsBidder, AreBidders, IsName, empty_package}
 use Rattle.book_form.specs.BookLines.{Excess, supply_excess, bid_excess, bidder_excess, bid_lines, bidder_line, bidder_lines, head_lines, IsBookWithinLimits}
 use Rattle.auction_rules.specs.declared.Event.{Event}
-use Rattle.auction_rules.specs.PackageTests.{is_empty, is_before, AllAfter, InOrder}
+use Rattle.auction_model.specs.PackageTests.{is_empty, is_before, AllAfter, InOrder}
 use Rattle.auction_rules.specs.Terms.{Terms, Entrant, entrant}
 use Rattle.auction_rules.specs.Rounds.{listing}
 use Rattle.auction_rules.specs.Lawful.{AreLimited, IsLawfulBid}

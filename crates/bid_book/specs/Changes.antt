@@ -3,8 +3,8 @@ use Rattle.std.specs.Prelude.{◌≡◌, ◌⊎◌, ℕ, ◌-◌, ◌<◌, ◌�
 use Rattle.std.specs.List.{remove}
 use Rattle.auction_model.specs.Book.{Book, BookBid, no_bid, bidder_of, bids_of, lots_of}
 use Rattle.auction_model.specs.Package.{is_within, cost_of}
-use Rattle.auction_rules.specs.Lines.{with_entry}
-use Rattle.auction_rules.specs.PackageTests.{is_before}
+use Rattle.auction_model.specs.Entries.{with_entry}
+use Rattle.auction_model.specs.PackageTests.{is_before}
 use Rattle.bid_book.specs.Stages.{bidder_with, with_bidders}
 use Rattle.limits.specs.declared.TheConstants.{MOST_AMOUNT, MOST_BIDS}
 

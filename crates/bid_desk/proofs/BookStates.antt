@@ -10,7 +10,7 @@ use Rattle.auction_rules.specs.declared.Stage.TheVariants.{Closed}
 use Rattle.auction_rules.specs.BookOfLog.{book_by, book_in, book_of_log}
 use Rattle.auction_rules.specs.Lawful.{HasCategories, IsDraft}
 use Rattle.auction_rules.specs.Lines.{closes, held_in}
-use Rattle.auction_rules.specs.PackageTests.{is_empty}
+use Rattle.auction_model.specs.PackageTests.{is_empty}
 use Rattle.auction_rules.specs.Replies.{admitted, is_clock}
 use Rattle.auction_rules.specs.Rounds.{closed_after, own_round}
 use Rattle.auction_rules.specs.State.{DeskState, Round, round_of, state_of}

@@ -6,12 +6,13 @@ use Rattle.std.proofs.lemmas.List.{length-map, map-set}
 use Rattle.auction_model.specs.Book.{BookBid}
 use Rattle.auction_model.specs.Package.{cost_of}
 use Rattle.auction_rules.specs.BookOfLog.{bid_lots}
-use Rattle.auction_rules.specs.Lines.{with_entry, without_entry}
-use Rattle.auction_rules.specs.PackageTests.{is_same, is_before, AllAfter, InOrder}
+use Rattle.auction_model.specs.Entries.{with_entry, without_entry}
+use Rattle.auction_model.specs.PackageTests.{is_same, is_before, AllAfter, InOrder}
 use Rattle.auction_rules.specs.Replies.{has_entry}
 use Rattle.auction_rules.proofs.Drafts.{AllAfter-trans}
-use Rattle.auction_rules.proofs.PackageLaws.{is_same-true, is_same-refl, is_before-not_same, is_before-trans, is_before-total}
-use Rattle.auction_rules.proofs.KeptStandings.{absent-before, not_same-sym}
+use Rattle.auction_model.proofs.PackageTestLaws.{is_same-true, is_same-refl, is_before-not_same, is_before-trans, is_before-total}
+use Rattle.auction_rules.proofs.KeptStandings.{absent-before}
+use Rattle.auction_model.proofs.PackageTestLaws.{not_same-sym}
 use Rattle.bid_book.proofs.PlaceLaws.{not-before}
 use Rattle.bid_book.proofs.SettleLaws.{map-insert, map-remove}
 use Rattle.lots.specs.declared.«package».Bid.{Bid}

@@ -7,7 +7,7 @@ use Rattle.auction_model.specs.Book.{BookBid}
 use Rattle.auction_rules.specs.declared.Event.{Event}
 use Rattle.auction_rules.specs.declared.Event.TheVariants.{Draft, Drop, Submit}
 use Rattle.auction_rules.specs.declared.Reply.TheVariants as reply
-use Rattle.auction_rules.specs.Lines.{with_entry, without_entry}
+use Rattle.auction_model.specs.Entries.{with_entry, without_entry}
 use Rattle.auction_rules.specs.declared.Stage.{Stage}
 use Rattle.auction_rules.specs.declared.Stage.TheVariants as stages
 use Rattle.auction_rules.specs.Replies.{is_clock, is_ok_reply, is_sealed}

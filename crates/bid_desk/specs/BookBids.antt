@@ -4,8 +4,8 @@ use Rattle.std.specs.List.{All, AllByRecursion}
 use Rattle.auction_model.specs.Book.{BookBid}
 use Rattle.auction_rules.specs.BookOfLog.{best_bids}
 use Rattle.auction_rules.specs.Caps.{clock_bid, greatest}
-use Rattle.auction_rules.specs.Lines.{with_entry}
-use Rattle.auction_rules.specs.PackageTests.{is_empty}
+use Rattle.auction_model.specs.Entries.{with_entry}
+use Rattle.auction_model.specs.PackageTests.{is_empty}
 use Rattle.auction_rules.specs.State.{Round}
 use Rattle.auction_rules.specs.Terms.{Terms}
 use Rattle.clock_stage.specs.Kept.{bidders_in, categories_in}

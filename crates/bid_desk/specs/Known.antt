@@ -8,7 +8,7 @@ use Rattle.auction_rules.specs.Caps.{list_fault}
 use Rattle.auction_rules.specs.Lawful.{AreDrafts}
 use Rattle.auction_rules.specs.Replies.{below_clock, below_reserve, drafts_full, first_reply, is_clock, when}
 use Rattle.auction_rules.specs.Rounds.{OwnRound}
-use Rattle.auction_rules.specs.PackageTests.{is_empty}
+use Rattle.auction_model.specs.PackageTests.{is_empty}
 use Rattle.auction_rules.specs.declared.Reply.{Reply}
 use Rattle.auction_rules.specs.declared.Reply.TheVariants as reply
 use Rattle.auction_rules.specs.State.{DeskState, drafts_of}

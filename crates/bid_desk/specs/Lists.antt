@@ -4,7 +4,7 @@ use Rattle.std.specs.List.{AllByRecursion}
 use Rattle.limits.specs.declared.TheConstants.{MOST_AMOUNT, MOST_LOTS}
 use Rattle.auction_model.specs.Book.{BookBid}
 use Rattle.auction_rules.specs.BookOfLog.{bid_lots}
-use Rattle.auction_rules.specs.PackageTests.{InOrder}
+use Rattle.auction_model.specs.PackageTests.{InOrder}
 
 -- the draft list and the submitted list
 pub record Lists : Type 0 where

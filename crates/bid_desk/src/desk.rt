@@ -8,7 +8,7 @@ ghost use Rattle.auction_rules.specs.declared.Stage.{Stage};
 ghost use Rattle.auction_rules.specs.BookOfLog.{book_in, book_of_log};
 ghost use Rattle.auction_rules.specs.Caps.{clock_bid, greatest};
 ghost use Rattle.auction_rules.specs.Lawful.{HasCategories};
-ghost use Rattle.auction_rules.specs.PackageTests.{is_empty};
+ghost use Rattle.auction_model.specs.PackageTests.{is_empty};
 ghost use Rattle.auction_rules.specs.Replies.{has_entry, is_of, is_sealed, reply_to};
 ghost use Rattle.auction_rules.specs.State.{drafts_of, reply_in, state_of, state_with};
 ghost use Rattle.auction_rules.specs.View.{view};

@@ -1,6 +1,6 @@
 // The lists of one bidder.
 ghost use Rattle.std.specs.Prelude.{◌≡◌, [], ℕ, List, IfOk, Some, OnErr, OnOk, length, map, replicate, true};
-ghost use Rattle.auction_rules.specs.Lines.{with_entry, without_entry};
+ghost use Rattle.auction_model.specs.Entries.{with_entry, without_entry};
 ghost use Rattle.auction_rules.specs.Replies.{has_entry};
 ghost use Rattle.relative_cap.specs.OwnRounds.{bid_value};
 ghost use Rattle.auction_model.specs.Book.{BookBid};

@@ -1,6 +1,6 @@
 // The places of entries in a list.
 ghost use Rattle.std.specs.Prelude.{◌≡◌, ◌+◌, ◌∷◌, ◌++◌, ◌≤◌, [], ℕ, IfOk, Some, OnErr, OnOk, length, map, take};
-ghost use Rattle.auction_rules.specs.Lines.{with_entry};
+ghost use Rattle.auction_model.specs.Entries.{with_entry};
 ghost use Rattle.auction_rules.specs.Replies.{has_entry};
 ghost use Rattle.relative_cap.specs.OwnRounds.{bid_value};
 ghost use Rattle.bid_desk.specs.Lists.{IsKept};

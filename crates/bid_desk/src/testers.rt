@@ -1,7 +1,7 @@
 // The testers of the bidders' lists.
 ghost use Rattle.std.specs.Prelude.{◌≡◌, ◌-◌, ◌<◌, ◌≤◌, ◌^◌, All, IfOk, None, Option, length, map, option_map, replicate};
 ghost use Rattle.auction_rules.specs.Caps.{list_fault};
-ghost use Rattle.auction_rules.specs.PackageTests.{InOrder};
+ghost use Rattle.auction_model.specs.PackageTests.{InOrder};
 ghost use Rattle.clock_stage.specs.Kept.{categories_in};
 ghost use Rattle.relative_cap.specs.Asked.{ArePoints, IsBidderOf, IsEligible, IsEntry};
 ghost use Rattle.relative_cap.specs.Answer.{excess_value};

@@ -6,12 +6,12 @@ use Rattle.std.proofs.lemmas.Bool.{cases_Bool, le-leb, eqb-true, and_parts}
 use Rattle.std.proofs.lemmas.List.{map-append}
 use Rattle.auction_model.specs.Book.{BookBid}
 use Rattle.auction_model.specs.Package.{is_within, cost_of}
-use Rattle.auction_rules.specs.PackageTests.{is_empty, is_same, is_before}
+use Rattle.auction_model.specs.PackageTests.{is_empty, is_same, is_before}
 use Rattle.auction_rules.specs.Step.{last_or}
 use Rattle.auction_rules.specs.Rounds.{OwnRound}
 use Rattle.auction_rules.specs.Caps.{no_round, last_round, enough, constraining, clock_bid, greatest, highest, cap_by, cap_of, excess_cap, first_excess, list_fault}
-use Rattle.auction_rules.specs.Lines.{with_entry}
-use Rattle.auction_rules.proofs.PackageLaws.{is_same-refl}
+use Rattle.auction_model.specs.Entries.{with_entry}
+use Rattle.auction_model.proofs.PackageTestLaws.{is_same-refl}
 use Rattle.auction_rules.proofs.BookCaps.{cost_of-empty}
 use Rattle.big_auction.specs.MadeAward.{made_terms}
 

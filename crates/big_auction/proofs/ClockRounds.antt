@@ -7,7 +7,7 @@ use Rattle.auction_model.specs.Package.{is_within, cost_of}
 use Rattle.auction_rules.specs.declared.Event.TheVariants.{Bid, Close}
 use Rattle.auction_rules.specs.declared.Reply.TheVariants as reply
 use Rattle.auction_rules.specs.declared.Stage.TheVariants.{Clock, Sealed}
-use Rattle.auction_rules.specs.PackageTests.{first_over}
+use Rattle.auction_model.specs.PackageTests.{first_over}
 use Rattle.auction_rules.specs.Terms.{no_lots}
 use Rattle.auction_rules.specs.Rounds.{listing, demand, prices_after, eligibility_after}
 use Rattle.auction_rules.specs.Replies.{bid_reply, closing_reply, price_top}

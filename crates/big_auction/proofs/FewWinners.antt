@@ -7,7 +7,7 @@ use Rattle.std.proofs.lemmas.List.{get_or_past}
 use Rattle.auction_model.specs.Book.{BookBid, Bidder, Book, menu_of, market_of, no_bid, no_bidder}
 use Rattle.auction_model.specs.Menu.{Menu, is_known_after, packages_after}
 use Rattle.auction_model.specs.Package.{is_within}
-use Rattle.auction_rules.specs.PackageTests.{is_empty}
+use Rattle.auction_model.specs.PackageTests.{is_empty}
 use Rattle.auction_rules.specs.Rounds.{OwnRound, listing}
 use Rattle.auction_rules.specs.Caps.{clock_bid, greatest}
 use Rattle.auction_rules.specs.Lines.{in_order}

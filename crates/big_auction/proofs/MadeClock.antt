@@ -11,7 +11,7 @@ use Rattle.auction_rules.specs.declared.Event.TheVariants.{Close}
 use Rattle.auction_rules.specs.Terms.{entrant, no_lots}
 use Rattle.auction_rules.specs.Rounds.{OwnRound, listing, sum_of, demand, prices_after, eligibility_after}
 use Rattle.auction_rules.specs.State.{DeskState, round_of, own_of, state_of}
-use Rattle.auction_rules.proofs.PackageLaws.{within-first_over}
+use Rattle.auction_model.proofs.PackageTestLaws.{within-first_over}
 use Rattle.auction_rules.proofs.States.{get_or-listing}
 use Rattle.big_auction.specs.MadeAward.{made_entrant, made_terms}
 use Rattle.big_auction.specs.MadeLog.{package_of, reduced, final_package_of, held_by, final_prices, round_lines, bids_of, clock_lines}

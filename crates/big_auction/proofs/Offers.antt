@@ -6,11 +6,11 @@ use Rattle.std.proofs.lemmas.Bool.{cases_Bool, le-leb, ne_eqb, or_parts, falseâ‰
 use Rattle.std.proofs.Math.Nat.{mul-le-mul_left}
 use Rattle.auction_model.specs.Package.{is_within, cost_of}
 use Rattle.auction_rules.specs.declared.Event.TheVariants.{Draft, Submit}
-use Rattle.auction_rules.specs.PackageTests.{is_empty, is_same}
+use Rattle.auction_model.specs.PackageTests.{is_empty, is_same}
 use Rattle.auction_rules.specs.Rounds.{OwnRound}
 use Rattle.auction_rules.specs.Caps.{clock_bid}
 use Rattle.auction_rules.specs.State.{Round, DeskState, own_of}
-use Rattle.auction_rules.proofs.PackageLaws.{within-first_over, is_same-true, is_same-refl}
+use Rattle.auction_model.proofs.PackageTestLaws.{within-first_over, is_same-true, is_same-refl}
 use Rattle.big_auction.specs.Draws.{behind, drawn, drawn_package}
 use Rattle.big_auction.specs.MadeAward.{made_terms}
 use Rattle.big_auction.specs.MadeLog.{reduced, staying, amount_of, drawn_draft, drawn_drafts, last_draft, lines_from}

@@ -9,11 +9,11 @@ use Rattle.auction_model.specs.Book.{BookBid}
 use Rattle.auction_model.specs.Package.{cost_of}
 use Rattle.auction_rules.specs.declared.Event.TheVariants.{Draft, Submit}
 use Rattle.auction_rules.specs.declared.Reply.TheVariants as reply
-use Rattle.auction_rules.specs.PackageTests.{first_over, is_empty}
+use Rattle.auction_model.specs.PackageTests.{first_over, is_empty}
 use Rattle.auction_rules.specs.Terms.{entrant}
 use Rattle.auction_rules.specs.Rounds.{OwnRound}
 use Rattle.auction_rules.specs.Caps.{clock_bid, greatest, list_fault}
-use Rattle.auction_rules.specs.Lines.{with_entry}
+use Rattle.auction_model.specs.Entries.{with_entry}
 use Rattle.auction_rules.specs.Replies.{first_reply, when, supply_reply, spectrum_reply, cap_reply, has_entry}
 use Rattle.auction_rules.specs.State.{Round, DeskState, own_of, reply_in, taken}
 use Rattle.big_auction.specs.MadeAward.{made_terms}

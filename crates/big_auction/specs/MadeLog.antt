@@ -3,7 +3,7 @@ use Rattle.std.specs.Prelude.{ℕ, suc, ◌+◌, ◌-◌, ◌*◌, ◌/◌, min,
 use Rattle.auction_model.specs.Package.{cost_of}
 use Rattle.auction_rules.specs.declared.Event.{Event}
 use Rattle.auction_rules.specs.declared.Event.TheVariants.{Bid, Draft, Submit, Close}
-use Rattle.auction_rules.specs.PackageTests.{is_same}
+use Rattle.auction_model.specs.PackageTests.{is_same}
 use Rattle.auction_rules.specs.Terms.{no_lots}
 use Rattle.auction_rules.specs.Rounds.{listing, prices_after}
 use Rattle.big_auction.specs.Draws.{first_state, behind, drawn, drawn_package}

@@ -3,7 +3,7 @@ ghost use Rattle.std.specs.Prelude.{◌≡◌, ◌≤◌, ◌-◌, ◌^◌, IfOk
 ghost use Rattle.std.specs.List.{AllByRecursion};
 ghost use Rattle.limits.specs.declared.TheConstants.{MOST_PRICE};
 ghost use Rattle.auction_model.specs.Package.{cost_of};
-ghost use Rattle.auction_rules.specs.PackageTests.{is_same};
+ghost use Rattle.auction_model.specs.PackageTests.{is_same};
 ghost use Rattle.auction_rules.specs.Rounds.{prices_after, raised_prices};
 ghost use Rattle.auction_rules.specs.Step.{stepped};
 ghost use Rattle.auction_rules.specs.State.{asked};

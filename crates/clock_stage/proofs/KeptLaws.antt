@@ -12,9 +12,9 @@ use Rattle.auction_rules.specs.declared.Stage.TheVariants.{Clock}
 use Rattle.auction_rules.specs.Terms.{Terms, no_lots, broken_cap}
 use Rattle.auction_rules.specs.Rounds.{raised_prices}
 use Rattle.auction_rules.specs.Replies.{first_reply, when, bid_reply, supply_reply, spectrum_reply, points_above, price_top}
-use Rattle.auction_rules.specs.PackageTests.{first_over}
+use Rattle.auction_model.specs.PackageTests.{first_over}
 use Rattle.auction_rules.specs.State.{asked}
-use Rattle.auction_rules.proofs.PackageLaws.{first_over-within}
+use Rattle.auction_model.proofs.PackageTestLaws.{first_over-within}
 use Rattle.auction_rules.proofs.LawfulBids.{sum-within}
 use Rattle.award_file.specs.Award.{IsAward}
 use Rattle.clock_stage.specs.ClockState.{ClockState, clock_with, round_with, reply_to_close, has_excess, next_prices, next_round}

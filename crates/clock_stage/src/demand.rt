@@ -2,7 +2,7 @@
 ghost use Rattle.std.specs.Prelude.{◌≡◌, ◌≤◌, ◌+◌, ◌^◌, All, IfOk, List, [], ℕ, length, map, option_map, slice_index_or};
 ghost use Rattle.limits.specs.declared.TheConstants.{MOST_BIDDERS, MOST_CATEGORIES};
 ghost use Rattle.auction_model.specs.Package.{is_within, together};
-ghost use Rattle.auction_rules.specs.PackageTests.{first_over};
+ghost use Rattle.auction_model.specs.PackageTests.{first_over};
 ghost use Rattle.auction_rules.specs.Replies.{price_top};
 ghost use Rattle.auction_rules.specs.Rounds.{sum_of};
 ghost use Rattle.auction_rules.specs.State.{asked_of};

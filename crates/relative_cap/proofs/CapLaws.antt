@@ -3,7 +3,7 @@ use Rattle.std.proofs.Common.{◌≡◌, ℕ, ◌≤◌, min, Bool, true, false,
 use Rattle.std.proofs.lemmas.Bool.{cond-true, cond-false}
 use Rattle.auction_model.specs.Book.{BookBid}
 use Rattle.auction_model.specs.Package.{cost_of}
-use Rattle.auction_rules.specs.PackageTests.{is_same}
+use Rattle.auction_model.specs.PackageTests.{is_same}
 use Rattle.auction_rules.specs.Rounds.{OwnRound}
 use Rattle.auction_rules.specs.State.{Round}
 use Rattle.auction_rules.specs.Caps.{last_round, constraining, cap_by, cap_among, cap_of}

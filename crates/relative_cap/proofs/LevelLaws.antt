@@ -6,7 +6,7 @@ use Rattle.std.proofs.lemmas.List.{length-map, length-drop, get_or-map, get_or-d
 use Rattle.auction_model.specs.Book.{BookBid}
 use Rattle.auction_rules.specs.Rounds.{OwnRound}
 use Rattle.auction_rules.specs.State.{Round, own_of}
-use Rattle.auction_rules.specs.PackageTests.{is_empty}
+use Rattle.auction_model.specs.PackageTests.{is_empty}
 use Rattle.auction_rules.specs.Caps.{no_round, clock_bid, greatest, highest}
 use Rattle.auction_rules.proofs.BookCaps.{greatest-append}
 use Rattle.clock_stage.specs.Kept as kept

@@ -8,11 +8,11 @@ use Rattle.std.proofs.lemmas.List.Edits.{length-remove}
 use Rattle.std.proofs.lemmas.List.Elements.{All-append, All-cons, All-take, All-drop}
 use Rattle.auction_model.specs.Book.{BookBid}
 use Rattle.auction_model.specs.Package.{cost_of}
-use Rattle.auction_rules.specs.PackageTests.{is_empty, is_same}
+use Rattle.auction_model.specs.PackageTests.{is_empty, is_same}
 use Rattle.auction_rules.specs.Rounds.{OwnRound}
 use Rattle.auction_rules.specs.State.{Round, own_of}
 use Rattle.auction_rules.specs.Caps.{clock_bid, greatest, highest, cap_by, cap_among, cap_of, last_round}
-use Rattle.auction_rules.proofs.PackageLaws.{is_same-true, is_same-refl}
+use Rattle.auction_model.proofs.PackageTestLaws.{is_same-true, is_same-refl}
 use Rattle.auction_rules.proofs.BookCaps.{greatest-append}
 use Rattle.lots.specs.declared.«package».Bid.{Bid}
 use Rattle.relative_cap.specs.declared.terms.RoundTerms.{RoundTerms}

@@ -2,7 +2,7 @@
 use Rattle.std.specs.Prelude.{ℕ, ◌+◌, ◌-◌, ◌≤◌, ◌<◌, List, length, map, slice_index, if◌then◌else◌}
 use Rattle.auction_model.specs.Book.{BookBid}
 use Rattle.auction_model.specs.Package.{cost_of}
-use Rattle.auction_rules.specs.PackageTests.{is_same}
+use Rattle.auction_model.specs.PackageTests.{is_same}
 use Rattle.auction_rules.specs.Rounds.{OwnRound}
 use Rattle.auction_rules.specs.State.{Round, own_of}
 use Rattle.lots.specs.declared.«package».Bid.{Bid}

@@ -2,7 +2,7 @@
 use Rattle.std.specs.Prelude.{◌≡◌, ℕ, suc, ◌≤◌, List, [], ◌∷◌, length, if◌then◌else◌}
 use Rattle.limits.specs.declared.TheConstants.{MOST_AMOUNT}
 use Rattle.auction_model.specs.Package.{cost_of}
-use Rattle.auction_rules.specs.PackageTests.{is_empty, is_same}
+use Rattle.auction_model.specs.PackageTests.{is_empty, is_same}
 use Rattle.auction_rules.specs.Rounds.{OwnRound}
 use Rattle.auction_rules.specs.State.{Round}
 use Rattle.relative_cap.specs.declared.terms.RoundTerms.{RoundTerms}

@@ -1,6 +1,6 @@
 // What the closed rounds say of the caps of a bidder, whatever its list is.
 ghost use Rattle.std.specs.Prelude.{◌≡◌, ◌+◌, ◌-◌, ◌≤◌, ◌<◌, ◌^◌, [], All, length, map, slice_index};
-ghost use Rattle.auction_rules.specs.PackageTests.{InOrder};
+ghost use Rattle.auction_model.specs.PackageTests.{InOrder};
 ghost use Rattle.clock_stage.specs.Kept.{categories_in};
 ghost use Rattle.relative_cap.specs.Asked.{IsBidderOf, IsEntry};
 ghost use Rattle.relative_cap.specs.Levels.{AreLevels, IsHigh, IsLastEnough};

@@ -1,7 +1,7 @@
 // Tests of the lists of one bidder, one after another.
 ghost use Rattle.std.specs.Prelude.{◌≡◌, ◌<◌, ◌^◌, [], ℕ, List, Option, All, IfOk, length, map, option_map};
 ghost use Rattle.auction_rules.specs.Caps.{first_excess, list_fault};
-ghost use Rattle.auction_rules.specs.PackageTests.{InOrder};
+ghost use Rattle.auction_model.specs.PackageTests.{InOrder};
 ghost use Rattle.auction_rules.specs.State.{Round};
 ghost use Rattle.clock_stage.specs.Kept.{categories_in};
 ghost use Rattle.relative_cap.specs.Asked.{ArePoints, IsBidderOf, IsEligible, IsEntry};

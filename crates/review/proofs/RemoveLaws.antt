@@ -3,10 +3,10 @@ use Rattle.std.specs.Prelude.{◌≡◌, ℕ, zero, suc, ◌<◌, true, false, n
 use Rattle.std.proofs.Common.{sym, ◌∙◌, ap, subst, arith}
 use Rattle.std.specs.List.{remove}
 use Rattle.auction_model.specs.Book.{BookBid, no_bid}
-use Rattle.auction_rules.specs.Lines.{without_entry}
-use Rattle.auction_rules.specs.PackageTests.{is_before, is_same}
-use Rattle.auction_rules.proofs.KeptStandings.{not_same-sym}
-use Rattle.auction_rules.proofs.PackageLaws.{is_before-not_same, is_same-refl}
+use Rattle.auction_model.specs.Entries.{without_entry}
+use Rattle.auction_model.specs.PackageTests.{is_before, is_same}
+use Rattle.auction_model.proofs.PackageTestLaws.{not_same-sym}
+use Rattle.auction_model.proofs.PackageTestLaws.{is_before-not_same, is_same-refl}
 use Rattle.bid_book.specs.Changes.{InPackageOrder}
 
 -- bids behind a package have none for it

@@ -6,8 +6,8 @@ use Rattle.std.proofs.lemmas.Bool.Decides.{nat_tests}
 use Rattle.std.proofs.lemmas.Int.{ints}
 use Rattle.auction_model.specs.Book.{Book, BookBid, bid_of, bids_of, lots_of, no_bid}
 use Rattle.auction_model.specs.Package.{cost_of, is_within}
-use Rattle.auction_rules.specs.PackageTests.{first_over, is_empty, is_same}
-use Rattle.auction_rules.proofs.PackageLaws.{first_over-within, is_same-refl, is_same-true}
+use Rattle.auction_model.specs.PackageTests.{first_over, is_empty, is_same}
+use Rattle.auction_model.proofs.PackageTestLaws.{first_over-within, is_same-refl, is_same-true}
 use Rattle.bid_book.specs.Changes.{CanPut, IsBidFor}
 use Rattle.bid_book.specs.Kept.{IsBidBook}
 use Rattle.review.specs.declared.edit.Edit.{Edit}

@@ -1,7 +1,7 @@
 // What edits are answered. Nothing here takes memory.
 ghost use Rattle.std.specs.Prelude.{◌≡◌, ◌≤◌, ◌<◌, length, IfNone, IfSome, Some, None};
 ghost use Rattle.auction_model.specs.Book.{bid_of, bids_of};
-ghost use Rattle.auction_rules.specs.PackageTests.{first_over};
+ghost use Rattle.auction_model.specs.PackageTests.{first_over};
 ghost use Rattle.bid_book.specs.Changes.{IsBidFor};
 ghost use Rattle.limits.specs.declared.TheConstants.{MOST_CATEGORIES};
 ghost use Rattle.review.specs.Edits.{amount_for, edit_lots, edit_reply, unfit};

@@ -3,7 +3,7 @@ ghost use Rattle.std.specs.Prelude.{◌≡◌, ◌≢◌, ◌⊎◌, ◌≤◌, 
 ghost use Rattle.auction_model.specs.Book.{bids_of, market_of};
 ghost use Rattle.auction_model.specs.Greatest.{IsWinning};
 ghost use Rattle.auction_model.specs.Market.{value_of};
-ghost use Rattle.auction_rules.specs.Lines.{without_entry};
+ghost use Rattle.auction_model.specs.Entries.{without_entry};
 ghost use Rattle.bid_book.specs.Changes.{CanPut, with_bids, with_put};
 ghost use Rattle.review.specs.Edits.{amount_for, edit_bidder, edit_lots, edit_reply, edited};
 

@@ -1,7 +1,7 @@
 -- A kept list is one of entries in order.
 use Rattle.std.proofs.Common.{length, map, List, subst, sym}
 use Rattle.std.specs.List.{All}
-use Rattle.auction_rules.specs.PackageTests.{InOrder}
+use Rattle.auction_model.specs.PackageTests.{InOrder}
 use Rattle.lots.specs.declared.«package».Bid.{Bid}
 use Rattle.relative_cap.specs.Asked.{IsEntry}
 use Rattle.relative_cap.specs.OwnRounds.{entry_lots}

@@ -2,7 +2,7 @@
 use Rattle.std.proofs.Common.{◌≡◌, ◌∙◌, ◌-◌, ◌<◌, length, ap, inr, refl, sym, rules}
 use Rattle.auction_rules.specs.declared.Event.{Event}
 use Rattle.auction_rules.specs.declared.Event.TheVariants.{Draft}
-use Rattle.auction_rules.specs.Lines.{with_entry}
+use Rattle.auction_model.specs.Entries.{with_entry}
 use Rattle.auction_rules.specs.State.{DeskState, reply_in, state_with}
 use Rattle.bid_desk.specs.DeskValue.{desk_value}
 use Rattle.bid_desk.specs.Lists.{lists_with}

@@ -1,9 +1,9 @@
 -- The tests of packages, by the words of auction_model, and the order of packages.
-use Rattle.std.proofs.Common.{◌≡◌, ℕ, suc, ◌<◌, true, false, List, [], ◌∷◌, Some, None, length, refl, sym, ◌∙◌, inl, inr, arith}
+use Rattle.std.proofs.Common.{◌≡◌, ℕ, suc, ◌<◌, true, false, List, [], ◌∷◌, Some, None, length, refl, sym, subst, ◌∙◌, inl, inr, arith}
 use Rattle.std.specs.Prelude.{nat_lt, nat_le, ◌==◌, ◌&&◌}
 use Rattle.std.proofs.lemmas.Bool.{cases_Bool, eqb-true, eq-eqb, ne_eqb, ltb-true, lt-ltb, and_parts, or_cases, or_parts, cases_order, and_from, or_left, or_right}
 use Rattle.auction_model.specs.Package.{is_within, ComesBefore}
-use Rattle.auction_rules.specs.PackageTests.{first_over, is_same, is_before}
+use Rattle.auction_model.specs.PackageTests.{first_over, is_same, is_before}
 
 -- packages that the test takes for the same are equal
 pub is_same-true : (p q : List ℕ) → is_same p q ≡ true → p ≡ q
@@ -115,4 +115,12 @@ first_over-within category (a ∷ lots) (b ∷ supply) h =
     elim (cases_Bool (nat_le a b)) [
       | inl low ↦ let later : first_over (suc category) lots supply ≡ None = rw low at h in and_from (nat_le a b) (is_within lots supply) low (first_over-within (suc category) lots supply later)
       | inr over ↦ let no : Some category ≡ None = rw over at h in cc
+    ]
+
+-- where p isn't the same as q, q isn't the same as p
+pub not_same-sym : (p q : List ℕ) → is_same p q ≡ false → is_same q p ≡ false
+not_same-sym p q apart =
+    elim (cases_Bool (is_same q p)) [
+      | inl same ↦ let no : true ≡ false = sym (subst (λ (x : List ℕ). is_same x q ≡ true) (is_same-true q p same) (is_same-refl q)) ∙ apart in cc
+      | inr other ↦ other
     ]
