@@ -13,7 +13,9 @@ ghost use Rattle.auction_model.specs.PricingRun.{IsTurnPoint, MeetsRows, Row};
 ghost use Rattle.auction_outcome.specs.Outcome.{IsAuctionOutcome};
 ghost use Rattle.auction_outcome.specs.PlainNearest.{IsPlainNearest};
 
+pub use auction_model;
 use auction_model::{core_outcome, weighted_distance};
+pub use wide_num;
 
 /// Where each bidder weighs 1, the weighted distance is the plain one: the core outcome with these weights, at the winning choice, is
 /// the outcome of the auction.

@@ -2,15 +2,15 @@
 use Rattle.std.proofs.Common.{◌≡◌, ℕ, suc, ◌+◌, ◌-◌, ◌<◌, ◌≤◌, max, min, Bool, true, false, not, ◌||◌, List, [], ◌∷◌, ◌++◌, Option, Some, None, refl, sym, ◌∙◌, ap, inl, inr, arith, map}
 use Rattle.std.specs.Prelude.{if◌then◌else◌, filter, nat_le, ◌==◌}
 use Rattle.std.proofs.lemmas.Bool.{cases_Bool, cond-true, cond-false, leb-true, leb-false, le-leb, eqb-true, and_parts}
-use Rattle.auction_model.specs.Book.{BookBid}
-use Rattle.auction_model.specs.Package.{cost_of}
-use Rattle.auction_model.specs.PackageTests.{is_empty, is_same, is_before}
+use Rattle.lots.specs.auction_model.specs.Book.{BookBid}
+use Rattle.lots.specs.auction_model.specs.Package.{cost_of}
+use Rattle.lots.specs.auction_model.specs.PackageTests.{is_empty, is_same, is_before}
 use Rattle.auction_rules.specs.Step.{last_or}
 use Rattle.auction_rules.specs.Rounds.{OwnRound}
 use Rattle.auction_rules.specs.Caps.{no_round, last_round, enough, constraining, clock_bid, greatest, highest, cap_by, cap_among, cap_of, excess_cap, excess_or, first_excess, list_fault}
 use Rattle.auction_rules.specs.Lines.{placed, in_order, priced}
 use Rattle.auction_rules.specs.BookOfLog.{bid_lots, best_bids}
-use Rattle.auction_model.proofs.PackageTestLaws.{is_same-true, is_same-refl}
+use Rattle.lots.specs.auction_model.proofs.PackageTestLaws.{is_same-true, is_same-refl}
 use Rattle.auction_rules.proofs.Agree.{Some-injective}
 
 -- the greatest amount for a package over two lists is the greater of those over each

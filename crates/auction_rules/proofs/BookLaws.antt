@@ -1,9 +1,9 @@
 -- The book of a log: its bidders, the order of their bids, and the book that a desk makes of its state.
 use Rattle.std.proofs.Common.{◌≡◌, ℕ, zero, suc, ◌≤◌, List, [], ◌∷◌, ◌++◌, Some, refl, sym, ap, subst, arith, length, map}
 use Rattle.std.specs.Prelude.{filter, not}
-use Rattle.auction_model.specs.Book.{BookBid, Bidder, Book, no_bidder, bidder_of}
+use Rattle.lots.specs.auction_model.specs.Book.{BookBid, Bidder, Book, no_bidder, bidder_of}
 use Rattle.auction_rules.specs.declared.Event.{Event}
-use Rattle.auction_model.specs.PackageTests.{is_empty, InOrder}
+use Rattle.lots.specs.auction_model.specs.PackageTests.{is_empty, InOrder}
 use Rattle.auction_rules.specs.Terms.{Terms, entrant}
 use Rattle.auction_rules.specs.Caps.{clock_bid, greatest}
 use Rattle.auction_rules.specs.Lines.{in_order, priced}

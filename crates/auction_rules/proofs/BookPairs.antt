@@ -3,15 +3,15 @@ use Rattle.std.proofs.Common.{◌≡◌, ℕ, zero, suc, ◌≤◌, Bool, true, 
 use Rattle.std.specs.Prelude.{if◌then◌else◌, filter, Contains}
 use Rattle.std.specs.List.{AllByRecursion}
 use Rattle.std.proofs.lemmas.Bool.{cases_Bool, cases_lt, cond-true, cond-false, or_left, or_right}
-use Rattle.auction_model.specs.Book.{BookBid}
+use Rattle.lots.specs.auction_model.specs.Book.{BookBid}
 use Rattle.auction_rules.specs.declared.Event.{Event}
-use Rattle.auction_model.specs.PackageTests.{is_empty, is_same, is_before}
+use Rattle.lots.specs.auction_model.specs.PackageTests.{is_empty, is_same, is_before}
 use Rattle.auction_rules.specs.Terms.{Terms}
 use Rattle.auction_rules.specs.Caps.{greatest}
 use Rattle.auction_rules.specs.Lines.{placed, in_order, priced}
 use Rattle.auction_rules.specs.Replies.{has_entry, admitted, standing}
 use Rattle.auction_rules.specs.BookOfLog.{bid_lots, best_bids, pairs_of, bids_in_book, IsGreatestFor}
-use Rattle.auction_model.proofs.PackageTestLaws.{is_same-true, is_same-refl}
+use Rattle.lots.specs.auction_model.proofs.PackageTestLaws.{is_same-true, is_same-refl}
 use Rattle.auction_rules.proofs.BookCaps.{among, among-in_order}
 use Rattle.auction_rules.proofs.BookLaws.{lots-priced}
 use Rattle.auction_rules.proofs.LawfulBids.{each-weaker, each-some, each-in_order, each-priced}

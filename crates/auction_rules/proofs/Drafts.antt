@@ -2,13 +2,13 @@
 use Rattle.std.proofs.Common.{◌≡◌, ℕ, true, false, List, [], ◌∷◌, Option, Some, None, refl, sym, ◌∙◌, ap, inl, inr}
 use Rattle.std.specs.Prelude.{if◌then◌else◌, filter_map, ◌==◌}
 use Rattle.std.proofs.lemmas.Bool.{cases_Bool, cond-true, cond-false}
-use Rattle.auction_model.specs.Book.{BookBid}
+use Rattle.lots.specs.auction_model.specs.Book.{BookBid}
 use Rattle.auction_rules.specs.declared.Event.{Event}
 use Rattle.auction_rules.specs.declared.Event.TheVariants.{Bid, Draft, Drop, Submit, Close}
-use Rattle.auction_model.specs.PackageTests.{is_same, is_before, AllAfter, InOrder}
-use Rattle.auction_model.proofs.PackageTestLaws.{is_same-true, is_same-refl, is_before-not_same, is_before-trans, is_before-total}
+use Rattle.lots.specs.auction_model.specs.PackageTests.{is_same, is_before, AllAfter, InOrder}
+use Rattle.lots.specs.auction_model.proofs.PackageTestLaws.{is_same-true, is_same-refl, is_before-not_same, is_before-trans, is_before-total}
 use Rattle.auction_rules.specs.Lines.{draft_word, drafted, draft_of, placed, in_order, entry_before, priced, draft_list, submitted_list, is_submit, drafts_after}
-use Rattle.auction_model.specs.Entries.{with_entry, without_entry}
+use Rattle.lots.specs.auction_model.specs.Entries.{with_entry, without_entry}
 use Rattle.auction_rules.specs.Replies.{is_of}
 
 -- where p is before q, packages that all come after q all come after p

@@ -3,23 +3,23 @@ use Rattle.std.proofs.Common.{◌≡◌, ℕ, zero, suc, ◌<◌, ◌≤◌, Boo
 use Rattle.std.specs.Prelude.{if◌then◌else◌, filter_map, nat_le, nat_eq}
 use Rattle.std.specs.List.{AllByRecursion}
 use Rattle.std.proofs.lemmas.Bool.{cases_Bool, leb-false}
-use Rattle.auction_model.specs.Book.{BookBid}
-use Rattle.auction_model.specs.Package.{is_within, cost_of}
+use Rattle.lots.specs.auction_model.specs.Book.{BookBid}
+use Rattle.lots.specs.auction_model.specs.Package.{is_within, cost_of}
 use Rattle.auction_rules.specs.declared.Event.{Event}
 use Rattle.auction_rules.specs.declared.Event.TheVariants.{Bid, Draft, Drop, Submit, Close}
 use Rattle.auction_rules.specs.declared.Reply.{Reply}
 use Rattle.auction_rules.specs.declared.Reply.TheVariants as reply
-use Rattle.auction_model.specs.PackageTests.{is_same, is_before, AllAfter, InOrder}
+use Rattle.lots.specs.auction_model.specs.PackageTests.{is_same, is_before, AllAfter, InOrder}
 use Rattle.auction_rules.specs.Terms.{Terms, entrant}
 use Rattle.auction_rules.specs.Rounds.{OwnRound, demand, prices_after, final_round, stage_by, stage_after, closed_by, closed_after, own_round, own_rounds}
 use Rattle.auction_rules.specs.Caps.{clock_bid, no_round, round_at}
 use Rattle.auction_rules.specs.Lines.{is_close, is_submit, closes, held_in, in_order, entry_before, priced, draft_of, drafted, draft_list, submitted_list, drafts_after}
-use Rattle.auction_model.specs.Entries.{with_entry, without_entry}
+use Rattle.lots.specs.auction_model.specs.Entries.{with_entry, without_entry}
 use Rattle.auction_rules.specs.Replies.{Standing, is_clock, is_closed, is_ok_reply, first_reply, when, has_entry, price_top, has_excess, own_reply, reply_after, admitted, standing}
 use Rattle.auction_rules.specs.View.{posted}
 use Rattle.auction_rules.specs.BookOfLog.{bid_lots, pairs_of, bids_in_book}
 use Rattle.auction_rules.specs.Lawful.{HasCategories, NeverRises, AreDrafts}
-use Rattle.auction_model.proofs.PackageTestLaws.{is_same-true, is_same-refl, is_before-not_same, not_same-sym}
+use Rattle.lots.specs.auction_model.proofs.PackageTestLaws.{is_same-true, is_same-refl, is_before-not_same, not_same-sym}
 use Rattle.auction_rules.proofs.Drafts.{AllAfter-trans, InOrder-in_order}
 use Rattle.auction_rules.proofs.Standings.{IsFinal, stopped, IsFinal-final_round, after_own, after_close, own_now, standing-own, standing-other, standing-close}
 use Rattle.auction_rules.proofs.States.{get_or-listing}

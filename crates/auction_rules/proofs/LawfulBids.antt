@@ -6,23 +6,23 @@ use Rattle.std.specs.Option.{option_or}
 use Rattle.std.proofs.lemmas.Bool.{cases_Bool, cases_eq, cond-true, cond-false, leb-true, le-leb, ltb-false, eqb-true, and_parts}
 use Rattle.std.proofs.lemmas.List.Sums.{sum_by-cons}
 use Rattle.std.proofs.Math.Nat.{mul-le-mul, mul-le-mul_left}
-use Rattle.auction_model.specs.Book.{BookBid}
-use Rattle.auction_model.specs.Package.{is_within, cost_of}
-use Rattle.auction_model.proofs.ListLaws.{each-push}
+use Rattle.lots.specs.auction_model.specs.Book.{BookBid}
+use Rattle.lots.specs.auction_model.specs.Package.{is_within, cost_of}
+use Rattle.lots.specs.auction_model.proofs.ListLaws.{each-push}
 use Rattle.auction_rules.specs.declared.Event.{Event}
 use Rattle.auction_rules.specs.declared.Event.TheVariants.{Bid, Draft, Drop, Submit, Close}
 use Rattle.auction_rules.specs.declared.Reply.TheVariants as reply
-use Rattle.auction_model.specs.PackageTests.{is_empty, first_over, is_same, is_before}
+use Rattle.lots.specs.auction_model.specs.PackageTests.{is_empty, first_over, is_same, is_before}
 use Rattle.auction_rules.specs.Terms.{Terms, no_lots, entrant, broken_cap}
 use Rattle.auction_rules.specs.Rounds.{OwnRound, demand, prices_after, final_round, stage_by, stage_after, closed_after, own_round, own_rounds}
 use Rattle.auction_rules.specs.Caps.{clock_bid, greatest}
 use Rattle.auction_rules.specs.Lines.{is_close, line_bidder, bid_by, is_submit, closes, held_in, placed, in_order, priced, draft_list, submitted_list, drafts_after}
-use Rattle.auction_model.specs.Entries.{with_entry, without_entry}
+use Rattle.lots.specs.auction_model.specs.Entries.{with_entry, without_entry}
 use Rattle.auction_rules.specs.Replies.{Standing, is_of, is_clock, is_sealed, is_closed, is_ok_reply, first_reply, when, supply_reply, spectrum_reply, has_entry, price_top, has_excess, own_reply, close_reply, reply_after, admitted, standing}
 use Rattle.auction_rules.specs.View.{posted}
 use Rattle.auction_rules.specs.BookOfLog.{bid_lots, best_bids, bids_in_book}
 use Rattle.auction_rules.specs.Lawful.{AreBelowTop, AreLimited, HasCategories, IsLawfulBid, IsDraft}
-use Rattle.auction_model.proofs.PackageTestLaws.{is_same-refl, first_over-within}
+use Rattle.lots.specs.auction_model.proofs.PackageTestLaws.{is_same-refl, first_over-within}
 use Rattle.auction_rules.proofs.Agree.{Some-injective}
 use Rattle.auction_rules.proofs.Held.{held_in-elsewhere, held_in-no_bid, held_in-bid}
 use Rattle.auction_rules.proofs.Drafts.{draft_list-other, draft_list-own}

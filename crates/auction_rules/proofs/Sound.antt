@@ -4,8 +4,8 @@ use Rattle.std.specs.Prelude.{if◌then◌else◌, ◌&&◌, ◌==◌, nat_lt, n
 use Rattle.std.specs.Option.{option_or}
 use Rattle.std.proofs.lemmas.Bool.{cases_Bool, ltb-false}
 use Rattle.std.proofs.Math.Nat.{mul-le-mul_left}
-use Rattle.auction_model.specs.Package.{cost_of, is_within}
-use Rattle.auction_model.specs.PackageTests.{first_over}
+use Rattle.lots.specs.auction_model.specs.Package.{cost_of, is_within}
+use Rattle.lots.specs.auction_model.specs.PackageTests.{first_over}
 use Rattle.auction_rules.specs.declared.Event.{Event}
 use Rattle.auction_rules.specs.declared.Stage.{Stage}
 use Rattle.auction_rules.specs.declared.Stage.TheVariants.{Clock, Sealed, Closed}

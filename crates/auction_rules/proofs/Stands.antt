@@ -11,7 +11,7 @@ use Rattle.auction_rules.specs.Lines.{is_close, line_bidder, closes, held_in, dr
 use Rattle.auction_rules.specs.Replies.{Standing, is_of, is_clock, is_sealed, is_ok_reply, own_reply, close_reply, reply_after, reply_to, admitted, standing}
 use Rattle.auction_rules.specs.State.{DeskState, round_of, state_after, state_of, asked, standing_in, close_reply_in, reply_in, taken, state_with}
 use Rattle.auction_rules.proofs.Views.{is_close-true, with_line-ok, with_line-refused}
-use Rattle.auction_model.specs.Book.{BookBid}
+use Rattle.lots.specs.auction_model.specs.Book.{BookBid}
 use Rattle.auction_rules.proofs.Standings.{IsFinal, IsFinal-final_round, after_own}
 use Rattle.auction_rules.proofs.States.{with_standing, length-listing, standing_in-state_after, state_after-own}
 use Rattle.auction_rules.proofs.Closing.{state_at, asked-listing, state_after-close}

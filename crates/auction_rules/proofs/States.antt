@@ -4,7 +4,7 @@ use Rattle.std.proofs.lemmas.Bool.{cases_eq, ne_eqb}
 use Rattle.std.proofs.lemmas.List.{set-append_left, get_or_append_left, map-append}
 use Rattle.std.proofs.Math.Seq.{set-append_seam, get_or-append_seam}
 use Rattle.auction_rules.specs.declared.Event.{Event}
-use Rattle.auction_model.specs.Book.{BookBid}
+use Rattle.lots.specs.auction_model.specs.Book.{BookBid}
 use Rattle.auction_rules.specs.Terms.{Terms}
 use Rattle.auction_rules.specs.declared.Stage.{Stage}
 use Rattle.auction_rules.specs.Rounds.{OwnRound, own_rounds, prices_after, eligibility_after, round_after, closed_after, closed_by, final_round, listing}

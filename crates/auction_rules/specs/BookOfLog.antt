@@ -3,8 +3,8 @@
 use Rattle.std.specs.Prelude.{◌≡◌, ℕ, ◌≤◌, Bool, not, List, Some, ◌++◌, filter, map, length, Contains}
 use Rattle.std.specs.List.{AllByRecursion}
 use Rattle.auction_rules.specs.declared.Event.{Event}
-use Rattle.auction_model.specs.Book.{BookBid, Bidder, Book}
-use Rattle.auction_model.specs.PackageTests.{is_empty}
+use Rattle.lots.specs.auction_model.specs.Book.{BookBid, Bidder, Book}
+use Rattle.lots.specs.auction_model.specs.PackageTests.{is_empty}
 use Rattle.auction_rules.specs.Terms.{Terms, entrant}
 use Rattle.auction_rules.specs.Rounds.{listing}
 use Rattle.auction_rules.specs.Caps.{clock_bid, greatest}

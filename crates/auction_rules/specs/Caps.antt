@@ -1,8 +1,8 @@
 -- Relative caps, over the clock rounds of one bidder.
 use Rattle.std.specs.Prelude.{ℕ, zero, suc, ◌+◌, ◌-◌, ◌≤◌, ◌<◌, max, min, Bool, true, false, List, [], ◌∷◌, ◌++◌, Option, Some, None, map, length, slice_index_or, nat_le, if◌then◌else◌}
-use Rattle.auction_model.specs.Book.{BookBid}
-use Rattle.auction_model.specs.Package.{cost_of}
-use Rattle.auction_model.specs.PackageTests.{is_empty, is_same}
+use Rattle.lots.specs.auction_model.specs.Book.{BookBid}
+use Rattle.lots.specs.auction_model.specs.Package.{cost_of}
+use Rattle.lots.specs.auction_model.specs.PackageTests.{is_empty, is_same}
 use Rattle.auction_rules.specs.Step.{last_or}
 use Rattle.auction_rules.specs.Rounds.{OwnRound}
 

@@ -1,12 +1,12 @@
 -- What an award and the lines of a log keep, and what follows for each bid of the book.
 use Rattle.std.specs.Prelude.{◌≡◌, ℕ, ◌≤◌, IsTrue, false, List, [], ◌∷◌, length, map, sum}
 use Rattle.std.specs.List.{AllByRecursion}
-use Rattle.limits.specs.declared.TheConstants.{MOST_AMOUNT, MOST_DRAFTS, MOST_LOTS, MOST_PRICE}
-use Rattle.auction_model.specs.Book.{BookBid}
-use Rattle.auction_model.specs.Package.{is_within, cost_of}
+use Rattle.lots.specs.limits.specs.declared.TheConstants.{MOST_AMOUNT, MOST_DRAFTS, MOST_LOTS, MOST_PRICE}
+use Rattle.lots.specs.auction_model.specs.Book.{BookBid}
+use Rattle.lots.specs.auction_model.specs.Package.{is_within, cost_of}
 use Rattle.auction_rules.specs.declared.Event.{Event}
 use Rattle.auction_rules.specs.declared.Event.TheVariants.{Bid, Draft, Drop, Submit, Close}
-use Rattle.auction_model.specs.PackageTests.{is_empty, InOrder}
+use Rattle.lots.specs.auction_model.specs.PackageTests.{is_empty, InOrder}
 use Rattle.auction_rules.specs.Terms.{Terms, entrant}
 use Rattle.auction_rules.specs.Rounds.{OwnRound}
 use Rattle.auction_rules.specs.BookOfLog.{bid_lots}

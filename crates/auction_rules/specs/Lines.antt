@@ -2,9 +2,9 @@
 use Rattle.std.specs.Prelude.{ℕ, suc, Bool, true, false, ◌&&◌, List, [], ◌∷◌, Option, Some, None, filter_map, unwrap_or, ◌==◌, if◌then◌else◌}
 use Rattle.auction_rules.specs.declared.Event.{Event}
 use Rattle.auction_rules.specs.declared.Event.TheVariants.{Bid, Draft, Drop, Submit, Close}
-use Rattle.auction_model.specs.Book.{BookBid}
-use Rattle.auction_model.specs.PackageTests.{is_same, is_before}
-use Rattle.auction_model.specs.Entries.{with_entry, without_entry}
+use Rattle.lots.specs.auction_model.specs.Book.{BookBid}
+use Rattle.lots.specs.auction_model.specs.PackageTests.{is_same, is_before}
+use Rattle.lots.specs.auction_model.specs.Entries.{with_entry, without_entry}
 use Rattle.auction_rules.specs.Terms.{Terms, no_lots}
 
 abbrev pub is_close : Event → Bool

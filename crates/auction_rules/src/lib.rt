@@ -12,10 +12,10 @@
 
 ghost use Rattle.std.specs.Prelude.{◌≡◌, ℕ, suc, ◌+◌, ◌*◌, ◌≤◌, List, ◌∷◌, None, IsTrue, true, false, not, ◌&&◌, length, map};
 ghost use Rattle.std.specs.List.{AllByRecursion};
-ghost use Rattle.limits.specs.declared.TheConstants.{MOST_BIDS, MOST_ROUNDS};
-ghost use Rattle.auction_model.specs.Book.{bidder_of};
-ghost use Rattle.auction_model.specs.Package.{ComesBefore, is_within, cost_of};
-ghost use Rattle.auction_model.specs.PackageTests.{first_over, is_empty, is_same, is_before, InOrder};
+ghost use Rattle.lots.specs.limits.specs.declared.TheConstants.{MOST_BIDS, MOST_ROUNDS};
+ghost use Rattle.lots.specs.auction_model.specs.Book.{bidder_of};
+ghost use Rattle.lots.specs.auction_model.specs.Package.{ComesBefore, is_within, cost_of};
+ghost use Rattle.lots.specs.auction_model.specs.PackageTests.{first_over, is_empty, is_same, is_before, InOrder};
 ghost use Rattle.auction_rules.specs.Terms.{Terms, entrant, final_cap};
 ghost use Rattle.auction_rules.specs.Step.{AreRisingFrom, IsRaise, IsReachedShare, permille_at, ticks_of};
 ghost use Rattle.auction_rules.specs.Rounds.{OwnRound, prices_after};
@@ -26,7 +26,9 @@ ghost use Rattle.auction_rules.specs.View.{view, own_replies};
 ghost use Rattle.auction_rules.specs.Lawful.{AreDrafts, AreLimited, HasCategories, IsLawfulBid, NeverRises};
 ghost use Rattle.auction_rules.specs.BookOfLog.{IsGreatestFor, bid_lots, bids_in_book, book_bidder, book_of_log, book_in, pairs_of};
 
+pub use lots;
 use lots::Package;
+pub use lots::limits;
 
 /// One line of a log. Bidders are numbered from 1, and a number that no bidder has, 0 too, is a stranger's.
 #[derive(Drop)]

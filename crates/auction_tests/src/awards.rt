@@ -1,5 +1,5 @@
-use award_file::{AwardStop, CapFault, LimitKind, read_award};
-use lots::Package;
+use big_auction::award_file::{AwardStop, CapFault, LimitKind, read_award};
+use big_auction::lots::Package;
 use std::alloc::{AllocError, Global};
 use std::test::Fail;
 

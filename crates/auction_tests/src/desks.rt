@@ -1,12 +1,12 @@
 // Worked auctions: the replies of a desk to the lines of a log, and the book that it gives.
 ghost use Rattle.std.specs.Prelude.{◌≡◌, IsTrue, length};
-ghost use Rattle.auction_rules.specs.Lawful.{HasCategories};
-ghost use Rattle.auction_rules.specs.Terms.{Terms};
+ghost use Rattle.big_auction.specs.auction_rules.specs.Lawful.{HasCategories};
+ghost use Rattle.big_auction.specs.auction_rules.specs.Terms.{Terms};
 
-use award_file::read_award;
-use bid_book::write_book;
-use bid_desk::{Desk, DeskStop, Event, Reply};
-use log_file::read_log;
+use big_auction::award_file::read_award;
+use big_auction::bid_book::write_book;
+use big_auction::log_file::read_log;
+use log_replay::bid_desk::{Desk, DeskStop, Event, Reply};
 use std::alloc::Global;
 use std::process::Abort;
 use std::test::Fail;

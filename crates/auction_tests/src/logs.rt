@@ -1,5 +1,5 @@
-use award_file::{Award, read_award};
-use log_file::{CloseDone, Event, LimitKind, LogStop, Reply, read_log, reply_line};
+use big_auction::award_file::{Award, read_award};
+use big_auction::log_file::{CloseDone, Event, LimitKind, LogStop, Reply, read_log, reply_line};
 use std::alloc::{AllocError, Global};
 use std::process::Abort;
 use std::test::Fail;

@@ -1,6 +1,6 @@
-use award_file::read_award;
+use big_auction::award_file::read_award;
+use big_auction::log_file::read_log;
 use big_auction::make;
-use log_file::read_log;
 use std::process::Abort;
 use std::test::Fail;
 

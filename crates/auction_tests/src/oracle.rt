@@ -2,7 +2,7 @@
 // lines for each answer anew. The rules here call none of the code that is tested.
 ghost use Rattle.std.specs.Prelude.{IfOk};
 ghost use Rattle.std.specs.List.{AllByRecursion};
-ghost use Rattle.auction_rules.specs.Lawful.{HasCategories};
+ghost use Rattle.big_auction.specs.auction_rules.specs.Lawful.{HasCategories};
 
 mod draw;
 mod past;
@@ -10,10 +10,10 @@ mod replies;
 mod terms;
 mod texts;
 
-use award_file::{Award, read_award};
-use bid_book::write_book;
+use big_auction::award_file::{Award, read_award};
+use big_auction::bid_book::write_book;
+use big_auction::log_file::{packages_of_log, read_log};
 use draw::{Draw, packages_within};
-use log_file::{packages_of_log, read_log};
 use log_replay::{Events, Replay, ReplayStop, replay};
 use std::alloc::Global;
 use std::process::Abort;

@@ -7,7 +7,7 @@ use Rattle.std.proofs.lemmas.Bool.Decides.{nat_tests}
 use Rattle.std.proofs.lemmas.List.{length-replicate}
 use Rattle.std.proofs.lemmas.List.Elements.{All-replicate, recursion_from_All}
 use Rattle.toml.specs.Data.{Data, array, Items, no_items, item, Members, get_member, as_integer}
-use Rattle.book_form.specs.BookForm.{IsName}
+use Rattle.bid_book.specs.book_form.specs.BookForm.{IsName}
 use Rattle.award_file.specs.Stated.{where_passes, in_range, whole_of, number_at, before_others, numbers_of, row_of, is_name, string_at, name_at}
 use Rattle.award_file.specs.Walk.{Fault, unless, first_fault, is_new, name_or_none, holding_in, list_fault}
 use Rattle.award_file.proofs.FieldLaws.{name-is}

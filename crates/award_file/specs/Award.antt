@@ -2,10 +2,10 @@
 use Rattle.std.specs.Prelude.{◌≡◌, ℕ, ◌+◌, ◌-◌, ◌≤◌, ◌<◌, Bool, not, List, [], ◌∷◌, length, map, Option, Some, None, position, slice_index_or}
 use Rattle.std.specs.List.{All, IsDistinct, list_any}
 use Rattle.std.specs.Str.{bytes_eq}
-use Rattle.limits.specs.declared.TheConstants.{MOST_BIDDERS, MOST_COUNT, MOST_POINTS, MOST_PRICE}
+use Rattle.auction_rules.specs.limits.specs.declared.TheConstants.{MOST_BIDDERS, MOST_COUNT, MOST_POINTS, MOST_PRICE}
 use Rattle.auction_rules.specs.Terms.{SpectrumCap, Entrant, Terms}
-use Rattle.book_form.specs.BookForm.{IsName}
-use Rattle.lots.specs.Limits.{IsSupply}
+use Rattle.bid_book.specs.book_form.specs.BookForm.{IsName}
+use Rattle.auction_rules.specs.lots.specs.Limits.{IsSupply}
 
 -- how prices rise: the tick, and the thresholds, each an excess with its permille
 pub record Steps : Type 0 where

@@ -2,15 +2,15 @@
 use Rattle.std.specs.Prelude.{◌≡◌, ℕ, ◌-◌, ◌^◌, min, List, length, Option, Some, None, nat_le, if◌then◌else◌}
 use Rattle.std.specs.Str.{is_utf8}
 use Rattle.std.specs.Option.{option_or}
-use Rattle.limits.specs.declared.TheConstants.{MOST_BIDDERS}
+use Rattle.auction_rules.specs.limits.specs.declared.TheConstants.{MOST_BIDDERS}
 use Rattle.toml.specs.Data.{Members}
 use Rattle.toml.specs.Parse.{parse_document}
-use Rattle.book_form.specs.BookLines.{Excess, supply_excess}
-use Rattle.limits.specs.declared.LimitKind.{LimitKind}
-use Rattle.limits.specs.declared.LimitKind.TheVariants.{Categories, Lots, States, Bidders}
+use Rattle.bid_book.specs.book_form.specs.BookLines.{Excess, supply_excess}
+use Rattle.auction_rules.specs.limits.specs.declared.LimitKind.{LimitKind}
+use Rattle.auction_rules.specs.limits.specs.declared.LimitKind.TheVariants.{Categories, Lots, States, Bidders}
 use Rattle.auction_rules.specs.Terms.{Terms}
-use Rattle.lots.specs.declared.LotStop.{LotStop}
-use Rattle.lots.specs.declared.LotStop.TheVariants as lots
+use Rattle.auction_rules.specs.lots.specs.declared.LotStop.{LotStop}
+use Rattle.auction_rules.specs.lots.specs.declared.LotStop.TheVariants as lots
 use Rattle.award_file.specs.Walk.{Fault, award_fault, terms_of}
 use Rattle.award_file.specs.declared.read.AwardStop.{AwardStop}
 use Rattle.award_file.specs.declared.read.AwardStop.TheVariants.{Text, Field, Limit, Memory}

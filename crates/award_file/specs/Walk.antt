@@ -1,7 +1,7 @@
 -- The walk over the rules of an award: the first that a table breaks, and the terms of a table that breaks none.
 use Rattle.std.specs.Prelude.{ℕ, ◌+◌, ◌-◌, ◌^◌, min, ◌&&◌, not, ◌==◌, Bool, true, false, if◌then◌else◌, List, [], ◌∷◌, ◌++◌, map, codes, Option, Some, None, is_some, option_and_then, unwrap_or, length, replicate, nat_le, nat_lt}
 use Rattle.std.specs.Option.{option_or}
-use Rattle.limits.specs.declared.TheConstants.{MOST_COUNT, MOST_POINTS, MOST_PRICE}
+use Rattle.auction_rules.specs.limits.specs.declared.TheConstants.{MOST_COUNT, MOST_POINTS, MOST_PRICE}
 use Rattle.toml.specs.Data.{Data, Members, get_member}
 use Rattle.auction_rules.specs.Step.{last_or}
 use Rattle.auction_rules.specs.Terms.{Terms, Entrant, SpectrumCap}

@@ -1,7 +1,7 @@
 // Laws of awards.
 ghost use Rattle.std.specs.Prelude.{List};
 ghost use Rattle.std.specs.List.{AllByRecursion};
-ghost use Rattle.book_form.specs.BookLines.{IsBookWithinLimits};
+ghost use Rattle.bid_book.specs.book_form.specs.BookLines.{IsBookWithinLimits};
 ghost use Rattle.auction_rules.specs.declared.Event.{Event};
 ghost use Rattle.auction_rules.specs.BookOfLog.{book_of_log};
 ghost use Rattle.auction_rules.specs.Lawful.{HasCategories};

@@ -9,9 +9,13 @@ mod laws;
 mod read;
 mod steps;
 
+pub use auction_rules;
+pub use auction_rules::limits::LimitKind;
+pub use auction_rules::{limits, lots};
 pub use award::Award;
+pub use bid_book;
+pub use bid_book::{text_lines, wide_num};
 pub use caps::CapFault;
 pub use laws::book_of_award;
-pub use limits::LimitKind;
 pub use read::{AwardStop, read_award};
 pub use steps::StepTable;

@@ -1,9 +1,9 @@
 // The reader of award files.
 ghost use Rattle.std.specs.Prelude.{◌≡◌, IfErr, IfOk, None, Some, map};
 ghost use Rattle.toml.specs.View.{table_view};
-ghost use Rattle.book_form.specs.BookForm.{IsOffer};
-ghost use Rattle.book_form.specs.BookLines.{supply_excess};
-ghost use Rattle.lots.specs.Limits.{IsSupply};
+ghost use Rattle.bid_book.specs.book_form.specs.BookForm.{IsOffer};
+ghost use Rattle.bid_book.specs.book_form.specs.BookLines.{supply_excess};
+ghost use Rattle.auction_rules.specs.lots.specs.Limits.{IsSupply};
 ghost use Rattle.award_file.specs.Award.{IsAward};
 ghost use Rattle.award_file.specs.Parts.{award_value, counts, terms_value};
 ghost use Rattle.award_file.specs.Reading.{IsFault, IsLimit, IsStated, IsStop, limit_stop, reading, reading_of, states, terms_excess};
@@ -19,11 +19,11 @@ mod spectrum_caps;
 use crate::caps::SpectrumCap;
 use crate::entrants::Entrants;
 use crate::{Award, StepTable};
+use auction_rules::limits::{LimitKind, MOST_BIDDERS, MOST_PRICE};
+use auction_rules::lots::{LotStop, Supply};
 use bidders::read_bidders;
 use categories::{Category, read_categories};
 use fields::{broken_top, has_other, number_at};
-use limits::{LimitKind, MOST_BIDDERS, MOST_PRICE};
-use lots::{LotStop, Supply};
 use price_steps::read_steps;
 use spectrum_caps::read_caps;
 use std::alloc::{AllocError, AllocFailed, Global};

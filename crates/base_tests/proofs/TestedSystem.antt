@@ -1,11 +1,11 @@
 -- A system whose conditions were tested.
-use Rattle.far_num.specs.Pairs.{far_at, near_at}
-use Rattle.far_num.specs.declared.Far.{Far}
+use Rattle.lin_solve.specs.far_num.specs.Pairs.{far_at, near_at}
+use Rattle.lin_solve.specs.far_num.specs.declared.Far.{Far}
 use Rattle.lin_solve.proofs.Small.{mul_le}
 use Rattle.lin_solve.specs.Solved.{IsSmallSystem}
 use Rattle.lin_solve.specs.Matrix.{row}
 use Rattle.std.proofs.Common.{List, arith, length, pos, subst, sym, unsigned_abs, ℕ, ℤ, ◌*◌, ◌+◌, ◌<◌, ◌≡◌, ◌≤ℤ◌, ◌≤◌}
-use Rattle.wide_num.specs.Sums.{nth}
+use Rattle.text_lines.specs.wide_num.specs.Sums.{nth}
 
 -- what was tested of the entries and of the right side holds of the matrix
 pub system : (count top edge n : ℕ) (xs : List ℤ) (right : List Far) (m : List (List ℤ)) → n ≤ count → length xs ≡ n * n → length right ≡ n →

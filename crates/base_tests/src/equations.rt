@@ -1,8 +1,8 @@
-ghost use Rattle.far_num.specs.Pairs.{far_at, near_at};
+ghost use Rattle.lin_solve.specs.far_num.specs.Pairs.{far_at, near_at};
 ghost use Rattle.std.specs.Prelude.{IsTrue, length, pos, unsigned_abs, ℕ, ◌<◌, ◌^◌, ◌≡◌, ◌≤ℤ◌, ◌≤◌};
-ghost use Rattle.wide_num.specs.Sums.{nth};
+ghost use Rattle.text_lines.specs.wide_num.specs.Sums.{nth};
 
-use far_num::Far;
+use lin_solve::far_num::Far;
 use lin_solve::{Solved, Square, solve};
 use std::alloc::{AllocError, Global};
 use std::process::Abort;

@@ -1,5 +1,5 @@
 use std::test::Fail;
-use wide_num::{
+use text_lines::wide_num::{
     NumList, Op, Text, Wide, add, digits, div_exact, gcd, mul, read_natural, read_number, sub,
 };
 

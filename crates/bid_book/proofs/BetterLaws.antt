@@ -4,8 +4,8 @@ use Rattle.std.proofs.Common.{inl, inr, sym, ◌∙◌, ap, subst, arith}
 use Rattle.std.proofs.lemmas.Bool.{cases_lt}
 use Rattle.std.proofs.lemmas.List.{get_or_default, get_or_append_left, length-append}
 use Rattle.std.proofs.Math.Seq.{get_or-append_seam}
-use Rattle.auction_model.specs.Book.{Book, BookBid, bid_of, lots_of, net_of}
-use Rattle.auction_model.specs.Package.{is_within}
+use Rattle.lots.specs.auction_model.specs.Book.{Book, BookBid, bid_of, lots_of, net_of}
+use Rattle.lots.specs.auction_model.specs.Package.{is_within}
 use Rattle.bid_book.specs.declared.book.Entry.{Entry}
 use Rattle.bid_book.specs.declared.book.BookBidder.{BookBidder}
 use Rattle.bid_book.specs.declared.book.BidBook.TheInside.{Inside}

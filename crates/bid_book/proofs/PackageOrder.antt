@@ -2,8 +2,8 @@
 use Rattle.std.proofs.Common.{inl, inr, ◌⊎◌, ⊎_elim, ◌≡◌, ℕ, zero, suc, ◌-◌, ◌<◌, Bool, true, false, List, [], ◌∷◌, length, get_or, replicate, refl, sym, ap, ◌∙◌, arith}
 use Rattle.std.specs.Prelude.{IsTrue, nat_lt, ◌&&◌, ◌||◌, ◌==◌}
 use Rattle.std.proofs.lemmas.Bool.Decides.{nat_tests}
-use Rattle.auction_model.specs.Book.{Book, BookBid, no_bid, bids_of, lots_of}
-use Rattle.auction_model.specs.Package.{ComesBefore, is_within}
+use Rattle.lots.specs.auction_model.specs.Book.{Book, BookBid, no_bid, bids_of, lots_of}
+use Rattle.lots.specs.auction_model.specs.Package.{ComesBefore, is_within}
 use Rattle.book_form.specs.BookForm.{empty_package}
 use Rattle.bid_book.specs.Stages.{last_lots, last_bids, lots_before}
 

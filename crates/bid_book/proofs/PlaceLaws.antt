@@ -3,12 +3,12 @@ use Rattle.std.specs.Prelude.{◌≡◌, ℕ, zero, suc, ◌≤◌, ◌<◌, tru
 use Rattle.std.proofs.Common.{inl, inr, set, sym, ◌∙◌, ap, subst, arith}
 use Rattle.std.specs.List.{insert}
 use Rattle.std.proofs.lemmas.Bool.{cases_Bool, cases_order, false≢true}
-use Rattle.auction_model.specs.Book.{BookBid, no_bid}
-use Rattle.auction_model.specs.Package.{ComesBefore}
-use Rattle.auction_model.specs.Entries.{with_entry}
-use Rattle.auction_model.specs.PackageTests.{is_before, is_same}
-use Rattle.auction_model.proofs.PackageTestLaws.{not_same-sym}
-use Rattle.auction_model.proofs.PackageTestLaws.{is_before-comes, is_before-not_same, is_before-total, is_before-trans, is_same-refl, is_same-true}
+use Rattle.lots.specs.auction_model.specs.Book.{BookBid, no_bid}
+use Rattle.lots.specs.auction_model.specs.Package.{ComesBefore}
+use Rattle.lots.specs.auction_model.specs.Entries.{with_entry}
+use Rattle.lots.specs.auction_model.specs.PackageTests.{is_before, is_same}
+use Rattle.lots.specs.auction_model.proofs.PackageTestLaws.{not_same-sym}
+use Rattle.lots.specs.auction_model.proofs.PackageTestLaws.{is_before-comes, is_before-not_same, is_before-total, is_before-trans, is_same-refl, is_same-true}
 use Rattle.bid_book.specs.Changes.{InPackageOrder, IsPlaceIn}
 
 -- a package doesn't come before itself

@@ -8,13 +8,13 @@ use Rattle.std.proofs.lemmas.Bool.{cases_Bool}
 use Rattle.std.proofs.lemmas.Bool.Decides.{nat_tests}
 use Rattle.std.proofs.lemmas.List.{get_or-set_same}
 use Rattle.std.proofs.lemmas.List.Edits.{length-remove}
-use Rattle.line_text.specs.LineText.{first_excess}
-use Rattle.line_text.proofs.Lines.{first_excess-append}
-use Rattle.auction_model.specs.Book.{Book, BookBid, Bidder, no_bid, no_bidder, bidder_of, bids_of}
-use Rattle.auction_model.specs.Package.{ComesBefore}
-use Rattle.auction_model.specs.Entries.{with_entry}
-use Rattle.auction_model.specs.PackageTests.{is_before, is_same}
-use Rattle.auction_model.proofs.PackageTestLaws.{comes-is_before, is_before-comes, is_before-total, is_same-true}
+use Rattle.book_form.specs.line_text.specs.LineText.{first_excess}
+use Rattle.book_form.specs.line_text.proofs.Lines.{first_excess-append}
+use Rattle.lots.specs.auction_model.specs.Book.{Book, BookBid, Bidder, no_bid, no_bidder, bidder_of, bids_of}
+use Rattle.lots.specs.auction_model.specs.Package.{ComesBefore}
+use Rattle.lots.specs.auction_model.specs.Entries.{with_entry}
+use Rattle.lots.specs.auction_model.specs.PackageTests.{is_before, is_same}
+use Rattle.lots.specs.auction_model.proofs.PackageTestLaws.{comes-is_before, is_before-comes, is_before-total, is_same-true}
 use Rattle.book_form.specs.BookForm.{AreBids, AreBidders, IsBid, empty_package}
 use Rattle.book_form.specs.BookLines.{Excess, supply_excess, bid_excess, bidder_excess, bid_lines, bidder_line, bidder_lines, head_lines, lines, IsBookWithinLimits}
 use Rattle.bid_book.specs.Changes.{CanPut, InPackageOrder, with_bids, with_put, without_bid}

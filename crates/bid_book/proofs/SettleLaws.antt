@@ -4,8 +4,8 @@ use Rattle.std.proofs.Common.{set, sym, ◌∙◌, ap, subst, arith}
 use Rattle.std.specs.List.{All, insert, remove}
 use Rattle.std.proofs.lemmas.List.{get_or-map, map-append, map-set, set-get_or, take_more_set, take_all, take-map, drop-map, length-map}
 use Rattle.std.proofs.lemmas.List.Elements.{All-append, All-cons, All-drop, All-set, All-take}
-use Rattle.auction_model.specs.Book.{BookBid, no_bid}
-use Rattle.auction_model.specs.Entries.{with_entry}
+use Rattle.lots.specs.auction_model.specs.Book.{BookBid, no_bid}
+use Rattle.lots.specs.auction_model.specs.Entries.{with_entry}
 use Rattle.bid_book.specs.declared.book.Entry.{Entry}
 use Rattle.bid_book.specs.Better.{AreBetter, BeatsAmong}
 use Rattle.bid_book.specs.Changes.{IsPlaceIn}

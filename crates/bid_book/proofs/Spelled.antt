@@ -4,12 +4,12 @@ use Rattle.std.specs.Prelude.{codes, IsTrue}
 use Rattle.std.specs.List.{AllByRecursion}
 use Rattle.std.proofs.lemmas.Bool.Decides.{nat_tests}
 use Rattle.std.specs.Fmt.{decimal}
-use Rattle.wide_num.proofs.Decimal.{numeral_decimal, AreDigits}
-use Rattle.line_text.specs.LineText.{IsLine}
-use Rattle.line_text.proofs.Lines.{line_append}
-use Rattle.auction_model.specs.Package.{is_within}
+use Rattle.book_form.specs.wide_num.proofs.Decimal.{numeral_decimal, AreDigits}
+use Rattle.book_form.specs.line_text.specs.LineText.{IsLine}
+use Rattle.book_form.specs.line_text.proofs.Lines.{line_append}
+use Rattle.lots.specs.auction_model.specs.Package.{is_within}
 use Rattle.book_form.specs.BookForm.{IsNameByte, IsName}
-use Rattle.text_lines.specs.Decimals.{decimals_text}
+use Rattle.book_form.specs.text_lines.specs.Decimals.{decimals_text}
 use Rattle.bid_book.proofs.Numbers.{AreSmall}
 
 -- no digits have a line feed among them

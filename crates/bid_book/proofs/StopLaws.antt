@@ -1,6 +1,6 @@
 -- Which stop of the reader comes from which stop at a line.
 use Rattle.std.proofs.Common.{◌≡◌, ℕ, refl}
-use Rattle.limits.specs.declared.LimitKind.{LimitKind}
+use Rattle.lots.specs.limits.specs.declared.LimitKind.{LimitKind}
 use Rattle.bid_book.specs.declared.BookStop.TheVariants as book
 use Rattle.bid_book.specs.declared.stop.LineStop.{LineStop}
 use Rattle.bid_book.specs.declared.stop.LineStop.TheVariants.{Form, Limit, Memory}

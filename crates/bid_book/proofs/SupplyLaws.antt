@@ -5,11 +5,11 @@ use Rattle.std.specs.Option.{option_or}
 use Rattle.std.specs.List.{AllByRecursion, position_or_len}
 use Rattle.std.proofs.lemmas.Bool.Decides.{nat_tests, leb_tells}
 use Rattle.std.proofs.lemmas.List.Sums.{sum_by-cons}
-use Rattle.auction_model.specs.Place.{states_of}
+use Rattle.lots.specs.auction_model.specs.Place.{states_of}
 use Rattle.book_form.specs.BookForm.{IsOffer}
 use Rattle.book_form.specs.BookLines.{Excess, supply_excess}
-use Rattle.limits.specs.declared.LimitKind.{LimitKind}
-use Rattle.limits.specs.declared.LimitKind.TheVariants.{Categories, Lots, States}
+use Rattle.lots.specs.limits.specs.declared.LimitKind.{LimitKind}
+use Rattle.lots.specs.limits.specs.declared.LimitKind.TheVariants.{Categories, Lots, States}
 use Rattle.lots.specs.declared.LotStop.{LotStop}
 use Rattle.lots.specs.declared.LotStop.TheVariants as lots
 use Rattle.lots.specs.Limits.{IsSupply, categories_stop, zero_stop, lots_stop, states_stop, supply_stop}

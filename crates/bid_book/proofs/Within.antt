@@ -5,10 +5,10 @@ use Rattle.std.specs.Option.{option_or}
 use Rattle.std.specs.List.{AllByRecursion}
 use Rattle.std.proofs.lemmas.Int.{ints}
 use Rattle.std.proofs.lemmas.Bool.Decides.{nat_tests}
-use Rattle.line_text.specs.LineText.{first_excess}
-use Rattle.line_text.proofs.Lines.{first_excess-append}
-use Rattle.auction_model.specs.Book.{BookBid, Bidder, Book, no_bid, no_bidder, bidder_of, bids_of, bid_of, lots_of, net_of}
-use Rattle.auction_model.specs.Package.{cost_of}
+use Rattle.book_form.specs.line_text.specs.LineText.{first_excess}
+use Rattle.book_form.specs.line_text.proofs.Lines.{first_excess-append}
+use Rattle.lots.specs.auction_model.specs.Book.{BookBid, Bidder, Book, no_bid, no_bidder, bidder_of, bids_of, bid_of, lots_of, net_of}
+use Rattle.lots.specs.auction_model.specs.Package.{cost_of}
 use Rattle.book_form.specs.BookForm.{AreReserves, AreBids, empty_package, AreBidders}
 use Rattle.book_form.specs.BookLines.{Excess, Line, supply_excess, bid_excess, bidder_excess, bid_lines, bidder_line, bidder_lines, head_lines, IsBookWithinLimits}
 use Rattle.lots.specs.Limits.{IsSupply}

@@ -1,8 +1,8 @@
 -- Bids that another bid of the same bidder makes needless: it is no larger in any category and worth at least as much.
 use Rattle.std.specs.Prelude.{ℕ, ◌-◌, ◌≤◌, ◌<◌, IsTrue, List, length, slice_index_or, ◌≤ℤ◌}
 use Rattle.std.specs.List.{All}
-use Rattle.auction_model.specs.Book.{Book, lots_of, net_of}
-use Rattle.auction_model.specs.Package.{is_within}
+use Rattle.lots.specs.auction_model.specs.Book.{Book, lots_of, net_of}
+use Rattle.lots.specs.auction_model.specs.Package.{is_within}
 use Rattle.bid_book.specs.declared.book.Entry.{Entry}
 use Rattle.bid_book.specs.declared.book.BidBook.TheInside.{Inside}
 

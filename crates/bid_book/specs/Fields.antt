@@ -1,8 +1,8 @@
 -- The book that the fields hold.
 use Rattle.std.specs.Prelude.{◌≡◌, ℕ, List, map, pos, ◌-ℤ◌}
 use Rattle.std.specs.List.{All}
-use Rattle.auction_model.specs.Package.{cost_of}
-use Rattle.auction_model.specs.Book.{Book, BookBid, Bidder}
+use Rattle.lots.specs.auction_model.specs.Package.{cost_of}
+use Rattle.lots.specs.auction_model.specs.Book.{Book, BookBid, Bidder}
 use Rattle.bid_book.specs.declared.book.Entry.{Entry}
 use Rattle.bid_book.specs.declared.book.BookBidder.{BookBidder}
 use Rattle.bid_book.specs.declared.book.BidBook.TheInside.{Inside}

@@ -1,7 +1,7 @@
 -- What putting a bid in, or taking one out, makes of the entries of a bidder.
 use Rattle.std.specs.Prelude.{◌≡◌, ℕ, List, map}
 use Rattle.std.specs.List.{All}
-use Rattle.auction_model.specs.Entries.{with_entry}
+use Rattle.lots.specs.auction_model.specs.Entries.{with_entry}
 use Rattle.bid_book.specs.declared.book.Entry.{Entry}
 use Rattle.bid_book.specs.Fields.{bid_value, HasNet}
 use Rattle.bid_book.specs.Better.{AreBetter}

@@ -2,7 +2,7 @@
 -- contracts; what bytes say of a book is said without them.
 use Rattle.std.specs.Prelude.{◌≡◌, ◌≢◌, ◌⊎◌, ℕ, ◌+◌, ◌-◌, ◌<◌, Option, None, List, [], ◌∷◌, ◌++◌, codes, length, slice_set}
 use Rattle.std.specs.List.{AllByRecursion}
-use Rattle.auction_model.specs.Book.{BookBid, Bidder, Book, bidder_of, bids_of}
+use Rattle.lots.specs.auction_model.specs.Book.{BookBid, Bidder, Book, bidder_of, bids_of}
 use Rattle.book_form.specs.BookForm.{IsName, IsOffer, AreReserves, IsBid, empty_package}
 use Rattle.book_form.specs.BookLines.{Excess, supply_excess, bidder_excess, bid_excess, supply_line, reserve_line, bidder_line, bid_line}
 use Rattle.bid_book.specs.declared.read.Stage.{Stage}

@@ -1,9 +1,9 @@
 -- Why a line is not taken, and what the numbers of a line are.
 use Rattle.std.specs.Prelude.{◌≡◌, ◌≢◌, ℕ, ◌≤◌, List, ◌∷◌, ◌++◌}
 use Rattle.std.specs.List.{AllByRecursion}
-use Rattle.limits.specs.declared.TheConstants.{MOST_AMOUNT}
-use Rattle.limits.specs.declared.LimitKind.TheVariants.{Categories, Lots, States}
-use Rattle.text_lines.specs.Fields.{FieldEnds}
+use Rattle.lots.specs.limits.specs.declared.TheConstants.{MOST_AMOUNT}
+use Rattle.lots.specs.limits.specs.declared.LimitKind.TheVariants.{Categories, Lots, States}
+use Rattle.book_form.specs.text_lines.specs.Fields.{FieldEnds}
 use Rattle.lots.specs.declared.LotStop.{LotStop}
 use Rattle.lots.specs.declared.LotStop.TheVariants as lots
 use Rattle.bid_book.specs.declared.BookStop.{BookStop}

@@ -23,7 +23,7 @@ pub struct Bidders {
 
 impl Model for Bidders {
     ghost use Rattle.std.specs.Prelude.{List, map};
-    ghost use Rattle.auction_model.specs.Book.{Bidder};
+    ghost use Rattle.lots.specs.auction_model.specs.Book.{Bidder};
     ghost use Rattle.bid_book.specs.Listed.{bidder_of};
 
     ghost Value = { List Bidder };

@@ -1,8 +1,8 @@
 // Books, and the calls that read them.
 ghost use Rattle.std.specs.Prelude.{◌≡◌, ℕ, ◌≤◌, ◌<◌, [], ◌∷◌, ◌++◌, IfOk, IsOk, OnErr, OnOk, length};
-ghost use Rattle.auction_model.specs.Book.{bidder_of, bids_of, bid_of, lots_of, net_of};
+ghost use Rattle.lots.specs.auction_model.specs.Book.{bidder_of, bids_of, bid_of, lots_of, net_of};
 ghost use Rattle.bid_book.specs.Kept.{IsBidBook};
-ghost use Rattle.limits.specs.declared.TheConstants.{MOST_BIDDERS, MOST_BIDS};
+ghost use Rattle.lots.specs.limits.specs.declared.TheConstants.{MOST_BIDDERS, MOST_BIDS};
 
 pub(crate) mod better;
 pub(crate) mod changes;
@@ -54,7 +54,7 @@ pub struct BidBook {
 }
 
 impl Model for BidBook {
-    ghost use Rattle.auction_model.specs.Book.{Book};
+    ghost use Rattle.lots.specs.auction_model.specs.Book.{Book};
 
     ghost Value = { Book };
 

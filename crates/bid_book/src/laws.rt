@@ -1,7 +1,7 @@
 // What holds of the form of a book, whoever reads it.
 ghost use Rattle.std.specs.Prelude.{◌≡◌, ℕ, List};
-ghost use Rattle.line_text.specs.LineText.{Said, Says, stated};
-ghost use Rattle.auction_model.specs.Book.{Book, BookBid};
+ghost use Rattle.book_form.specs.line_text.specs.LineText.{Said, Says, stated};
+ghost use Rattle.lots.specs.auction_model.specs.Book.{Book, BookBid};
 ghost use Rattle.book_form.specs.BookForm.{IsBook};
 ghost use Rattle.book_form.specs.BookLines.{Excess, IsBookWithinLimits, lines};
 ghost use Rattle.bid_book.specs.Changes.{CanPut, with_put};

@@ -12,9 +12,12 @@ mod write;
 
 pub use bidders::{BidderBids, Bidders};
 pub use book::BidBook;
+pub use book_form::{line_text, text_lines, wide_num};
 pub use laws::{one_book, one_text, rules_with_bid};
-pub use limits::LimitKind;
 pub use lists::{BidList, Reserves};
+pub use lots;
+pub use lots::limits::LimitKind;
+pub use lots::{auction_model, limits};
 pub use name::Name;
 pub use read::entries::name_text;
 pub use read::fields::is_name;

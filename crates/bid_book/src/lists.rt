@@ -14,7 +14,7 @@ pub struct BidList {
 
 impl Model for BidList {
     ghost use Rattle.std.specs.Prelude.{List, map};
-    ghost use Rattle.auction_model.specs.Book.{BookBid};
+    ghost use Rattle.lots.specs.auction_model.specs.Book.{BookBid};
     ghost use Rattle.bid_book.specs.Lists.{bid_of};
 
     ghost Value = { List BookBid };

@@ -3,7 +3,7 @@ ghost use Rattle.std.specs.Prelude.{IfOk, None, Some, ℕ, ◌≡◌};
 ghost use Rattle.book_form.specs.BookForm.{IsBook};
 ghost use Rattle.book_form.specs.BookLines.{lines};
 ghost use Rattle.bid_book.specs.Stages.{Step, excess};
-ghost use Rattle.line_text.specs.LineText.{Says, beyond, faulty, stated};
+ghost use Rattle.book_form.specs.line_text.specs.LineText.{Says, beyond, faulty, stated};
 
 pub(crate) mod entries;
 pub(crate) mod fields;
@@ -14,7 +14,7 @@ use crate::read::entries::take_entry;
 use crate::read::head::{take_first, take_reserve, take_supply};
 use crate::stop::LineStop;
 use crate::{BidBook, BookStop, LimitKind};
-use line_text::line_len;
+use book_form::line_text::line_len;
 use lots::Supply;
 use std::alloc::Global;
 

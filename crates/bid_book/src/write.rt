@@ -1,17 +1,17 @@
 // From a book to its text.
 ghost use Rattle.std.specs.Prelude.{◌≡◌, ◌≤◌, ◌<◌, ◌++◌, IfOk, OnOk, length};
-ghost use Rattle.line_text.specs.LineText.{Says, stated};
-ghost use Rattle.auction_model.specs.Book.{bidder_of};
+ghost use Rattle.book_form.specs.line_text.specs.LineText.{Says, stated};
+ghost use Rattle.lots.specs.auction_model.specs.Book.{bidder_of};
 ghost use Rattle.book_form.specs.BookForm.{IsBook};
 ghost use Rattle.book_form.specs.BookLines.{lines};
 ghost use Rattle.bid_book.specs.Lists.{bid_of};
 ghost use Rattle.bid_book.specs.Written.{bid_text, bidder_text, bidders_text};
 
 use crate::BidBook;
+use book_form::text_lines::{add_amounts, add_number, add_numbers};
+use book_form::wide_num::Text;
 use lots::Bid;
 use std::alloc::{AllocError, Global};
-use text_lines::{add_amounts, add_number, add_numbers};
-use wide_num::Text;
 
 /// The one text of a book, which states it. The only error is want of memory.
 pub fn write_book(alloc: Global, book: &BidBook) -> Result<Text, AllocError>

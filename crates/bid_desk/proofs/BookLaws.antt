@@ -3,19 +3,19 @@ use Rattle.std.proofs.Common.{◌≡◌, ℕ, suc, ◌+◌, ◌-◌, ◌≤◌, 
 use Rattle.std.specs.List.{All, AllByRecursion}
 use Rattle.std.proofs.lemmas.Bool.{cases_Bool}
 use Rattle.std.proofs.lemmas.List.{drop_more, drop_all, get_or-map, length-map}
-use Rattle.auction_model.specs.Book.{BookBid, Bidder}
-use Rattle.auction_model.specs.PackageTests.{is_same, is_before, InOrder}
-use Rattle.auction_rules.specs.Caps.{clock_bid, greatest}
-use Rattle.auction_rules.specs.Lines.{placed}
-use Rattle.auction_model.specs.Entries.{with_entry}
-use Rattle.auction_rules.specs.Rounds.{listing}
-use Rattle.auction_rules.specs.State.{Round, own_of}
-use Rattle.auction_rules.specs.Terms.{Terms, entrant}
-use Rattle.auction_rules.specs.BookOfLog.{bid_lots, best_bids, book_bidder}
-use Rattle.auction_model.proofs.PackageTestLaws.{is_same-true}
-use Rattle.auction_rules.proofs.Drafts.{InOrder-placed}
-use Rattle.auction_rules.proofs.LawfulBids.{with_entry-each}
-use Rattle.clock_stage.specs.Kept.{IsHeld, no_round}
+use Rattle.relative_cap.specs.auction_model.specs.Book.{BookBid, Bidder}
+use Rattle.relative_cap.specs.auction_model.specs.PackageTests.{is_same, is_before, InOrder}
+use Rattle.relative_cap.specs.auction_rules.specs.Caps.{clock_bid, greatest}
+use Rattle.relative_cap.specs.auction_rules.specs.Lines.{placed}
+use Rattle.relative_cap.specs.auction_model.specs.Entries.{with_entry}
+use Rattle.relative_cap.specs.auction_rules.specs.Rounds.{listing}
+use Rattle.relative_cap.specs.auction_rules.specs.State.{Round, own_of}
+use Rattle.relative_cap.specs.auction_rules.specs.Terms.{Terms, entrant}
+use Rattle.relative_cap.specs.auction_rules.specs.BookOfLog.{bid_lots, best_bids, book_bidder}
+use Rattle.relative_cap.specs.auction_model.proofs.PackageTestLaws.{is_same-true}
+use Rattle.relative_cap.specs.auction_rules.proofs.Drafts.{InOrder-placed}
+use Rattle.relative_cap.specs.auction_rules.proofs.LawfulBids.{with_entry-each}
+use Rattle.relative_cap.specs.clock_stage.specs.Kept.{IsHeld, no_round}
 use Rattle.relative_cap.specs.OwnRounds.{own_in, rounds_of}
 use Rattle.bid_desk.specs.Lists.{IsKept, IsKeptEntry, Lists}
 use Rattle.bid_desk.specs.BookBids.{IsBooked, bids_by, submitted_in, with_most}

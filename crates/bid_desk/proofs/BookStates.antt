@@ -3,23 +3,23 @@ use Rattle.std.proofs.Common.{◌≡◌, ℕ, suc, ◌-◌, ◌≤◌, ◌<◌, 
 use Rattle.std.specs.Prelude.{sum}
 use Rattle.std.specs.List.{All, AllByRecursion}
 use Rattle.std.proofs.lemmas.List.{get_or_default}
-use Rattle.auction_model.specs.Book.{BookBid, Book}
-use Rattle.book_form.specs.BookLines.{IsBookWithinLimits}
-use Rattle.auction_rules.specs.declared.Event.{Event}
-use Rattle.auction_rules.specs.declared.Stage.TheVariants.{Closed}
-use Rattle.auction_rules.specs.BookOfLog.{book_by, book_in, book_of_log}
-use Rattle.auction_rules.specs.Lawful.{HasCategories, IsDraft}
-use Rattle.auction_rules.specs.Lines.{closes, held_in}
-use Rattle.auction_model.specs.PackageTests.{is_empty}
-use Rattle.auction_rules.specs.Replies.{admitted, is_clock}
-use Rattle.auction_rules.specs.Rounds.{closed_after, own_round}
-use Rattle.auction_rules.specs.State.{DeskState, Round, round_of, state_of}
-use Rattle.auction_rules.specs.Terms.{Terms}
-use Rattle.auction_rules.proofs.KeptStandings.{rounds-some}
-use Rattle.auction_rules.proofs.LawfulBids.{each-weaker}
-use Rattle.auction_rules.proofs.States.{length-listing}
-use Rattle.award_file.specs.Award.{IsAward}
-use Rattle.clock_stage.specs.Kept.{bidders_in, categories_in}
+use Rattle.relative_cap.specs.auction_model.specs.Book.{BookBid, Book}
+use Rattle.relative_cap.specs.book_form.specs.BookLines.{IsBookWithinLimits}
+use Rattle.relative_cap.specs.auction_rules.specs.declared.Event.{Event}
+use Rattle.relative_cap.specs.auction_rules.specs.declared.Stage.TheVariants.{Closed}
+use Rattle.relative_cap.specs.auction_rules.specs.BookOfLog.{book_by, book_in, book_of_log}
+use Rattle.relative_cap.specs.auction_rules.specs.Lawful.{HasCategories, IsDraft}
+use Rattle.relative_cap.specs.auction_rules.specs.Lines.{closes, held_in}
+use Rattle.relative_cap.specs.auction_model.specs.PackageTests.{is_empty}
+use Rattle.relative_cap.specs.auction_rules.specs.Replies.{admitted, is_clock}
+use Rattle.relative_cap.specs.auction_rules.specs.Rounds.{closed_after, own_round}
+use Rattle.relative_cap.specs.auction_rules.specs.State.{DeskState, Round, round_of, state_of}
+use Rattle.relative_cap.specs.auction_rules.specs.Terms.{Terms}
+use Rattle.relative_cap.specs.auction_rules.proofs.KeptStandings.{rounds-some}
+use Rattle.relative_cap.specs.auction_rules.proofs.LawfulBids.{each-weaker}
+use Rattle.relative_cap.specs.auction_rules.proofs.States.{length-listing}
+use Rattle.relative_cap.specs.award_file.specs.Award.{IsAward}
+use Rattle.relative_cap.specs.clock_stage.specs.Kept.{bidders_in, categories_in}
 use Rattle.bid_desk.specs.BookBids.{AreBooked, IsBooked, bids_by}
 use Rattle.bid_desk.specs.Known.{IsKnown, submitted_of}
 use Rattle.bid_desk.specs.Reached.{IsReached}

@@ -1,8 +1,8 @@
 -- A list that is made another entry by entry.
 use Rattle.std.proofs.Common.{◌≡◌, ℕ, ◌+◌, ◌<◌, ◌≤◌, List, [], ◌∷◌, ◌++◌, length, map, take, get_or, set, sym, ap, ◌∙◌, arith}
 use Rattle.std.proofs.lemmas.List.{length-append, length-map, length-take, length-take-le, map-append, map-set, get_or-map, take_all, take_more, take_more_set, take-map}
-use Rattle.auction_model.specs.Book.{BookBid}
-use Rattle.lots.specs.declared.«package».Bid.{Bid}
+use Rattle.relative_cap.specs.auction_model.specs.Book.{BookBid}
+use Rattle.relative_cap.specs.lots.specs.declared.«package».Bid.{Bid}
 use Rattle.relative_cap.specs.OwnRounds.{bid_value}
 
 -- so many entries are those of the other list

@@ -3,23 +3,23 @@ use Rattle.std.proofs.Common.{◌≡◌, ℕ, zero, suc, ◌+◌, Bool, true, fa
 use Rattle.std.specs.Prelude.{replicate}
 use Rattle.std.specs.List.{AllByRecursion}
 use Rattle.std.proofs.lemmas.Bool.{cases_Bool}
-use Rattle.auction_model.specs.Book.{BookBid}
-use Rattle.auction_model.specs.Package.{is_within}
-use Rattle.auction_rules.specs.Rounds.{listing}
-use Rattle.auction_rules.specs.declared.Event.{Event}
-use Rattle.auction_rules.specs.declared.Event.TheVariants.{Bid, Close}
-use Rattle.auction_rules.specs.declared.Reply.{Reply}
-use Rattle.auction_rules.specs.declared.Stage.TheVariants as stage
-use Rattle.auction_rules.specs.Terms.{Terms}
-use Rattle.auction_rules.specs.Lawful.{HasCategories}
-use Rattle.auction_rules.specs.Replies.{is_ok_reply}
-use Rattle.auction_rules.specs.State.{Round, DeskState, state_of, asked, reply_in, state_with}
-use Rattle.auction_rules.proofs.Stands.{state_with-state_of}
-use Rattle.clock_stage.specs.ClockState.{ClockState, clock_with, clock_of, reply_to_bid, after_bid, reply_to_close, after_close}
-use Rattle.clock_stage.specs.declared.closes.Closed.{Closed}
-use Rattle.clock_stage.specs.declared.closes.Closed.TheVariants.{NextRound, StageEnds, Full, PriceTop, Memory}
-use Rattle.clock_stage.specs.Closings.{Tells}
-use Rattle.clock_stage.proofs.Demands.{listing-same_each}
+use Rattle.relative_cap.specs.auction_model.specs.Book.{BookBid}
+use Rattle.relative_cap.specs.auction_model.specs.Package.{is_within}
+use Rattle.relative_cap.specs.auction_rules.specs.Rounds.{listing}
+use Rattle.relative_cap.specs.auction_rules.specs.declared.Event.{Event}
+use Rattle.relative_cap.specs.auction_rules.specs.declared.Event.TheVariants.{Bid, Close}
+use Rattle.relative_cap.specs.auction_rules.specs.declared.Reply.{Reply}
+use Rattle.relative_cap.specs.auction_rules.specs.declared.Stage.TheVariants as stage
+use Rattle.relative_cap.specs.auction_rules.specs.Terms.{Terms}
+use Rattle.relative_cap.specs.auction_rules.specs.Lawful.{HasCategories}
+use Rattle.relative_cap.specs.auction_rules.specs.Replies.{is_ok_reply}
+use Rattle.relative_cap.specs.auction_rules.specs.State.{Round, DeskState, state_of, asked, reply_in, state_with}
+use Rattle.relative_cap.specs.auction_rules.proofs.Stands.{state_with-state_of}
+use Rattle.relative_cap.specs.clock_stage.specs.ClockState.{ClockState, clock_with, clock_of, reply_to_bid, after_bid, reply_to_close, after_close}
+use Rattle.relative_cap.specs.clock_stage.specs.declared.closes.Closed.{Closed}
+use Rattle.relative_cap.specs.clock_stage.specs.declared.closes.Closed.TheVariants.{NextRound, StageEnds, Full, PriceTop, Memory}
+use Rattle.relative_cap.specs.clock_stage.specs.Closings.{Tells}
+use Rattle.relative_cap.specs.clock_stage.proofs.Demands.{listing-same_each}
 use Rattle.bid_desk.specs.Lists.{Lists, lists_with}
 use Rattle.bid_desk.specs.Closes.{reply_value}
 use Rattle.bid_desk.specs.DeskValue.{desk_value, stage_value}

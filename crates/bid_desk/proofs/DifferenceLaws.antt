@@ -1,10 +1,10 @@
 -- Lists that are the same but for one amount.
 use Rattle.std.proofs.Common.{◌≡◌, ℕ, zero, suc, ◌<◌, List, [], ◌∷◌, length, map, get_or, set, refl, sym, ap, subst, ◌∙◌, arith}
 use Rattle.std.proofs.lemmas.List.{get_or-map, length-map, map-set}
-use Rattle.auction_model.specs.Book.{BookBid}
+use Rattle.relative_cap.specs.auction_model.specs.Book.{BookBid}
 use Rattle.bid_desk.specs.Differences.{IsSameButAt, SetsAmount}
 use Rattle.bid_desk.specs.Slots.{entry_of, IsTakenAt}
-use Rattle.lots.specs.declared.«package».Bid.{Bid}
+use Rattle.relative_cap.specs.lots.specs.declared.«package».Bid.{Bid}
 use Rattle.relative_cap.specs.OwnRounds.{bid_value}
 
 -- a list is the same as itself

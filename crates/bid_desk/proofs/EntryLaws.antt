@@ -3,19 +3,19 @@ use Rattle.std.proofs.Common.{◌≡◌, ℕ, zero, suc, ◌<◌, ◌≤◌, tru
 use Rattle.std.specs.List.{All, AllByRecursion, insert, remove}
 use Rattle.std.proofs.lemmas.Bool.{cases_Bool, false≢true}
 use Rattle.std.proofs.lemmas.List.{length-map, map-set}
-use Rattle.auction_model.specs.Book.{BookBid}
-use Rattle.auction_model.specs.Package.{cost_of}
-use Rattle.auction_rules.specs.BookOfLog.{bid_lots}
-use Rattle.auction_model.specs.Entries.{with_entry, without_entry}
-use Rattle.auction_model.specs.PackageTests.{is_same, is_before, AllAfter, InOrder}
-use Rattle.auction_rules.specs.Replies.{has_entry}
-use Rattle.auction_rules.proofs.Drafts.{AllAfter-trans}
-use Rattle.auction_model.proofs.PackageTestLaws.{is_same-true, is_same-refl, is_before-not_same, is_before-trans, is_before-total}
-use Rattle.auction_rules.proofs.KeptStandings.{absent-before}
-use Rattle.auction_model.proofs.PackageTestLaws.{not_same-sym}
-use Rattle.bid_book.proofs.PlaceLaws.{not-before}
-use Rattle.bid_book.proofs.SettleLaws.{map-insert, map-remove}
-use Rattle.lots.specs.declared.«package».Bid.{Bid}
+use Rattle.relative_cap.specs.auction_model.specs.Book.{BookBid}
+use Rattle.relative_cap.specs.auction_model.specs.Package.{cost_of}
+use Rattle.relative_cap.specs.auction_rules.specs.BookOfLog.{bid_lots}
+use Rattle.relative_cap.specs.auction_model.specs.Entries.{with_entry, without_entry}
+use Rattle.relative_cap.specs.auction_model.specs.PackageTests.{is_same, is_before, AllAfter, InOrder}
+use Rattle.relative_cap.specs.auction_rules.specs.Replies.{has_entry}
+use Rattle.relative_cap.specs.auction_rules.proofs.Drafts.{AllAfter-trans}
+use Rattle.relative_cap.specs.auction_model.proofs.PackageTestLaws.{is_same-true, is_same-refl, is_before-not_same, is_before-trans, is_before-total}
+use Rattle.relative_cap.specs.auction_rules.proofs.KeptStandings.{absent-before}
+use Rattle.relative_cap.specs.auction_model.proofs.PackageTestLaws.{not_same-sym}
+use Rattle.relative_cap.specs.bid_book.proofs.PlaceLaws.{not-before}
+use Rattle.relative_cap.specs.bid_book.proofs.SettleLaws.{map-insert, map-remove}
+use Rattle.relative_cap.specs.lots.specs.declared.«package».Bid.{Bid}
 use Rattle.relative_cap.specs.Asked.{IsEntry}
 use Rattle.relative_cap.specs.OwnRounds.{bid_value, entry_lots}
 use Rattle.relative_cap.specs.Place.{lots_at, IsPlace}

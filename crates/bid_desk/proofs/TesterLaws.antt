@@ -3,10 +3,10 @@ use Rattle.std.proofs.Common.{◌≡◌, ℕ, ◌+◌, ◌-◌, ◌<◌, ◌≤�
 use Rattle.std.specs.Prelude.{replicate}
 use Rattle.std.proofs.lemmas.Bool.{cases_order}
 use Rattle.std.proofs.lemmas.List.{length-set, length-replicate, get_or-set_same, get_or-set_other, get_or-replicate, get_or_default}
-use Rattle.auction_rules.specs.State.{DeskState, Round, drafts_of}
-use Rattle.auction_rules.specs.Terms.{Terms}
-use Rattle.auction_model.specs.Book.{BookBid}
-use Rattle.clock_stage.specs.ClockState.{ClockState}
+use Rattle.relative_cap.specs.auction_rules.specs.State.{DeskState, Round, drafts_of}
+use Rattle.relative_cap.specs.auction_rules.specs.Terms.{Terms}
+use Rattle.relative_cap.specs.auction_model.specs.Book.{BookBid}
+use Rattle.relative_cap.specs.clock_stage.specs.ClockState.{ClockState}
 use Rattle.relative_cap.specs.Tested.{Tester, IsTester}
 use Rattle.bid_desk.specs.DeskValue.{desk_value}
 use Rattle.bid_desk.specs.Lists.{Lists}

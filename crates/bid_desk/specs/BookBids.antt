@@ -1,14 +1,14 @@
 -- The bids of a bidder in the book, one bid after the other, and what the book is made of.
 use Rattle.std.specs.Prelude.{◌≡◌, ℕ, ◌-◌, ◌≤◌, max, false, List, [], ◌++◌, length, map, slice_index_or, if◌then◌else◌}
 use Rattle.std.specs.List.{All, AllByRecursion}
-use Rattle.auction_model.specs.Book.{BookBid}
-use Rattle.auction_rules.specs.BookOfLog.{best_bids}
-use Rattle.auction_rules.specs.Caps.{clock_bid, greatest}
-use Rattle.auction_model.specs.Entries.{with_entry}
-use Rattle.auction_model.specs.PackageTests.{is_empty}
-use Rattle.auction_rules.specs.State.{Round}
-use Rattle.auction_rules.specs.Terms.{Terms}
-use Rattle.clock_stage.specs.Kept.{bidders_in, categories_in}
+use Rattle.relative_cap.specs.auction_model.specs.Book.{BookBid}
+use Rattle.relative_cap.specs.auction_rules.specs.BookOfLog.{best_bids}
+use Rattle.relative_cap.specs.auction_rules.specs.Caps.{clock_bid, greatest}
+use Rattle.relative_cap.specs.auction_model.specs.Entries.{with_entry}
+use Rattle.relative_cap.specs.auction_model.specs.PackageTests.{is_empty}
+use Rattle.relative_cap.specs.auction_rules.specs.State.{Round}
+use Rattle.relative_cap.specs.auction_rules.specs.Terms.{Terms}
+use Rattle.relative_cap.specs.clock_stage.specs.Kept.{bidders_in, categories_in}
 use Rattle.relative_cap.specs.OwnRounds.{rounds_of}
 use Rattle.bid_desk.specs.Lists.{IsKept, Lists}
 

@@ -1,11 +1,11 @@
 -- The state that the fields of a desk hold.
 use Rattle.std.specs.Prelude.{ℕ, suc, Bool, List, length, map, if◌then◌else◌}
-use Rattle.auction_rules.specs.declared.Stage.{Stage}
-use Rattle.auction_rules.specs.declared.Stage.TheVariants.{Clock, Sealed, Closed}
-use Rattle.auction_rules.specs.Terms.{Terms}
-use Rattle.auction_rules.specs.Replies.{is_clock}
-use Rattle.auction_rules.specs.State.{DeskState}
-use Rattle.clock_stage.specs.ClockState.{ClockState}
+use Rattle.relative_cap.specs.auction_rules.specs.declared.Stage.{Stage}
+use Rattle.relative_cap.specs.auction_rules.specs.declared.Stage.TheVariants.{Clock, Sealed, Closed}
+use Rattle.relative_cap.specs.auction_rules.specs.Terms.{Terms}
+use Rattle.relative_cap.specs.auction_rules.specs.Replies.{is_clock}
+use Rattle.relative_cap.specs.auction_rules.specs.State.{DeskState}
+use Rattle.relative_cap.specs.clock_stage.specs.ClockState.{ClockState}
 use Rattle.bid_desk.specs.Lists.{Lists}
 
 -- rounds are posted while the clock runs, and then lists are drafted until the sealed round is closed

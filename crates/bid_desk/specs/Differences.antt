@@ -1,6 +1,6 @@
 -- How the draft list of a bidder differs from its submitted list.
 use Rattle.std.specs.Prelude.{◌≡◌, ℕ, zero, suc, ◌<◌, List, [], ◌∷◌, length, slice_index_or, slice_set}
-use Rattle.auction_model.specs.Book.{BookBid}
+use Rattle.relative_cap.specs.auction_model.specs.Book.{BookBid}
 use Rattle.bid_desk.specs.Slots.{entry_of}
 use Rattle.bid_desk.specs.declared.difference.Difference.{Difference}
 use Rattle.bid_desk.specs.declared.difference.Difference.TheVariants.{Nothing, AmountAt, Anything}

@@ -7,3 +7,4 @@ pub mod Differences
 pub mod BookBids
 pub mod Known
 pub mod Testers
+pub use Rattle.relative_cap.specs.clock_stage

@@ -1,10 +1,10 @@
 -- The lists of one bidder.
 use Rattle.std.specs.Prelude.{◌≡◌, ℕ, ◌≤◌, List, length, map, sum}
 use Rattle.std.specs.List.{AllByRecursion}
-use Rattle.limits.specs.declared.TheConstants.{MOST_AMOUNT, MOST_LOTS}
-use Rattle.auction_model.specs.Book.{BookBid}
-use Rattle.auction_rules.specs.BookOfLog.{bid_lots}
-use Rattle.auction_model.specs.PackageTests.{InOrder}
+use Rattle.relative_cap.specs.limits.specs.declared.TheConstants.{MOST_AMOUNT, MOST_LOTS}
+use Rattle.relative_cap.specs.auction_model.specs.Book.{BookBid}
+use Rattle.relative_cap.specs.auction_rules.specs.BookOfLog.{bid_lots}
+use Rattle.relative_cap.specs.auction_model.specs.PackageTests.{InOrder}
 
 -- the draft list and the submitted list
 pub record Lists : Type 0 where

@@ -1,13 +1,13 @@
 -- What each desk keeps, and what a line makes of it.
 use Rattle.std.specs.Prelude.{◌≡◌, ◌≢◌, ◌⊎◌, ◌∷◌, List}
 use Rattle.std.specs.List.{AllByRecursion}
-use Rattle.auction_rules.specs.declared.Event.{Event}
-use Rattle.auction_rules.specs.declared.Event.TheVariants.{Bid, Draft, Drop, Submit, Close}
-use Rattle.auction_rules.specs.declared.Reply.{Reply}
-use Rattle.auction_rules.specs.declared.Reply.TheVariants as reply
-use Rattle.auction_rules.specs.Lawful.{HasCategories}
-use Rattle.auction_rules.specs.Replies.{reply_to}
-use Rattle.auction_rules.specs.State.{DeskState, state_of, reply_in, state_with}
+use Rattle.relative_cap.specs.auction_rules.specs.declared.Event.{Event}
+use Rattle.relative_cap.specs.auction_rules.specs.declared.Event.TheVariants.{Bid, Draft, Drop, Submit, Close}
+use Rattle.relative_cap.specs.auction_rules.specs.declared.Reply.{Reply}
+use Rattle.relative_cap.specs.auction_rules.specs.declared.Reply.TheVariants as reply
+use Rattle.relative_cap.specs.auction_rules.specs.Lawful.{HasCategories}
+use Rattle.relative_cap.specs.auction_rules.specs.Replies.{reply_to}
+use Rattle.relative_cap.specs.auction_rules.specs.State.{DeskState, state_of, reply_in, state_with}
 
 -- the desk stands for a log whose packages have the award's number of categories
 pub record IsReached (desk : DeskState) : Type 0 where

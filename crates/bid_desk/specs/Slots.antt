@@ -1,9 +1,9 @@
 -- What a slot in a list is good for.
 use Rattle.std.specs.Prelude.{◌≡◌, ℕ, ◌<◌, ◌≤◌, true, false, List, length, slice_index_or, slice_set}
 use Rattle.std.specs.List.{insert, remove}
-use Rattle.auction_model.specs.Book.{BookBid}
-use Rattle.auction_model.specs.Entries.{with_entry, without_entry}
-use Rattle.auction_rules.specs.Replies.{has_entry}
+use Rattle.relative_cap.specs.auction_model.specs.Book.{BookBid}
+use Rattle.relative_cap.specs.auction_model.specs.Entries.{with_entry, without_entry}
+use Rattle.relative_cap.specs.auction_rules.specs.Replies.{has_entry}
 use Rattle.bid_desk.specs.declared.slots.Slot.{Slot}
 use Rattle.bid_desk.specs.declared.slots.Slot.TheVariants.{Taken, Free}
 

@@ -1,11 +1,11 @@
 // The book.
 ghost use Rattle.std.specs.Prelude.{◌≡◌, ◌≤◌, ◌++◌, IfOk, OnOk, length, map};
-ghost use Rattle.book_form.specs.BookLines.{IsBookWithinLimits};
-ghost use Rattle.auction_rules.specs.BookOfLog.{best_bids, book_bidder, book_by};
-ghost use Rattle.auction_rules.specs.Caps.{clock_bid};
-ghost use Rattle.auction_rules.specs.Rounds.{listing};
-ghost use Rattle.auction_rules.specs.Terms.{entrant};
-ghost use Rattle.clock_stage.specs.Kept.{categories_in};
+ghost use Rattle.relative_cap.specs.book_form.specs.BookLines.{IsBookWithinLimits};
+ghost use Rattle.relative_cap.specs.auction_rules.specs.BookOfLog.{best_bids, book_bidder, book_by};
+ghost use Rattle.relative_cap.specs.auction_rules.specs.Caps.{clock_bid};
+ghost use Rattle.relative_cap.specs.auction_rules.specs.Rounds.{listing};
+ghost use Rattle.relative_cap.specs.auction_rules.specs.Terms.{entrant};
+ghost use Rattle.relative_cap.specs.clock_stage.specs.Kept.{categories_in};
 ghost use Rattle.relative_cap.specs.Asked.{IsBidderOf};
 ghost use Rattle.relative_cap.specs.OwnRounds.{bid_value, own_in, rounds_of};
 ghost use Rattle.bid_desk.specs.BookBids.{AreBooked, IsBooked, bids_by, submitted_in, with_greater, with_most};
@@ -13,11 +13,11 @@ ghost use Rattle.bid_desk.specs.Lists.{IsKept};
 
 use crate::lists::BidderLists;
 use crate::slots::{copied_entries, put_entry};
-use award_file::Award;
-use bid_book::{BidBook, BidList, BidderBids, Bidders, Name, Reserves};
-use clock_stage::History;
-use lots::{Bid, Package, Supply};
 use relative_cap::amount_listed;
+use relative_cap::award_file::Award;
+use relative_cap::bid_book::{BidBook, BidList, BidderBids, Bidders, Name, Reserves};
+use relative_cap::clock_stage::History;
+use relative_cap::lots::{Bid, Package, Supply};
 use std::alloc::{AllocError, Global};
 
 /// Sets the amount for the package in a list, or leaves the list's own where that is greater.

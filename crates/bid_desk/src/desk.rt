@@ -1,20 +1,20 @@
 // The desk.
 ghost use Rattle.std.specs.Prelude.{◌≡◌, ◌≢◌, ◌⊎◌, ◌∷◌, ◌&&◌, [], Err, IfOk, IsTrue, List, None, ℕ, length, map, nat_le, nat_lt, not, option_map, replicate, true, false};
-ghost use Rattle.limits.specs.declared.TheConstants.{MOST_DRAFTS};
-ghost use Rattle.auction_model.specs.Package.{cost_of};
-ghost use Rattle.auction_rules.specs.declared.Event.{Event};
-ghost use Rattle.auction_rules.specs.declared.Reply.{Reply};
-ghost use Rattle.auction_rules.specs.declared.Stage.{Stage};
-ghost use Rattle.auction_rules.specs.BookOfLog.{book_in, book_of_log};
-ghost use Rattle.auction_rules.specs.Caps.{clock_bid, greatest};
-ghost use Rattle.auction_rules.specs.Lawful.{HasCategories};
-ghost use Rattle.auction_model.specs.PackageTests.{is_empty};
-ghost use Rattle.auction_rules.specs.Replies.{has_entry, is_of, is_sealed, reply_to};
-ghost use Rattle.auction_rules.specs.State.{drafts_of, reply_in, state_of, state_with};
-ghost use Rattle.auction_rules.specs.View.{view};
-ghost use Rattle.award_file.specs.Award.{IsAward};
-ghost use Rattle.clock_stage.specs.ClockState.{clock_of};
-ghost use Rattle.clock_stage.specs.Kept.{IsFor, IsHeld};
+ghost use Rattle.relative_cap.specs.limits.specs.declared.TheConstants.{MOST_DRAFTS};
+ghost use Rattle.relative_cap.specs.auction_model.specs.Package.{cost_of};
+ghost use Rattle.relative_cap.specs.auction_rules.specs.declared.Event.{Event};
+ghost use Rattle.relative_cap.specs.auction_rules.specs.declared.Reply.{Reply};
+ghost use Rattle.relative_cap.specs.auction_rules.specs.declared.Stage.{Stage};
+ghost use Rattle.relative_cap.specs.auction_rules.specs.BookOfLog.{book_in, book_of_log};
+ghost use Rattle.relative_cap.specs.auction_rules.specs.Caps.{clock_bid, greatest};
+ghost use Rattle.relative_cap.specs.auction_rules.specs.Lawful.{HasCategories};
+ghost use Rattle.relative_cap.specs.auction_model.specs.PackageTests.{is_empty};
+ghost use Rattle.relative_cap.specs.auction_rules.specs.Replies.{has_entry, is_of, is_sealed, reply_to};
+ghost use Rattle.relative_cap.specs.auction_rules.specs.State.{drafts_of, reply_in, state_of, state_with};
+ghost use Rattle.relative_cap.specs.auction_rules.specs.View.{view};
+ghost use Rattle.relative_cap.specs.award_file.specs.Award.{IsAward};
+ghost use Rattle.relative_cap.specs.clock_stage.specs.ClockState.{clock_of};
+ghost use Rattle.relative_cap.specs.clock_stage.specs.Kept.{IsFor, IsHeld};
 ghost use Rattle.relative_cap.specs.Answer.{excess_value};
 ghost use Rattle.relative_cap.specs.OwnRounds.{bid_value, rounds_of};
 ghost use Rattle.bid_desk.specs.Closes.{reply_value};
@@ -26,12 +26,12 @@ ghost use Rattle.bid_desk.specs.Reached.{IsBidOrDrop, IsTaken, IsTakenOrMemory, 
 use crate::book::book_of;
 use crate::lists::{BidderLists, empty_lists};
 use crate::testers::{no_testers, test_list};
-use auction_rules::{Event, Reply, Stage, desk_book};
-use award_file::{Award, book_of_award};
-use bid_book::BidBook;
-use clock_stage::{Clock, Closed, reply_to_package};
-use limits::{MOST_AMOUNT, MOST_DRAFTS};
-use lots::Package;
+use relative_cap::auction_rules::{Event, Reply, Stage, desk_book};
+use relative_cap::award_file::{Award, book_of_award};
+use relative_cap::bid_book::BidBook;
+use relative_cap::clock_stage::{Clock, Closed, reply_to_package};
+use relative_cap::limits::{MOST_AMOUNT, MOST_DRAFTS};
+use relative_cap::lots::Package;
 use relative_cap::{ListTester, OverCap, highest};
 use std::alloc::{AllocError, Global};
 use std::marker::Model;
@@ -82,10 +82,10 @@ pub struct Desk {
 }
 
 impl Model for Desk {
-    ghost use Rattle.auction_rules.specs.State.{DeskState};
-    ghost use Rattle.clock_stage.specs.Kept.{IsFor};
+    ghost use Rattle.relative_cap.specs.auction_rules.specs.State.{DeskState};
+    ghost use Rattle.relative_cap.specs.clock_stage.specs.Kept.{IsFor};
     ghost use Rattle.bid_desk.specs.DeskValue.{desk_value};
-    ghost use Rattle.auction_rules.specs.declared.Stage.{Stage};
+    ghost use Rattle.relative_cap.specs.auction_rules.specs.declared.Stage.{Stage};
     ghost use Rattle.bid_desk.specs.Closes.{reply_value};
     ghost use Rattle.bid_desk.specs.Reached.{IsReached};
     ghost use Rattle.bid_desk.specs.Testers.{AreTesters};

@@ -8,5 +8,5 @@ mod lists;
 mod slots;
 mod testers;
 
-pub use auction_rules::{Event, Reply, Stage};
 pub use desk::{Desk, DeskStop};
+pub use relative_cap::auction_rules::{Event, Reply, Stage};

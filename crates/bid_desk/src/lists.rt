@@ -1,15 +1,15 @@
 // The lists of one bidder.
 ghost use Rattle.std.specs.Prelude.{◌≡◌, [], ℕ, List, IfOk, Some, OnErr, OnOk, length, map, replicate, true};
-ghost use Rattle.auction_model.specs.Entries.{with_entry, without_entry};
-ghost use Rattle.auction_rules.specs.Replies.{has_entry};
+ghost use Rattle.relative_cap.specs.auction_model.specs.Entries.{with_entry, without_entry};
+ghost use Rattle.relative_cap.specs.auction_rules.specs.Replies.{has_entry};
 ghost use Rattle.relative_cap.specs.OwnRounds.{bid_value};
-ghost use Rattle.auction_model.specs.Book.{BookBid};
+ghost use Rattle.relative_cap.specs.auction_model.specs.Book.{BookBid};
 ghost use Rattle.bid_desk.specs.Differences.{Differs, IsSameButAt, SetsAmount};
 ghost use Rattle.bid_desk.specs.Lists.{IsKept, lists_with};
 
 use crate::difference::Difference;
 use crate::slots::{Slot, copy_entries, has_entry, put_entry, slot_of};
-use lots::{Bid, Package};
+use relative_cap::lots::{Bid, Package};
 use std::alloc::{AllocError, Global};
 use std::marker::Model;
 use std::mem;

@@ -1,13 +1,13 @@
 // The places of entries in a list.
 ghost use Rattle.std.specs.Prelude.{◌≡◌, ◌+◌, ◌∷◌, ◌++◌, ◌≤◌, [], ℕ, IfOk, Some, OnErr, OnOk, length, map, take};
-ghost use Rattle.auction_model.specs.Entries.{with_entry};
-ghost use Rattle.auction_rules.specs.Replies.{has_entry};
+ghost use Rattle.relative_cap.specs.auction_model.specs.Entries.{with_entry};
+ghost use Rattle.relative_cap.specs.auction_rules.specs.Replies.{has_entry};
 ghost use Rattle.relative_cap.specs.OwnRounds.{bid_value};
 ghost use Rattle.bid_desk.specs.Lists.{IsKept};
 ghost use Rattle.bid_desk.specs.Differences.{SetsAmount};
 ghost use Rattle.bid_desk.specs.Slots.{IsSlot};
 
-use lots::{Bid, Package};
+use relative_cap::lots::{Bid, Package};
 use relative_cap::{is_same, place_of};
 use std::alloc::{AllocError, Global};
 

@@ -4,15 +4,15 @@ use Rattle.std.specs.Prelude.{nat_le, ◌==◌}
 use Rattle.std.specs.List.{AllByRecursion}
 use Rattle.std.proofs.lemmas.Bool.{cases_Bool, le-leb, eqb-true, and_parts}
 use Rattle.std.proofs.lemmas.List.{map-append}
-use Rattle.auction_model.specs.Book.{BookBid}
-use Rattle.auction_model.specs.Package.{is_within, cost_of}
-use Rattle.auction_model.specs.PackageTests.{is_empty, is_same, is_before}
-use Rattle.auction_rules.specs.Step.{last_or}
-use Rattle.auction_rules.specs.Rounds.{OwnRound}
-use Rattle.auction_rules.specs.Caps.{no_round, last_round, enough, constraining, clock_bid, greatest, highest, cap_by, cap_of, excess_cap, first_excess, list_fault}
-use Rattle.auction_model.specs.Entries.{with_entry}
-use Rattle.auction_model.proofs.PackageTestLaws.{is_same-refl}
-use Rattle.auction_rules.proofs.BookCaps.{cost_of-empty}
+use Rattle.row_laws.specs.auction_model.specs.Book.{BookBid}
+use Rattle.row_laws.specs.auction_model.specs.Package.{is_within, cost_of}
+use Rattle.row_laws.specs.auction_model.specs.PackageTests.{is_empty, is_same, is_before}
+use Rattle.clock_stage.specs.auction_rules.specs.Step.{last_or}
+use Rattle.clock_stage.specs.auction_rules.specs.Rounds.{OwnRound}
+use Rattle.clock_stage.specs.auction_rules.specs.Caps.{no_round, last_round, enough, constraining, clock_bid, greatest, highest, cap_by, cap_of, excess_cap, first_excess, list_fault}
+use Rattle.row_laws.specs.auction_model.specs.Entries.{with_entry}
+use Rattle.row_laws.specs.auction_model.proofs.PackageTestLaws.{is_same-refl}
+use Rattle.clock_stage.specs.auction_rules.proofs.BookCaps.{cost_of-empty}
 use Rattle.big_auction.specs.MadeAward.{made_terms}
 
 -- the last of a list with one more behind it is that one

@@ -2,17 +2,17 @@
 use Rattle.std.proofs.Common.{◌≡◌, ℕ, suc, ◌-◌, ◌<◌, ◌≤◌, Bool, true, false, not, ◌&&◌, List, [], ◌∷◌, ◌++◌, None, length, replicate, refl, sym, ◌∙◌, subst, arith}
 use Rattle.std.specs.Prelude.{nat_le, nat_lt}
 use Rattle.std.proofs.lemmas.Bool.{le-ltb, lt-leb, cond-true, cond-false}
-use Rattle.auction_model.specs.Book.{BookBid}
-use Rattle.auction_model.specs.Package.{is_within, cost_of}
-use Rattle.auction_rules.specs.declared.Event.TheVariants.{Bid, Close}
-use Rattle.auction_rules.specs.declared.Reply.TheVariants as reply
-use Rattle.auction_rules.specs.declared.Stage.TheVariants.{Clock, Sealed}
-use Rattle.auction_model.specs.PackageTests.{first_over}
-use Rattle.auction_rules.specs.Terms.{no_lots}
-use Rattle.auction_rules.specs.Rounds.{listing, demand, prices_after, eligibility_after}
-use Rattle.auction_rules.specs.Replies.{bid_reply, closing_reply, price_top}
-use Rattle.auction_rules.specs.State.{Round, DeskState, round_of, asked, round_now, next_round, clock_stopped}
-use Rattle.auction_rules.proofs.States.{length-listing}
+use Rattle.row_laws.specs.auction_model.specs.Book.{BookBid}
+use Rattle.row_laws.specs.auction_model.specs.Package.{is_within, cost_of}
+use Rattle.clock_stage.specs.auction_rules.specs.declared.Event.TheVariants.{Bid, Close}
+use Rattle.clock_stage.specs.auction_rules.specs.declared.Reply.TheVariants as reply
+use Rattle.clock_stage.specs.auction_rules.specs.declared.Stage.TheVariants.{Clock, Sealed}
+use Rattle.row_laws.specs.auction_model.specs.PackageTests.{first_over}
+use Rattle.clock_stage.specs.auction_rules.specs.Terms.{no_lots}
+use Rattle.clock_stage.specs.auction_rules.specs.Rounds.{listing, demand, prices_after, eligibility_after}
+use Rattle.clock_stage.specs.auction_rules.specs.Replies.{bid_reply, closing_reply, price_top}
+use Rattle.clock_stage.specs.auction_rules.specs.State.{Round, DeskState, round_of, asked, round_now, next_round, clock_stopped}
+use Rattle.clock_stage.specs.auction_rules.proofs.States.{length-listing}
 use Rattle.big_auction.specs.MadeAward.{made_terms}
 use Rattle.big_auction.proofs.Forward.{Goes, goes-on, goes-one}
 use Rattle.big_auction.proofs.PriceBounds.{prices-small, no_price_top}

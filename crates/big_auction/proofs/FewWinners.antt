@@ -4,18 +4,18 @@ use Rattle.std.specs.Prelude.{IsTrue, nat_le, slice_index, filter}
 use Rattle.std.specs.List.{AllByRecursion}
 use Rattle.std.proofs.lemmas.Bool.{cases_Bool, cases_lt, and_parts, leb-true, false≢true}
 use Rattle.std.proofs.lemmas.List.{get_or_past}
-use Rattle.auction_model.specs.Book.{BookBid, Bidder, Book, menu_of, market_of, no_bid, no_bidder}
-use Rattle.auction_model.specs.Menu.{Menu, is_known_after, packages_after}
-use Rattle.auction_model.specs.Package.{is_within}
-use Rattle.auction_model.specs.PackageTests.{is_empty}
-use Rattle.auction_rules.specs.Rounds.{OwnRound, listing}
-use Rattle.auction_rules.specs.Caps.{clock_bid, greatest}
-use Rattle.auction_rules.specs.Lines.{in_order}
-use Rattle.auction_rules.specs.BookOfLog.{bid_lots, best_bids, pairs_of, book_bids, book_bidder, book_of_log, book_in}
-use Rattle.auction_rules.specs.State.{Round, DeskState, round_of, own_of, standing_in}
-use Rattle.auction_rules.proofs.LawfulBids.{each-in_order, each-priced}
-use Rattle.auction_rules.proofs.BookLaws.{book_in-state_of}
-use Rattle.auction_rules.proofs.States.{get_or-listing, length-listing}
+use Rattle.row_laws.specs.auction_model.specs.Book.{BookBid, Bidder, Book, menu_of, market_of, no_bid, no_bidder}
+use Rattle.row_laws.specs.auction_model.specs.Menu.{Menu, is_known_after, packages_after}
+use Rattle.row_laws.specs.auction_model.specs.Package.{is_within}
+use Rattle.row_laws.specs.auction_model.specs.PackageTests.{is_empty}
+use Rattle.clock_stage.specs.auction_rules.specs.Rounds.{OwnRound, listing}
+use Rattle.clock_stage.specs.auction_rules.specs.Caps.{clock_bid, greatest}
+use Rattle.clock_stage.specs.auction_rules.specs.Lines.{in_order}
+use Rattle.clock_stage.specs.auction_rules.specs.BookOfLog.{bid_lots, best_bids, pairs_of, book_bids, book_bidder, book_of_log, book_in}
+use Rattle.clock_stage.specs.auction_rules.specs.State.{Round, DeskState, round_of, own_of, standing_in}
+use Rattle.clock_stage.specs.auction_rules.proofs.LawfulBids.{each-in_order, each-priced}
+use Rattle.clock_stage.specs.auction_rules.proofs.BookLaws.{book_in-state_of}
+use Rattle.clock_stage.specs.auction_rules.proofs.States.{get_or-listing, length-listing}
 use Rattle.row_laws.specs.Winners.{winners_in}
 use Rattle.big_auction.specs.MadeAward.{made_terms}
 use Rattle.big_auction.specs.MadeLog.{package_of, reduced, held_by, made_log}

@@ -2,13 +2,13 @@
 use Rattle.std.proofs.Common.{◌≡◌, ℕ, zero, suc, ◌<◌, arith, List, [], ◌∷◌, ◌++◌, refl, sym, ◌∙◌, ap, subst, reverse}
 use Rattle.std.proofs.lemmas.Bool.{cond-true}
 use Rattle.std.proofs.lemmas.List.{append-nil, append_assoc, reverse-append}
-use Rattle.auction_rules.specs.declared.Event.{Event}
-use Rattle.auction_rules.specs.declared.Reply.TheVariants.{Ok}
-use Rattle.auction_rules.specs.Terms.{Terms}
-use Rattle.auction_rules.specs.Replies.{is_ok_reply, reply_to}
-use Rattle.auction_rules.specs.Rounds.{listing}
-use Rattle.auction_rules.specs.State.{DeskState, state_of, reply_in, taken, state_with}
-use Rattle.auction_rules.proofs.Stands.{state_with-state_of, reply_in-state_of}
+use Rattle.clock_stage.specs.auction_rules.specs.declared.Event.{Event}
+use Rattle.clock_stage.specs.auction_rules.specs.declared.Reply.TheVariants.{Ok}
+use Rattle.clock_stage.specs.auction_rules.specs.Terms.{Terms}
+use Rattle.clock_stage.specs.auction_rules.specs.Replies.{is_ok_reply, reply_to}
+use Rattle.clock_stage.specs.auction_rules.specs.Rounds.{listing}
+use Rattle.clock_stage.specs.auction_rules.specs.State.{DeskState, state_of, reply_in, taken, state_with}
+use Rattle.clock_stage.specs.auction_rules.proofs.Stands.{state_with-state_of, reply_in-state_of}
 use Rattle.big_auction.specs.Answered.{AreAnsweredOk}
 
 -- the state behind the lines

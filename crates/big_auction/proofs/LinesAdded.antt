@@ -2,8 +2,8 @@
 use Rattle.std.proofs.Common.{◌≡◌, ℕ, suc, ◌+◌, ◌-◌, ◌*◌, ◌<◌, List, [], ◌∷◌, ◌++◌, length, map, get_or, refl, sym, ◌∙◌, ap, arith}
 use Rattle.std.proofs.lemmas.List.{append-nil, append_assoc}
 use Rattle.std.proofs.lemmas.List.Concat.{flat_map-append}
-use Rattle.auction_rules.specs.declared.Event.{Event}
-use Rattle.auction_rules.specs.declared.Event.TheVariants.{Bid, Draft}
+use Rattle.clock_stage.specs.auction_rules.specs.declared.Event.{Event}
+use Rattle.clock_stage.specs.auction_rules.specs.declared.Event.TheVariants.{Bid, Draft}
 use Rattle.big_auction.specs.declared.values.Lots.{Lots}
 use Rattle.big_auction.specs.Draws.{behind, drawn, drawn_package}
 use Rattle.big_auction.specs.LogText.{event_text, log_text}

@@ -5,14 +5,14 @@ use Rattle.std.specs.List.{AllByRecursion}
 use Rattle.std.proofs.lemmas.Bool.{cases_lt, leb-true, le-leb, lt-leb, lt-ltb, and_from, cond-true, cond-false}
 use Rattle.std.proofs.lemmas.List.{append-nil, map-append}
 use Rattle.std.proofs.lemmas.List.Concat.{flat_map-append}
-use Rattle.auction_model.specs.Package.{is_within, cost_of, together}
-use Rattle.auction_rules.specs.declared.Event.{Event}
-use Rattle.auction_rules.specs.declared.Event.TheVariants.{Close}
-use Rattle.auction_rules.specs.Terms.{entrant, no_lots}
-use Rattle.auction_rules.specs.Rounds.{OwnRound, listing, sum_of, demand, prices_after, eligibility_after}
-use Rattle.auction_rules.specs.State.{DeskState, round_of, own_of, state_of}
-use Rattle.auction_model.proofs.PackageTestLaws.{within-first_over}
-use Rattle.auction_rules.proofs.States.{get_or-listing}
+use Rattle.row_laws.specs.auction_model.specs.Package.{is_within, cost_of, together}
+use Rattle.clock_stage.specs.auction_rules.specs.declared.Event.{Event}
+use Rattle.clock_stage.specs.auction_rules.specs.declared.Event.TheVariants.{Close}
+use Rattle.clock_stage.specs.auction_rules.specs.Terms.{entrant, no_lots}
+use Rattle.clock_stage.specs.auction_rules.specs.Rounds.{OwnRound, listing, sum_of, demand, prices_after, eligibility_after}
+use Rattle.clock_stage.specs.auction_rules.specs.State.{DeskState, round_of, own_of, state_of}
+use Rattle.row_laws.specs.auction_model.proofs.PackageTestLaws.{within-first_over}
+use Rattle.clock_stage.specs.auction_rules.proofs.States.{get_or-listing}
 use Rattle.big_auction.specs.MadeAward.{made_entrant, made_terms}
 use Rattle.big_auction.specs.MadeLog.{package_of, reduced, final_package_of, held_by, final_prices, round_lines, bids_of, clock_lines}
 use Rattle.big_auction.proofs.ClockRounds.{MayBid, no_lists, posted, rounds_to, round-goes, last_round-goes, sealed_state}

@@ -5,12 +5,12 @@ use Rattle.std.specs.List.{AllByRecursion}
 use Rattle.std.proofs.lemmas.Bool.{cases_Bool, cases_lt, le-leb, lt-leb}
 use Rattle.std.proofs.lemmas.List.{append-nil, map-append}
 use Rattle.std.proofs.lemmas.List.Concat.{flat_map-append}
-use Rattle.auction_rules.specs.declared.Event.{Event}
-use Rattle.auction_rules.specs.declared.Event.TheVariants.{Bid, Submit, Close}
-use Rattle.auction_rules.specs.Rounds.{listing, sum_of, demand, prices_after, raised_prices}
-use Rattle.auction_rules.specs.Terms.{no_lots}
-use Rattle.auction_rules.proofs.Closing.{sum_of-within}
-use Rattle.auction_rules.proofs.States.{get_or-listing, length-listing}
+use Rattle.clock_stage.specs.auction_rules.specs.declared.Event.{Event}
+use Rattle.clock_stage.specs.auction_rules.specs.declared.Event.TheVariants.{Bid, Submit, Close}
+use Rattle.clock_stage.specs.auction_rules.specs.Rounds.{listing, sum_of, demand, prices_after, raised_prices}
+use Rattle.clock_stage.specs.auction_rules.specs.Terms.{no_lots}
+use Rattle.clock_stage.specs.auction_rules.proofs.Closing.{sum_of-within}
+use Rattle.clock_stage.specs.auction_rules.proofs.States.{get_or-listing, length-listing}
 use Rattle.big_auction.specs.declared.values.Lots.{Lots}
 use Rattle.big_auction.specs.Draws.{behind, drawn_package, first_state}
 use Rattle.big_auction.specs.LogText.{event_text, log_text}

@@ -4,13 +4,13 @@ use Rattle.std.specs.Prelude.{◌⊎◌, nat_le, slice_index, sum}
 use Rattle.std.specs.List.{AllByRecursion}
 use Rattle.std.proofs.lemmas.Bool.{cases_Bool, le-leb, ne_eqb, or_parts, false≢true}
 use Rattle.std.proofs.Math.Nat.{mul-le-mul_left}
-use Rattle.auction_model.specs.Package.{is_within, cost_of}
-use Rattle.auction_rules.specs.declared.Event.TheVariants.{Draft, Submit}
-use Rattle.auction_model.specs.PackageTests.{is_empty, is_same}
-use Rattle.auction_rules.specs.Rounds.{OwnRound}
-use Rattle.auction_rules.specs.Caps.{clock_bid}
-use Rattle.auction_rules.specs.State.{Round, DeskState, own_of}
-use Rattle.auction_model.proofs.PackageTestLaws.{within-first_over, is_same-true, is_same-refl}
+use Rattle.row_laws.specs.auction_model.specs.Package.{is_within, cost_of}
+use Rattle.clock_stage.specs.auction_rules.specs.declared.Event.TheVariants.{Draft, Submit}
+use Rattle.row_laws.specs.auction_model.specs.PackageTests.{is_empty, is_same}
+use Rattle.clock_stage.specs.auction_rules.specs.Rounds.{OwnRound}
+use Rattle.clock_stage.specs.auction_rules.specs.Caps.{clock_bid}
+use Rattle.clock_stage.specs.auction_rules.specs.State.{Round, DeskState, own_of}
+use Rattle.row_laws.specs.auction_model.proofs.PackageTestLaws.{within-first_over, is_same-true, is_same-refl}
 use Rattle.big_auction.specs.Draws.{behind, drawn, drawn_package}
 use Rattle.big_auction.specs.MadeAward.{made_terms}
 use Rattle.big_auction.specs.MadeLog.{reduced, staying, amount_of, drawn_draft, drawn_drafts, last_draft, lines_from}

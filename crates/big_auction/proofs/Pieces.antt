@@ -4,7 +4,7 @@ use Rattle.std.specs.Prelude.{codes, flat_map}
 use Rattle.std.specs.Fmt.{decimal}
 use Rattle.std.proofs.lemmas.List.{append-nil, append_assoc}
 use Rattle.std.proofs.lemmas.List.Concat.{flat_map-append}
-use Rattle.auction_rules.specs.Rounds.{listing}
+use Rattle.clock_stage.specs.auction_rules.specs.Rounds.{listing}
 use Rattle.big_auction.specs.AwardText.{entrant_text, name_line, number_line, table_line}
 use Rattle.big_auction.specs.MadeAward.{made_entrant, made_name}
 

@@ -4,18 +4,18 @@ use Rattle.std.specs.Prelude.{nat_le, nat_lt, slice_index}
 use Rattle.std.specs.List.{AllByRecursion}
 use Rattle.std.proofs.lemmas.Bool.{cases_eq, le-ltb, lt-leb, and_right}
 use Rattle.std.proofs.lemmas.List.{get_or-set_same, get_or-set_other, length-set}
-use Rattle.limits.specs.declared.TheConstants.{MOST_AMOUNT}
-use Rattle.auction_model.specs.Book.{BookBid}
-use Rattle.auction_model.specs.Package.{cost_of}
-use Rattle.auction_rules.specs.declared.Event.TheVariants.{Draft, Submit}
-use Rattle.auction_rules.specs.declared.Reply.TheVariants as reply
-use Rattle.auction_model.specs.PackageTests.{first_over, is_empty}
-use Rattle.auction_rules.specs.Terms.{entrant}
-use Rattle.auction_rules.specs.Rounds.{OwnRound}
-use Rattle.auction_rules.specs.Caps.{clock_bid, greatest, list_fault}
-use Rattle.auction_model.specs.Entries.{with_entry}
-use Rattle.auction_rules.specs.Replies.{first_reply, when, supply_reply, spectrum_reply, cap_reply, has_entry}
-use Rattle.auction_rules.specs.State.{Round, DeskState, own_of, reply_in, taken}
+use Rattle.clock_stage.specs.limits.specs.declared.TheConstants.{MOST_AMOUNT}
+use Rattle.row_laws.specs.auction_model.specs.Book.{BookBid}
+use Rattle.row_laws.specs.auction_model.specs.Package.{cost_of}
+use Rattle.clock_stage.specs.auction_rules.specs.declared.Event.TheVariants.{Draft, Submit}
+use Rattle.clock_stage.specs.auction_rules.specs.declared.Reply.TheVariants as reply
+use Rattle.row_laws.specs.auction_model.specs.PackageTests.{first_over, is_empty}
+use Rattle.clock_stage.specs.auction_rules.specs.Terms.{entrant}
+use Rattle.clock_stage.specs.auction_rules.specs.Rounds.{OwnRound}
+use Rattle.clock_stage.specs.auction_rules.specs.Caps.{clock_bid, greatest, list_fault}
+use Rattle.row_laws.specs.auction_model.specs.Entries.{with_entry}
+use Rattle.clock_stage.specs.auction_rules.specs.Replies.{first_reply, when, supply_reply, spectrum_reply, cap_reply, has_entry}
+use Rattle.clock_stage.specs.auction_rules.specs.State.{Round, DeskState, own_of, reply_in, taken}
 use Rattle.big_auction.specs.MadeAward.{made_terms}
 use Rattle.big_auction.proofs.Caps.{IsFair, no-fault, each-with_entry, length-with_entry}
 use Rattle.big_auction.proofs.ClockRounds.{sealed_state}

@@ -1,8 +1,8 @@
 -- The text of an award in which no bidder holds lots and no spectrum cap stands.
 use Rattle.std.specs.Prelude.{ℕ, List, [], ◌∷◌, ◌++◌, codes, flat_map}
 use Rattle.std.specs.Fmt.{decimal}
-use Rattle.auction_rules.specs.Terms.{Entrant, Terms}
-use Rattle.award_file.specs.Walk.{Category}
+use Rattle.clock_stage.specs.auction_rules.specs.Terms.{Entrant, Terms}
+use Rattle.clock_stage.specs.award_file.specs.Walk.{Category}
 use Rattle.big_auction.specs.MadeAward.{made_categories, made_terms}
 
 -- a key with its value, on a line

@@ -1,8 +1,8 @@
 -- The text of a log: a record for each line, its fields between commas, none of them in quotation marks.
 use Rattle.std.specs.Prelude.{ℕ, List, [], ◌∷◌, ◌++◌, codes, flat_map}
 use Rattle.std.specs.Fmt.{decimal}
-use Rattle.auction_rules.specs.declared.Event.{Event}
-use Rattle.auction_rules.specs.declared.Event.TheVariants.{Bid, Draft, Drop, Submit, Close}
+use Rattle.clock_stage.specs.auction_rules.specs.declared.Event.{Event}
+use Rattle.clock_stage.specs.auction_rules.specs.declared.Event.TheVariants.{Bid, Draft, Drop, Submit, Close}
 use Rattle.log_file.specs.LogForm.{counts_text, four}
 use Rattle.big_auction.specs.MadeAward.{made_name}
 

@@ -1,11 +1,11 @@
 -- The log that is made from a number.
 use Rattle.std.specs.Prelude.{ℕ, suc, ◌+◌, ◌-◌, ◌*◌, ◌/◌, min, max, ◌||◌, nat_le, List, [], ◌∷◌, ◌++◌, flat_map, slice_index, if◌then◌else◌}
-use Rattle.auction_model.specs.Package.{cost_of}
-use Rattle.auction_rules.specs.declared.Event.{Event}
-use Rattle.auction_rules.specs.declared.Event.TheVariants.{Bid, Draft, Submit, Close}
-use Rattle.auction_model.specs.PackageTests.{is_same}
-use Rattle.auction_rules.specs.Terms.{no_lots}
-use Rattle.auction_rules.specs.Rounds.{listing, prices_after}
+use Rattle.row_laws.specs.auction_model.specs.Package.{cost_of}
+use Rattle.clock_stage.specs.auction_rules.specs.declared.Event.{Event}
+use Rattle.clock_stage.specs.auction_rules.specs.declared.Event.TheVariants.{Bid, Draft, Submit, Close}
+use Rattle.row_laws.specs.auction_model.specs.PackageTests.{is_same}
+use Rattle.clock_stage.specs.auction_rules.specs.Terms.{no_lots}
+use Rattle.clock_stage.specs.auction_rules.specs.Rounds.{listing, prices_after}
 use Rattle.big_auction.specs.Draws.{first_state, behind, drawn, drawn_package}
 use Rattle.big_auction.specs.MadeAward.{made_bidders, made_terms}
 

@@ -1,13 +1,13 @@
 // The text of the made award.
 ghost use Rattle.std.specs.Prelude.{◌≡◌, ◌++◌, [], ◌∷◌, IfOk, OnOk, codes, flat_map};
-ghost use Rattle.auction_rules.specs.Rounds.{listing};
+ghost use Rattle.clock_stage.specs.auction_rules.specs.Rounds.{listing};
 ghost use Rattle.big_auction.specs.AwardText.{category_text, entrant_text, key_line, made_award_text, name_line, number_line, step_text, table_line};
 ghost use Rattle.big_auction.specs.MadeAward.{category_with, made_bidders, made_categories, made_entrant, made_name};
 
 use crate::values::{BIDDERS, RESERVES, SUPPLY};
+use clock_stage::text_lines::add_decimal;
+use row_laws::wide_num::Text;
 use std::alloc::{AllocError, Global};
-use text_lines::add_decimal;
-use wide_num::Text;
 
 /// The points that each bidder may bid for in round 1.
 const ELIGIBILITY: u64 = 73;

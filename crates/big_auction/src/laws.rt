@@ -1,8 +1,8 @@
 // What holds of each made auction.
 ghost use Rattle.std.specs.Prelude.{◌≡◌, ◌≤◌, ℕ, IsTrue, List, reverse, true};
-ghost use Rattle.auction_model.specs.Book.{market_of};
-ghost use Rattle.auction_rules.specs.BookOfLog.{book_of_log, is_complete};
-ghost use Rattle.award_file.specs.Award.{IsAward};
+ghost use Rattle.row_laws.specs.auction_model.specs.Book.{market_of};
+ghost use Rattle.clock_stage.specs.auction_rules.specs.BookOfLog.{book_of_log, is_complete};
+ghost use Rattle.clock_stage.specs.award_file.specs.Award.{IsAward};
 ghost use Rattle.row_laws.specs.Winners.{winners_in};
 ghost use Rattle.big_auction.specs.Answered.{AreAnsweredOk};
 ghost use Rattle.big_auction.specs.MadeAward.{made_terms};

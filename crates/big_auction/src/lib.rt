@@ -9,4 +9,7 @@ mod made;
 mod prices;
 mod values;
 
+pub use clock_stage;
+pub use clock_stage::{auction_rules, award_file, bid_book, lots};
+pub use log_file;
 pub use made::{Made, make};

@@ -1,9 +1,9 @@
 // The lines of the log.
 ghost use Rattle.std.specs.Prelude.{◌≡◌, ◌≤◌, ◌+◌, ◌*◌, ◌++◌, ◌∷◌, [], ℕ, OnOk, length, map, ◌<◌, if◌then◌else◌, nat_le};
 ghost use Rattle.std.specs.List.{AllByRecursion};
-ghost use Rattle.limits.specs.declared.TheConstants.{MOST_PRICE};
+ghost use Rattle.clock_stage.specs.limits.specs.declared.TheConstants.{MOST_PRICE};
 ghost use Rattle.log_file.specs.LogForm.{counts_text};
-ghost use Rattle.auction_rules.specs.declared.Event.TheVariants.{Bid, Draft, Submit, Close};
+ghost use Rattle.clock_stage.specs.auction_rules.specs.declared.Event.TheVariants.{Bid, Draft, Submit, Close};
 ghost use Rattle.big_auction.specs.Draws.{behind};
 ghost use Rattle.big_auction.specs.LogText.{event_text, log_text};
 ghost use Rattle.big_auction.specs.MadeAward.{made_name};
@@ -13,9 +13,9 @@ ghost use Rattle.big_auction.specs.Parts.{bids_for, counts_of, figures_of};
 use crate::draws::Draws;
 use crate::prices::{amount, cost};
 use crate::values::{DRAFTS, Figures, Lots, STAYING};
+use clock_stage::text_lines::{add_decimal, add_number};
+use row_laws::wide_num::Text;
 use std::alloc::AllocError;
-use text_lines::{add_decimal, add_number};
-use wide_num::Text;
 
 /// A bidder by its number, with the package of its own and the one that it asks for at last.
 #[derive(Clone, Copy)]

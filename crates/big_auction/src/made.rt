@@ -1,7 +1,7 @@
 // The made texts.
 ghost use Rattle.std.specs.Prelude.{◌≡◌, ◌≤◌, ◌<◌, ◌++◌, IfOk, OnOk, length, map};
 ghost use Rattle.std.specs.List.{AllByRecursion};
-ghost use Rattle.limits.specs.declared.TheConstants.{MOST_PRICE};
+ghost use Rattle.clock_stage.specs.limits.specs.declared.TheConstants.{MOST_PRICE};
 ghost use Rattle.big_auction.specs.AwardText.{made_award_text};
 ghost use Rattle.big_auction.specs.Draws.{behind};
 ghost use Rattle.big_auction.specs.LogText.{log_text};
@@ -14,8 +14,8 @@ use crate::draws::Draws;
 use crate::lines::{Bidder, add_bid, add_bidder, add_bids, add_close};
 use crate::prices::{final_prices, last_package};
 use crate::values::{BIDDERS, FULL_ROUNDS, Figures, Lots, STAYING, WIDEST};
+use row_laws::wide_num::Text;
 use std::alloc::{AllocError, Global};
-use wide_num::Text;
 
 /// How many lines each log has.
 const LINES: u64 = 1339;

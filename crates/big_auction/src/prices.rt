@@ -1,18 +1,18 @@
 // Prices and costs.
 ghost use Rattle.std.specs.Prelude.{◌≡◌, ◌≤◌, ◌-◌, ◌^◌, IfOk, if◌then◌else◌, length, map, nat_le};
 ghost use Rattle.std.specs.List.{AllByRecursion};
-ghost use Rattle.limits.specs.declared.TheConstants.{MOST_PRICE};
-ghost use Rattle.auction_model.specs.Package.{cost_of};
-ghost use Rattle.auction_model.specs.PackageTests.{is_same};
-ghost use Rattle.auction_rules.specs.Rounds.{prices_after, raised_prices};
-ghost use Rattle.auction_rules.specs.Step.{stepped};
-ghost use Rattle.auction_rules.specs.State.{asked};
+ghost use Rattle.clock_stage.specs.limits.specs.declared.TheConstants.{MOST_PRICE};
+ghost use Rattle.row_laws.specs.auction_model.specs.Package.{cost_of};
+ghost use Rattle.row_laws.specs.auction_model.specs.PackageTests.{is_same};
+ghost use Rattle.clock_stage.specs.auction_rules.specs.Rounds.{prices_after, raised_prices};
+ghost use Rattle.clock_stage.specs.auction_rules.specs.Step.{stepped};
+ghost use Rattle.clock_stage.specs.auction_rules.specs.State.{asked};
 ghost use Rattle.big_auction.specs.MadeAward.{made_terms};
 ghost use Rattle.big_auction.specs.MadeLog.{amount_of, full_rounds, last_of};
 ghost use Rattle.big_auction.specs.Parts.{counts_of, figures_of, held_from};
 
 use crate::values::{FULL_ROUNDS, Figures, Lots, NO_LOTS, RESERVES, STAYING, SUPPLY};
-use award_file::StepTable;
+use clock_stage::award_file::StepTable;
 use clock_stage::step;
 use std::alloc::{AllocError, Global};
 

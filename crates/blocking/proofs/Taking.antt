@@ -3,14 +3,14 @@ use Rattle.std.specs.Prelude.{◌≡◌, ℕ, zero, suc, ◌-◌, ◌<◌, ◌�
 use Rattle.std.proofs.Common.{arith, ap, ◌∙◌, sym, FitsSigned}
 use mir.Syntax.{w128}
 use Rattle.std.proofs.lemmas.Int.{ints}
-use Rattle.auction_model.specs.Market.{Market, value_of, worth_in}
-use Rattle.auction_model.specs.Greatest.{IsWinning}
-use Rattle.auction_model.specs.Lawful.{IsMarket}
-use Rattle.auction_model.specs.Lowered.{of_bidder}
-use Rattle.auction_model.specs.Prices.{paid, sum_over, IsUnblocked}
-use Rattle.auction_model.specs.Blocks.{row_bound}
-use Rattle.wide_num.proofs.Ints.{mul-add}
-use Rattle.point_laws.proofs.Order.{mul_nonneg}
+use Rattle.row_laws.specs.auction_model.specs.Market.{Market, value_of, worth_in}
+use Rattle.row_laws.specs.auction_model.specs.Greatest.{IsWinning}
+use Rattle.row_laws.specs.auction_model.specs.Lawful.{IsMarket}
+use Rattle.row_laws.specs.auction_model.specs.Lowered.{of_bidder}
+use Rattle.row_laws.specs.auction_model.specs.Prices.{paid, sum_over, IsUnblocked}
+use Rattle.row_laws.specs.auction_model.specs.Blocks.{row_bound}
+use Rattle.row_laws.specs.wide_num.proofs.Ints.{mul-add}
+use Rattle.row_laws.specs.point_laws.proofs.Order.{mul_nonneg}
 use Rattle.row_laws.specs.Winners.{idle_row, row_of, bits_after, has_bit}
 use Rattle.row_laws.specs.Surplus.{surpluses_of, lowered_sum}
 use Rattle.row_laws.proofs.Excess.{IsPaid, taken, low-reached, free-unblocked, unblocked-free, not-below}

@@ -1,10 +1,10 @@
 -- The search for the coalition that blocks a point most: its conditions, and what it answers.
 use Rattle.std.specs.Prelude.{◌≡◌, ℕ, ◌^◌, ◌<◌, ◌≤◌, List, ℤ, pos, ◌≤ℤ◌, ◌<ℤ◌, ⊤}
-use Rattle.auction_model.specs.Market.{Market}
-use Rattle.auction_model.specs.Greatest.{IsFirstGreatest}
-use Rattle.auction_model.specs.Lowered.{of_bidder}
-use Rattle.auction_model.specs.Prices.{Point, paid}
-use Rattle.auction_model.specs.PricingRun.{IsBlockOf, Block as TurnBlock}
+use Rattle.row_laws.specs.auction_model.specs.Market.{Market}
+use Rattle.row_laws.specs.auction_model.specs.Greatest.{IsFirstGreatest}
+use Rattle.row_laws.specs.auction_model.specs.Lowered.{of_bidder}
+use Rattle.row_laws.specs.auction_model.specs.Prices.{Point, paid}
+use Rattle.row_laws.specs.auction_model.specs.PricingRun.{IsBlockOf, Block as TurnBlock}
 use Rattle.choices.specs.Lowering.{CanLower}
 use Rattle.choices.specs.declared.chooser.Found.{Found}
 use Rattle.row_laws.specs.Winners.{winners_in}

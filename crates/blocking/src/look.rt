@@ -1,14 +1,14 @@
 // The search for a block.
 ghost use Rattle.std.specs.Prelude.{◌≡◌, ℕ, pos, ◌^◌, ◌≤◌, ◌≤ℤ◌, ◌<ℤ◌, length, IfOk};
-ghost use Rattle.auction_model.specs.Lowered.{of_bidder};
-ghost use Rattle.auction_model.specs.Prices.{IsUnblocked, sum_over, everyone};
+ghost use Rattle.row_laws.specs.auction_model.specs.Lowered.{of_bidder};
+ghost use Rattle.row_laws.specs.auction_model.specs.Prices.{IsUnblocked, sum_over, everyone};
 ghost use Rattle.row_laws.specs.Surplus.{surpluses_of};
 ghost use Rattle.blocking.specs.Look.{CanLook, IfFree, IfBlocked, IsFound, IsBlock, payments};
 
 use crate::row::row_given;
 use crate::surplus::surpluses;
 use choices::{Choice, Chooser, Found};
-use far_num::Row;
+use row_laws::far_num::Row;
 use std::alloc::{AllocError, Global};
 
 /// What blocks a point most.

@@ -4,17 +4,17 @@ use Rattle.std.specs.Prelude.{◌≡◌, ℕ, zero, suc, ◌-◌, ◌≤◌, ◌
 use Rattle.std.proofs.Common.{sym, ◌∙◌, ap, subst, arith}
 use Rattle.std.proofs.lemmas.Bool.{and_from, and_parts, le-leb, leb-true}
 use Rattle.std.proofs.lemmas.Int.{ints}
-use Rattle.auction_model.specs.Greatest.{IsFirstGreatest}
-use Rattle.auction_model.specs.Market.{is_earlier, number_of, sum_after}
-use Rattle.auction_model.specs.Menu.{Menu, fits_after}
-use Rattle.auction_model.specs.Package.{is_within, less}
-use Rattle.auction_model.specs.Place.{left_at, place_of, states_of}
-use Rattle.auction_model.specs.Table.{IsEntry, IsExactTable, entry_at}
-use Rattle.auction_model.proofs.BookMarket.{fits-known}
-use Rattle.auction_model.proofs.ChoiceLaws.{known-length}
-use Rattle.auction_model.proofs.MenuLaws.{fits-cons}
-use Rattle.auction_model.proofs.PlaceLaws.{left_at-less, left_at-whole, place-less_below, states-positive}
-use Rattle.auction_model.proofs.OrderLaws.{earlier-number, earlier-rest}
+use Rattle.cert_laws.specs.auction_model.specs.Greatest.{IsFirstGreatest}
+use Rattle.cert_laws.specs.auction_model.specs.Market.{is_earlier, number_of, sum_after}
+use Rattle.cert_laws.specs.auction_model.specs.Menu.{Menu, fits_after}
+use Rattle.cert_laws.specs.auction_model.specs.Package.{is_within, less}
+use Rattle.cert_laws.specs.auction_model.specs.Place.{left_at, place_of, states_of}
+use Rattle.cert_laws.specs.auction_model.specs.Table.{IsEntry, IsExactTable, entry_at}
+use Rattle.cert_laws.specs.auction_model.proofs.BookMarket.{fits-known}
+use Rattle.cert_laws.specs.auction_model.proofs.ChoiceLaws.{known-length}
+use Rattle.cert_laws.specs.auction_model.proofs.MenuLaws.{fits-cons}
+use Rattle.cert_laws.specs.auction_model.proofs.PlaceLaws.{left_at-less, left_at-whole, place-less_below, states-positive}
+use Rattle.cert_laws.specs.auction_model.proofs.OrderLaws.{earlier-number, earlier-rest}
 use Rattle.cert_laws.specs.Tests.{NoEarlier, left_after, worth_before}
 
 split-here : (z : List ℕ) (k : ℕ) → k < length z → drop k z ≡ slice_index z k ∷ drop (suc k) z

@@ -3,11 +3,11 @@ use Rattle.std.specs.Prelude.{◌≡◌, ℕ, zero, suc, ◌-◌, ◌*◌, ◌/�
 use Rattle.std.proofs.Common.{sym, ◌∙◌, ap, arith, inl, inr, ◌⊎◌}
 use Rattle.std.proofs.lemmas.Bool.{cases_Bool, cases_eq, cases_lt, eq-eqb, ne_eqb, false≢true}
 use native.Mathlib.Nat.{pow-suc}
-use Rattle.auction_model.specs.Market.{uses}
-use Rattle.cert_form.specs.Certificate.{is_member}
-use Rattle.cert_form.specs.CertText.{AreMembers}
-use Rattle.row_laws.specs.Winners.{members_of}
-use Rattle.row_laws.specs.Winners.{has_bit, winners_in}
+use Rattle.cert_laws.specs.auction_model.specs.Market.{uses}
+use Rattle.cert_laws.specs.cert_form.specs.Certificate.{is_member}
+use Rattle.cert_laws.specs.cert_form.specs.CertText.{AreMembers}
+use Rattle.cert_laws.specs.row_laws.specs.Winners.{members_of}
+use Rattle.cert_laws.specs.row_laws.specs.Winners.{has_bit, winners_in}
 
 or_none : (b : Bool) → b ≡ (b || false)
 or_none true = refl

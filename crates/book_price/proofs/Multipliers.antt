@@ -3,24 +3,24 @@ use Rattle.std.specs.Prelude.{◌≡◌, ℕ, zero, suc, ◌-◌, ◌<◌, ◌�
 use Rattle.std.proofs.Common.{sym, ◌∙◌, ap, arith, ◌⊎◌, inl, inr}
 use Rattle.std.proofs.lemmas.Int.{ints}
 use Rattle.std.proofs.lemmas.List.{get_or-map, length-map}
-use Rattle.auction_model.specs.Lowered.{of_bidder}
-use Rattle.auction_model.specs.Market.{Market, uses, value_of, worth_in}
-use Rattle.cert_form.specs.Certificate.{RowValue, WithoutValue, is_member, row_of as row_at_place}
+use Rattle.cert_laws.specs.auction_model.specs.Lowered.{of_bidder}
+use Rattle.cert_laws.specs.auction_model.specs.Market.{Market, uses, value_of, worth_in}
+use Rattle.cert_laws.specs.cert_form.specs.Certificate.{RowValue, WithoutValue, is_member, row_of as row_at_place}
 use Rattle.cert_laws.specs.MarketTests.{ShowsLeastSum, ShowsNearest, sum_holding, vickrey_in}
-use Rattle.choices.specs.Singles.{AreSingles, IsSingle}
-use Rattle.choices.specs.declared.chooser.Single.{Single}
+use Rattle.cert_text.specs.choices.specs.Singles.{AreSingles, IsSingle}
+use Rattle.cert_text.specs.choices.specs.declared.chooser.Single.{Single}
 use Rattle.core_price.specs.Kept.{firsts, rows_in, seconds}
-use Rattle.auction_model.specs.Prices.{weight_of}
+use Rattle.cert_laws.specs.auction_model.specs.Prices.{weight_of}
 use Rattle.core_price.specs.Rows.{prices_of}
 use Rattle.core_price.specs.Weights.{weights_in}
 use Rattle.core_price.specs.declared.priced.PricedRow.{PricedRow}
-use Rattle.far_num.specs.Members.{holds}
-use Rattle.far_num.specs.declared.Row.{Row}
-use Rattle.nearest_point.specs.Problem.{bounds, coefficients, weight_at}
-use Rattle.point_laws.specs.Multipliers.{AreFirst, AreSecond, SumsTo, sum_at}
-use Rattle.point_laws.proofs.Order.{zero_or}
-use Rattle.row_laws.specs.Winners.{for_bidders, has_bit, row_of, winners_in}
-use Rattle.wide_num.specs.Sums.{nth}
+use Rattle.cert_laws.specs.far_num.specs.Members.{holds}
+use Rattle.cert_laws.specs.far_num.specs.declared.Row.{Row}
+use Rattle.core_price.specs.nearest_point.specs.Problem.{bounds, coefficients, weight_at}
+use Rattle.cert_laws.specs.point_laws.specs.Multipliers.{AreFirst, AreSecond, SumsTo, sum_at}
+use Rattle.cert_laws.specs.point_laws.proofs.Order.{zero_or}
+use Rattle.cert_laws.specs.row_laws.specs.Winners.{for_bidders, has_bit, row_of, winners_in}
+use Rattle.cert_laws.specs.wide_num.specs.Sums.{nth}
 use Rattle.book_price.specs.Made.{cert_made, row_from}
 use Rattle.book_price.proofs.Members.{member-is}
 use Rattle.book_price.proofs.Places.{IsPlace, each-at, part-of_winner, place-of, rank, single_at, weight-rank}

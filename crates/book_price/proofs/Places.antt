@@ -4,14 +4,14 @@ use Rattle.std.specs.List.{AllByRecursion}
 use Rattle.std.proofs.Common.{◌∙◌, ap, arith}
 use Rattle.std.proofs.lemmas.Bool.{eq-eqb, ne_eqb, false≢true}
 use Rattle.std.proofs.lemmas.Nat.{mod_below}
-use Rattle.auction_model.specs.Market.{Market, uses}
-use Rattle.cert_form.specs.Certificate.{WithoutValue, part_of}
-use Rattle.choices.specs.Singles.{AreSingles, IsSingle, winners_after}
-use Rattle.choices.specs.declared.chooser.Single.{Single}
-use Rattle.far_num.specs.Members.{holds}
-use Rattle.row_laws.specs.Winners.{for_bidders, has_bit, winners_in}
-use Rattle.row_laws.proofs.Bits.{holds-front, holds-rest}
-use Rattle.wide_num.specs.Sums.{nth}
+use Rattle.cert_laws.specs.auction_model.specs.Market.{Market, uses}
+use Rattle.cert_laws.specs.cert_form.specs.Certificate.{WithoutValue, part_of}
+use Rattle.cert_text.specs.choices.specs.Singles.{AreSingles, IsSingle, winners_after}
+use Rattle.cert_text.specs.choices.specs.declared.chooser.Single.{Single}
+use Rattle.cert_laws.specs.far_num.specs.Members.{holds}
+use Rattle.cert_laws.specs.row_laws.specs.Winners.{for_bidders, has_bit, winners_in}
+use Rattle.cert_laws.specs.row_laws.proofs.Bits.{holds-front, holds-rest}
+use Rattle.cert_laws.specs.wide_num.specs.Sums.{nth}
 use Rattle.core_price.specs.Weights.{weights_in}
 use Rattle.book_price.specs.Made.{parts_from}
 

@@ -4,17 +4,17 @@ use Rattle.std.specs.List.{AllByRecursion}
 use Rattle.std.proofs.Common.{sym, ◌∙◌, ap, arith, subst}
 use Rattle.std.proofs.lemmas.Bool.{and_parts, eqb-true, not-false, not-true}
 use Rattle.std.proofs.lemmas.List.{get_or-map, length-map}
-use Rattle.auction_model.specs.Lowered.{of_bidder}
-use Rattle.auction_model.specs.Prices.{sum_over}
-use Rattle.auction_model.specs.Market.{Market, number_of, uses, value_of, worth_in}
-use Rattle.cert_form.specs.Certificate.{RowValue, is_member, row_of as row_at_place}
+use Rattle.cert_laws.specs.auction_model.specs.Lowered.{of_bidder}
+use Rattle.cert_laws.specs.auction_model.specs.Prices.{sum_over}
+use Rattle.cert_laws.specs.auction_model.specs.Market.{Market, number_of, uses, value_of, worth_in}
+use Rattle.cert_laws.specs.cert_form.specs.Certificate.{RowValue, is_member, row_of as row_at_place}
 use Rattle.cert_laws.specs.MarketTests.{HasTightRow, IsTight}
-use Rattle.choices.specs.declared.chooser.Single.{Single}
+use Rattle.cert_text.specs.choices.specs.declared.chooser.Single.{Single}
 use Rattle.core_price.specs.Kept.{IsKept}
 use Rattle.core_price.specs.declared.priced.PricedRow.{PricedRow}
-use Rattle.row_laws.specs.Winners.{for_bidders, row_of}
-use Rattle.row_laws.proofs.Blocks.{row-asks}
-use Rattle.row_laws.proofs.Rows.{over-same}
+use Rattle.cert_laws.specs.row_laws.specs.Winners.{for_bidders, row_of}
+use Rattle.cert_laws.specs.row_laws.proofs.Blocks.{row-asks}
+use Rattle.cert_laws.specs.row_laws.proofs.Rows.{over-same}
 use Rattle.book_price.specs.Made.{cert_made, row_from}
 use Rattle.book_price.proofs.Members.{member-inside, member-is}
 use Rattle.book_price.proofs.Places.{each-at}

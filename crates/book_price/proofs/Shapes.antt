@@ -6,22 +6,22 @@ use Rattle.std.proofs.Math.IntN.{*ℤ_comm}
 use Rattle.std.proofs.lemmas.Bool.{and_parts}
 use Rattle.std.proofs.lemmas.Int.{ints}
 use Rattle.std.proofs.lemmas.List.{length-map}
-use Rattle.auction_model.specs.Lawful.{IsMarket}
-use Rattle.auction_model.specs.Market.{Market, uses}
-use Rattle.cert_form.specs.CertText.{AllInRange, AreRows, AreWithouts, AtMost, InRange, IsChoice, IsRow, IsTable}
-use Rattle.choices.specs.Singles.{AreSingles, IsSingle, winners_after}
-use Rattle.choices.specs.declared.chooser.Single.{Single}
+use Rattle.cert_laws.specs.auction_model.specs.Lawful.{IsMarket}
+use Rattle.cert_laws.specs.auction_model.specs.Market.{Market, uses}
+use Rattle.cert_laws.specs.cert_form.specs.CertText.{AllInRange, AreRows, AreWithouts, AtMost, InRange, IsChoice, IsRow, IsTable}
+use Rattle.cert_text.specs.choices.specs.Singles.{AreSingles, IsSingle, winners_after}
+use Rattle.cert_text.specs.choices.specs.declared.chooser.Single.{Single}
 use Rattle.core_price.specs.Kept.{IsKept, firsts, rows_in, seconds}
 use Rattle.core_price.specs.declared.priced.PricedRow.{PricedRow}
-use Rattle.nearest_point.specs.Numbers.{AreBelow}
-use Rattle.nearest_point.specs.Problem.{bounds, coefficients}
-use Rattle.point_laws.specs.Multipliers.{AreFirst, SumsTo}
-use Rattle.point_laws.proofs.Order.{mul_nonneg}
-use Rattle.point_laws.proofs.Sums.{term-le}
-use Rattle.row_laws.specs.Winners.{for_bidders, has_bit, row_of, winners_in}
-use Rattle.row_laws.proofs.Winners.{all-bidders}
-use Rattle.wide_num.specs.Sums.{nth, total}
-use Rattle.wide_num.proofs.Ints.{*ℤ-one, mul-add, mul-sub}
+use Rattle.core_price.specs.nearest_point.specs.Numbers.{AreBelow}
+use Rattle.core_price.specs.nearest_point.specs.Problem.{bounds, coefficients}
+use Rattle.cert_laws.specs.point_laws.specs.Multipliers.{AreFirst, SumsTo}
+use Rattle.cert_laws.specs.point_laws.proofs.Order.{mul_nonneg}
+use Rattle.cert_laws.specs.point_laws.proofs.Sums.{term-le}
+use Rattle.cert_laws.specs.row_laws.specs.Winners.{for_bidders, has_bit, row_of, winners_in}
+use Rattle.cert_laws.specs.row_laws.proofs.Winners.{all-bidders}
+use Rattle.cert_laws.specs.wide_num.specs.Sums.{nth, total}
+use Rattle.cert_laws.specs.wide_num.proofs.Ints.{*ℤ-one, mul-add, mul-sub}
 use Rattle.book_price.specs.Made.{parts_from, row_from}
 use Rattle.book_price.proofs.Members.{bit-wins, member-is, member-some, members-rise, some-bit}
 use Rattle.book_price.proofs.Multipliers.{first-at, members-at, second-at}

@@ -1,10 +1,10 @@
 -- The certificate of a book's prices as a value, from what pricing found.
 use Rattle.std.specs.Prelude.{ℕ, List, [], ◌∷◌, length, map, ℤ}
-use Rattle.choices.specs.declared.chooser.Single.{Single}
-use Rattle.cert_form.specs.Certificate.{CertValue, WithoutValue, RowValue}
+use Rattle.cert_text.specs.choices.specs.declared.chooser.Single.{Single}
+use Rattle.cert_laws.specs.cert_form.specs.Certificate.{CertValue, WithoutValue, RowValue}
 use Rattle.core_price.specs.declared.priced.PricedRow.{PricedRow}
-use Rattle.row_laws.specs.Winners.{members_of}
-use Rattle.row_laws.specs.Winners.{for_bidders, row_of}
+use Rattle.cert_laws.specs.row_laws.specs.Winners.{members_of}
+use Rattle.cert_laws.specs.row_laws.specs.Winners.{for_bidders, row_of}
 
 -- a kept row; its bits are those of winners in order, its members the bidders, rising
 abbrev pub row_from : List ℕ → PricedRow → RowValue

@@ -1,6 +1,6 @@
 // The certificate of the prices of a book.
 ghost use Rattle.std.specs.Prelude.{◌≡◌, IfOk, List, ℕ};
-ghost use Rattle.auction_model.specs.Prices.{weight_of};
+ghost use Rattle.cert_laws.specs.auction_model.specs.Prices.{weight_of};
 ghost use Rattle.book_price.specs.Found.{AreFound, cert_found};
 ghost use Rattle.cert_laws.specs.Priced.{IsPricedCert};
 ghost use Rattle.cert_laws.specs.Tests.{bidders_of, states};
@@ -9,14 +9,14 @@ ghost use Rattle.cert_text.specs.CertValues.{IsFor, cert_value};
 use crate::bidder_rows::all_rows;
 use crate::lines::shared;
 use crate::parts::all_parts;
-use bid_book::BidBook;
+use cert_laws::wide_num::NumList;
 use cert_text::Certificate;
-use choices::Choice;
+use cert_text::bid_book::BidBook;
+use cert_text::choices::Choice;
 use core_price::{Priced, for_bidders};
 use std::alloc::{AllocError, Global};
-use value_table::ValueTable;
 use vickrey::Vickrey;
-use wide_num::NumList;
+use vickrey::value_table::ValueTable;
 
 /// The certificate of what was found by some weights. It shares the lines of all tables.
 pub(crate) fn certificate(

@@ -1,7 +1,7 @@
 // The lines of a table, shared.
 ghost use Rattle.std.specs.Prelude.{◌≡◌, IfOk};
 
-use choices::Grid;
+use cert_text::choices::Grid;
 use std::alloc::{AllocError, Global};
 
 /// The same table once more. Its lines are shared: no number is copied.

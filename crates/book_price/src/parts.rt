@@ -4,8 +4,8 @@ ghost use Rattle.book_price.specs.Made.{parts_from};
 ghost use Rattle.cert_text.specs.Parts.{without_value};
 
 use crate::lines::shared;
+use cert_text::choices::{Grid, Single};
 use cert_text::{WithoutList, WithoutPart};
-use choices::{Grid, Single};
 use std::alloc::{AllocError, Global};
 use vickrey::Vickrey;
 

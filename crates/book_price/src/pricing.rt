@@ -1,28 +1,28 @@
 // From a book to its prices with their certificate.
 ghost use Rattle.std.specs.Prelude.{◌≡◌, ◌≤◌, IfErr, IfOk};
 ghost use Rattle.std.specs.List.{AllByRecursion};
-ghost use Rattle.auction_model.specs.Book.{market_of};
-ghost use Rattle.auction_model.specs.Greatest.{IsWinning};
-ghost use Rattle.auction_model.specs.PricingRun.{IsPricingRun};
+ghost use Rattle.cert_laws.specs.auction_model.specs.Book.{market_of};
+ghost use Rattle.cert_laws.specs.auction_model.specs.Greatest.{IsWinning};
+ghost use Rattle.cert_laws.specs.auction_model.specs.PricingRun.{IsPricingRun};
 ghost use Rattle.cert_laws.specs.Priced.{IsPricedCert};
 ghost use Rattle.cert_laws.specs.Sound.{cert_point};
 ghost use Rattle.cert_laws.specs.Tests.{bidders_of, states};
 ghost use Rattle.cert_text.specs.CertValues.{cert_value, IsFor};
-ghost use Rattle.auction_model.specs.Prices.{AreWeights, weight_of};
+ghost use Rattle.cert_laws.specs.auction_model.specs.Prices.{AreWeights, weight_of};
 ghost use Rattle.core_price.specs.Turns.{IsPointOfTurn, turns_of};
 ghost use Rattle.core_price.specs.Weights.{FewWin};
-ghost use Rattle.row_laws.specs.Turns.{IsLastPoint};
-ghost use Rattle.value_table.specs.TableValue.{IsPlain, IsTableOf};
+ghost use Rattle.cert_laws.specs.row_laws.specs.Turns.{IsLastPoint};
+ghost use Rattle.vickrey.specs.value_table.specs.TableValue.{IsPlain, IsTableOf};
 ghost use Rattle.book_price.specs.Reduced.{IsReduced};
 ghost use Rattle.book_price.specs.Stops.{IsBookStop};
 
 use crate::certificate::certificate;
-use bid_book::BidBook;
 use cert_text::Certificate;
-use choices::Choice;
+use cert_text::bid_book::BidBook;
+use cert_text::choices::Choice;
 use core_price::{PriceStop, TurnList, count_winners, many_win, price};
 use std::alloc::Global;
-use value_table::{BookChooser, ValueTable, plain_table};
+use vickrey::value_table::{BookChooser, ValueTable, plain_table};
 use vickrey::vickrey_from;
 
 /// The prices of a book: the certificate that shows them, and the turns that led to them.

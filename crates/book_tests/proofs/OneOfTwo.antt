@@ -3,12 +3,12 @@ use Rattle.std.specs.Prelude.{◌≡◌, ℕ, zero, suc, ◌+◌, ◌-◌, ◌<�
 use Rattle.std.proofs.Common.{arith, sym}
 use Rattle.std.proofs.lemmas.Int.{ints, clamps}
 use Rattle.std.proofs.lemmas.Bool.{false≢true, leb-true, le-leb}
-use Rattle.auction_model.specs.Market.{sum_after, number_of}
-use Rattle.auction_model.specs.Greatest.{IsFirstGreatest, IsWinning}
-use Rattle.auction_model.specs.Lawful.{IsMarket}
-use Rattle.auction_model.specs.Lowered.{of_bidder, lowered}
-use Rattle.row_laws.specs.Surplus.{surpluses_of}
-use Rattle.blocking.specs.Look.{CanLook}
+use Rattle.weights_file.specs.auction_model.specs.Market.{sum_after, number_of}
+use Rattle.weights_file.specs.auction_model.specs.Greatest.{IsFirstGreatest, IsWinning}
+use Rattle.weights_file.specs.auction_model.specs.Lawful.{IsMarket}
+use Rattle.weights_file.specs.auction_model.specs.Lowered.{of_bidder, lowered}
+use Rattle.review_text.specs.row_laws.specs.Surplus.{surpluses_of}
+use Rattle.review_text.specs.blocking.specs.Look.{CanLook}
 use Rattle.book_tests.specs.OneOfTwo.{at_most_one, worth_of, one_of_two, first_wins}
 
 -- there are three choices

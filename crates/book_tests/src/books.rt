@@ -1,14 +1,14 @@
 // What the reader takes and where it stops, and a book of three lots with its text.
 ghost use Rattle.std.specs.Prelude.{◌≡◌, ◌∷◌, [], IfOk};
-ghost use Rattle.bid_book.specs.Lists.{bid_of};
+ghost use Rattle.weights_file.specs.bid_book.specs.Lists.{bid_of};
 
-use bid_book::{
+use std::alloc::{AllocError, Global};
+use std::test::Fail;
+use weights_file::bid_book::{
     BidBook, BidList, BidderBids, Bidders, BookStop, LimitKind, Name, Reserves, read_book,
     write_book,
 };
-use lots::{Bid, LotStop, Package, Supply};
-use std::alloc::{AllocError, Global};
-use std::test::Fail;
+use weights_file::lots::{Bid, LotStop, Package, Supply};
 
 /// The first three lines of a book of two lots, and its first bidder: 42 bytes.
 const FRONT: &str = "book 1\nsupply 1 1\nreserve 0 0\nbidder east\n";

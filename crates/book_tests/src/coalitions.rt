@@ -1,10 +1,10 @@
 ghost use Rattle.std.specs.Prelude.{◌≡◌, ⊤, ◌∷◌, [], IfOk};
-ghost use Rattle.auction_model.specs.Greatest.{IsWinning};
-ghost use Rattle.auction_model.specs.Lawful.{IsMarket};
+ghost use Rattle.weights_file.specs.auction_model.specs.Greatest.{IsWinning};
+ghost use Rattle.weights_file.specs.auction_model.specs.Lawful.{IsMarket};
 ghost use Rattle.book_tests.specs.OneOfTwo.{one_of_two, first_wins};
 
-use blocking::{Looked, find_block};
-use choices::{Choice, Chooser, Found, Numbers};
+use review_text::blocking::{Looked, find_block};
+use slot_places::choices::{Choice, Chooser, Found, Numbers};
 use std::alloc::{AllocError, Global};
 
 // Two bidders bid 5 and 3 for one thing, so the first wins.

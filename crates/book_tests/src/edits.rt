@@ -1,11 +1,11 @@
 // What the reader takes, and where it stops.
-use bid_book::read_book;
+use edits_file::review::Edit;
 use edits_file::{EditStop, Edits, read_edits};
-use limits::LimitKind;
-use review::Edit;
 use std::alloc::{AllocError, Global};
 use std::test::Fail;
-use wide_num::Text;
+use weights_file::bid_book::read_book;
+use weights_file::limits::LimitKind;
+use weights_file::wide_num::Text;
 
 /// One lot of each of two categories, and five bidders.
 const BOOK: &str =

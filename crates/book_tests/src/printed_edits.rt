@@ -1,10 +1,10 @@
 // The texts of the reviews of small books.
-use bid_book::read_book;
 use edits_file::read_edits;
 use review_text::review_text;
 use std::alloc::{AllocError, Global};
 use std::test::Fail;
-use wide_num::Text;
+use weights_file::bid_book::read_book;
+use weights_file::wide_num::Text;
 
 /// One lot of each of two categories; b1 and b2 win it.
 const BOOK: &str =

@@ -1,13 +1,13 @@
 // Reviews of small books: the values and choices after edits, and that they are those of the edited book.
 ghost use Rattle.std.specs.Prelude.{◌≡◌, length};
-ghost use Rattle.review.specs.Edits.{edit_lots};
+ghost use Rattle.edits_file.specs.review.specs.Edits.{edit_lots};
 
-use bid_book::read_book;
-use choices::value;
-use lots::{LotStop, Package};
-use review::{Edit, EditReply, Review};
+use edits_file::review::{Edit, EditReply, Review};
+use slot_places::choices::value;
 use std::alloc::{AllocError, Global};
-use value_table::win;
+use vickrey::value_table::win;
+use weights_file::bid_book::read_book;
+use weights_file::lots::{LotStop, Package};
 
 /// One lot of each of two categories; b1 and b2 win it.
 const BOOK: &str =

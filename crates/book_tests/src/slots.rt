@@ -1,8 +1,8 @@
 ghost use Rattle.std.specs.Prelude.{IsTrue, pos};
-ghost use Rattle.choices.specs.Lowering.{CanLower};
+ghost use Rattle.slot_places.specs.choices.specs.Lowering.{CanLower};
 ghost use Rattle.slot_places.specs.Board.{market_of};
 
-use choices::{Choice, Chooser, Numbers};
+use slot_places::choices::{Choice, Chooser, Numbers};
 use slot_places::{LimitKind, SlotChooser, SlotStop, Slots, place_win, read_slots};
 use std::alloc::{AllocError, Global};
 use std::process::Abort;

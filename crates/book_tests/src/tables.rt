@@ -1,12 +1,12 @@
 ghost use Rattle.std.specs.Prelude.{IsTrue, pos};
-ghost use Rattle.auction_model.specs.Book.{market_of};
-ghost use Rattle.choices.specs.Lowering.{CanLower};
-ghost use Rattle.value_table.specs.SideValues.{AreSidesOf};
+ghost use Rattle.weights_file.specs.auction_model.specs.Book.{market_of};
+ghost use Rattle.slot_places.specs.choices.specs.Lowering.{CanLower};
+ghost use Rattle.vickrey.specs.value_table.specs.SideValues.{AreSidesOf};
 
-use bid_book::{BidBook, read_book};
-use choices::{Chooser, Found, first_by_listing, value};
+use slot_places::choices::{Chooser, Found, first_by_listing, value};
 use std::alloc::{AllocError, Global};
-use value_table::{BookChooser, Sides, ValueTable, win};
+use vickrey::value_table::{BookChooser, Sides, ValueTable, win};
+use weights_file::bid_book::{BidBook, read_book};
 
 /// One lot of each of two categories; b1 and b2 win it.
 const BOOK: &str =

@@ -1,7 +1,7 @@
-use bid_book::read_book;
 use std::alloc::AllocError;
-use value_table::win;
+use vickrey::value_table::win;
 use vickrey::vickrey;
+use weights_file::bid_book::read_book;
 
 /// One lot of each of two categories; b1 and b2 win it.
 const BOOK: &str =

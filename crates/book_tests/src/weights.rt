@@ -1,7 +1,7 @@
 // What the reader takes, and where it stops.
-use bid_book::{BidBook, read_book};
 use std::alloc::{AllocError, Global};
 use std::test::Fail;
+use weights_file::bid_book::{BidBook, read_book};
 use weights_file::{WeightStop, read_weights};
 
 /// Two bidders.

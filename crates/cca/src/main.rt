@@ -7,11 +7,11 @@ ghost use Rattle.std.specs.Process.{exit_status};
 ghost use Rattle.std.specs.Vec.Iter.{into_iter_items};
 ghost use Rattle.std.specs.declared.io.ErrorKind.TheVariants.{OutOfMemory};
 ghost use Rattle.std.specs.declared.result.Result.TheVariants.{Err};
-ghost use Rattle.cca_inputs.specs.Code.{code_of};
+ghost use Rattle.cca_run.specs.cca_inputs.specs.Code.{code_of};
 ghost use Rattle.cca.specs.declared.NoWords.{NoWords};
 ghost use Rattle.cca.specs.declared.NoWords.TheVariants.{Memory, NotText};
 
-use cca_base::{RealFiles, RealSink};
+use cca_run::cca_base::{RealFiles, RealSink};
 use cca_run::{Status, run};
 use std::alloc::{AllocError, Global};
 use std::env::Args;

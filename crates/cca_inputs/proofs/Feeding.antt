@@ -1,24 +1,24 @@
 -- A certificate that is fed to a checker piece by piece.
 use Rattle.std.proofs.Common.{inl, inr, ◌≡◌, ◌∙◌, ℕ, ℤ, ◌≤◌, ◌<◌, ◌+◌, ◌-◌, Bool, IsTrue, Option, Some, None, List, ◌++◌, [], ◌∷◌, length, take, refl, sym, subst, arith, length-append, length-take}
 use Rattle.std.specs.Prelude.{IfErr, IfOk, Result, Ok, Err}
-use Rattle.limits.specs.declared.TheConstants.{CERT_BYTES}
-use Rattle.line_text.specs.LineText.{Said, stated, faulty, beyond}
-use Rattle.auction_model.specs.Book.{Book as BookValue}
-use Rattle.auction_model.specs.Prices.{weight_of}
+use Rattle.log_file.specs.limits.specs.declared.TheConstants.{CERT_BYTES}
+use Rattle.place_cert.specs.line_text.specs.LineText.{Said, stated, faulty, beyond}
+use Rattle.log_file.specs.auction_model.specs.Book.{Book as BookValue}
+use Rattle.log_file.specs.auction_model.specs.Prices.{weight_of}
 use Rattle.cca_base.specs.Files.{Folder, GaveMore, KeepsFiles}
 use Rattle.cca_base.proofs.Given.{GaveFront, front_all, front_more, front_none, front_over, next_load}
-use Rattle.cert_form.specs.Certificate.{CertValue}
-use Rattle.cert_form.specs.Says.{CertSays}
-use Rattle.cert_laws.specs.Sound.{IsSound}
-use Rattle.cert_laws.specs.Tests.{FailsFirst, Holds, bidders_of, states}
-use Rattle.cert_check.specs.Verdicts.{IsVerdict}
-use Rattle.cert_check.specs.declared.verdict.Verdict.{Verdict}
-use Rattle.cert_check.specs.declared.verdict.Verdict.TheVariants as verdict
-use Rattle.cert_facts.specs.Facts.{AreFacts}
-use Rattle.cert_facts.specs.declared.shown.CertFacts.{CertFacts}
-use Rattle.cert_pieces.specs.Stops.{SaysStop}
-use Rattle.cert_pieces.specs.declared.stop.TextStop.{TextStop}
-use Rattle.cert_pieces.specs.declared.stop.TextStop.TheVariants as text
+use Rattle.place_cert.specs.cert_form.specs.Certificate.{CertValue}
+use Rattle.place_cert.specs.cert_form.specs.Says.{CertSays}
+use Rattle.stream_check.specs.cert_laws.specs.Sound.{IsSound}
+use Rattle.stream_check.specs.cert_laws.specs.Tests.{FailsFirst, Holds, bidders_of, states}
+use Rattle.stream_check.specs.cert_check.specs.Verdicts.{IsVerdict}
+use Rattle.stream_check.specs.cert_check.specs.declared.verdict.Verdict.{Verdict}
+use Rattle.stream_check.specs.cert_check.specs.declared.verdict.Verdict.TheVariants as verdict
+use Rattle.stream_check.specs.cert_facts.specs.Facts.{AreFacts}
+use Rattle.stream_check.specs.cert_facts.specs.declared.shown.CertFacts.{CertFacts}
+use Rattle.stream_check.specs.cert_pieces.specs.Stops.{SaysStop}
+use Rattle.stream_check.specs.cert_pieces.specs.declared.stop.TextStop.{TextStop}
+use Rattle.stream_check.specs.cert_pieces.specs.declared.stop.TextStop.TheVariants as text
 use Rattle.stream_check.specs.Standing.{StandsFor}
 use Rattle.stream_check.specs.declared.check.StreamCheck.{StreamCheck}
 use Rattle.cca_inputs.specs.Answers.{CertAnswers}

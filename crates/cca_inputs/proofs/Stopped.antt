@@ -1,22 +1,22 @@
 -- What the stops of the readers say of the bytes.
 use Rattle.std.proofs.Common.{inl, inr, ◌≡◌, ◌⊎◌, ℕ, List, length, refl, sym, ap}
-use Rattle.line_text.specs.LineText.{faulty, beyond, Says}
-use Rattle.auction_model.specs.Book.{Book as BookValue}
-use Rattle.book_form.specs.BookForm.{IsBook}
-use Rattle.book_form.specs.BookLines.{lines}
-use Rattle.limits.specs.declared.LimitKind.{LimitKind}
-use Rattle.bid_book.specs.declared.BookStop.{BookStop}
-use Rattle.bid_book.specs.declared.BookStop.TheVariants as book
-use Rattle.cert_laws.specs.Tests.{bidders_of, states}
-use Rattle.cert_text.specs.declared.stop.CertStop.{CertStop}
-use Rattle.cert_text.specs.declared.stop.CertStop.TheVariants as cert
-use Rattle.auction_rules.specs.Terms.{Terms}
+use Rattle.place_cert.specs.line_text.specs.LineText.{faulty, beyond, Says}
+use Rattle.log_file.specs.auction_model.specs.Book.{Book as BookValue}
+use Rattle.weights_file.specs.book_form.specs.BookForm.{IsBook}
+use Rattle.weights_file.specs.book_form.specs.BookLines.{lines}
+use Rattle.log_file.specs.limits.specs.declared.LimitKind.{LimitKind}
+use Rattle.log_file.specs.bid_book.specs.declared.BookStop.{BookStop}
+use Rattle.log_file.specs.bid_book.specs.declared.BookStop.TheVariants as book
+use Rattle.stream_check.specs.cert_laws.specs.Tests.{bidders_of, states}
+use Rattle.place_cert.specs.cert_text.specs.declared.stop.CertStop.{CertStop}
+use Rattle.place_cert.specs.cert_text.specs.declared.stop.CertStop.TheVariants as cert
+use Rattle.log_file.specs.auction_rules.specs.Terms.{Terms}
 use Rattle.weights_file.specs.WeightsForm.{WeightsSay}
 use Rattle.weights_file.specs.declared.WeightStop.{WeightStop}
 use Rattle.weights_file.specs.declared.WeightStop.TheVariants as weights
-use Rattle.award_file.specs.Reading as award_reading
-use Rattle.award_file.specs.declared.read.AwardStop.{AwardStop}
-use Rattle.award_file.specs.declared.read.AwardStop.TheVariants as award
+use Rattle.log_file.specs.award_file.specs.Reading as award_reading
+use Rattle.log_file.specs.award_file.specs.declared.read.AwardStop.{AwardStop}
+use Rattle.log_file.specs.award_file.specs.declared.read.AwardStop.TheVariants as award
 use Rattle.log_file.specs.LogReading as log_reading
 use Rattle.log_file.specs.declared.LogStop.{LogStop}
 use Rattle.log_file.specs.declared.LogStop.TheVariants as log

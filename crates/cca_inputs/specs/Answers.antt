@@ -1,26 +1,26 @@
 -- What the bytes of each input say.
 use Rattle.std.specs.Prelude.{◌≡◌, ◌⊎◌, ℕ, suc, List, length}
-use Rattle.limits.specs.declared.LimitKind.TheVariants.{Records}
-use Rattle.limits.specs.declared.TheConstants.{MOST_RECORDS}
-use Rattle.line_text.specs.LineText.{Said, stated, faulty, beyond, Says}
-use Rattle.auction_model.specs.Book.{Book as BookValue}
-use Rattle.book_form.specs.BookForm.{IsBook}
-use Rattle.book_form.specs.BookLines.{Excess, lines}
-use Rattle.auction_rules.specs.Terms.{Terms}
-use Rattle.auction_rules.specs.declared.Event.{Event}
-use Rattle.award_file.specs.Award.{IsAward}
-use Rattle.award_file.specs.Reading as award
+use Rattle.log_file.specs.limits.specs.declared.LimitKind.TheVariants.{Records}
+use Rattle.log_file.specs.limits.specs.declared.TheConstants.{MOST_RECORDS}
+use Rattle.place_cert.specs.line_text.specs.LineText.{Said, stated, faulty, beyond, Says}
+use Rattle.log_file.specs.auction_model.specs.Book.{Book as BookValue}
+use Rattle.weights_file.specs.book_form.specs.BookForm.{IsBook}
+use Rattle.weights_file.specs.book_form.specs.BookLines.{Excess, lines}
+use Rattle.log_file.specs.auction_rules.specs.Terms.{Terms}
+use Rattle.log_file.specs.auction_rules.specs.declared.Event.{Event}
+use Rattle.log_file.specs.award_file.specs.Award.{IsAward}
+use Rattle.log_file.specs.award_file.specs.Reading as award
 use Rattle.log_file.specs.LogReading.{AreLog, AreTooMany, IsFirstFault, log_records}
-use Rattle.cert_form.specs.Certificate.{CertValue}
-use Rattle.cert_form.specs.Says.{CertSays}
-use Rattle.cert_laws.specs.Tests.{bidders_of, states}
+use Rattle.place_cert.specs.cert_form.specs.Certificate.{CertValue}
+use Rattle.place_cert.specs.cert_form.specs.Says.{CertSays}
+use Rattle.stream_check.specs.cert_laws.specs.Tests.{bidders_of, states}
 use Rattle.weights_file.specs.WeightsForm.{WeightsSay}
 use Rattle.slot_places.specs.SlotForm.{IsSlotText, slot_lines}
 use Rattle.slot_places.specs.Slots.{SlotList}
-use Rattle.cert_form.specs.PlaceCert.{PlaceCertValue}
+use Rattle.place_cert.specs.cert_form.specs.PlaceCert.{PlaceCertValue}
 use Rattle.place_cert.specs.PlaceSays.{PlaceCertSays}
 use Rattle.edits_file.specs.EditsForm.{EditsSay, NamedEdit, edits_of}
-use Rattle.review.specs.declared.edit.Edit.{Edit}
+use Rattle.edits_file.specs.review.specs.declared.edit.Edit.{Edit}
 use Rattle.cca_inputs.specs.Outcome.{Answer, value, stops}
 use Rattle.cca_inputs.specs.declared.status.FileKind.TheVariants.{Award, Log, Book, Cert, Weights, Slots, Edits}
 use Rattle.cca_inputs.specs.declared.status.Status.TheVariants.{Refused, Limit}

@@ -1,16 +1,16 @@
 -- A certificate that is checked from pieces of its file.
 use Rattle.std.specs.Prelude.{◌≡◌, ◌⊎◌, ◌≤◌, ℕ, ℤ, Result, Ok, Err, List, length}
-use Rattle.limits.specs.declared.TheConstants.{CERT_BYTES}
-use Rattle.auction_model.specs.Book.{Book as BookValue}
-use Rattle.auction_model.specs.Prices.{weight_of}
+use Rattle.log_file.specs.limits.specs.declared.TheConstants.{CERT_BYTES}
+use Rattle.log_file.specs.auction_model.specs.Book.{Book as BookValue}
+use Rattle.log_file.specs.auction_model.specs.Prices.{weight_of}
 use Rattle.cca_base.specs.Files.{Folder, GaveAll}
-use Rattle.cert_form.specs.Certificate.{CertValue}
-use Rattle.cert_laws.specs.Sound.{IsSound}
-use Rattle.cert_laws.specs.Tests.{FailsFirst, Holds}
-use Rattle.cert_facts.specs.Facts.{AreFacts}
-use Rattle.cert_facts.specs.declared.shown.CertFacts.{CertFacts}
-use Rattle.cert_pieces.specs.declared.stop.TextStop.{TextStop}
-use Rattle.cert_pieces.specs.declared.stop.TextStop.TheVariants as text
+use Rattle.place_cert.specs.cert_form.specs.Certificate.{CertValue}
+use Rattle.stream_check.specs.cert_laws.specs.Sound.{IsSound}
+use Rattle.stream_check.specs.cert_laws.specs.Tests.{FailsFirst, Holds}
+use Rattle.stream_check.specs.cert_facts.specs.Facts.{AreFacts}
+use Rattle.stream_check.specs.cert_facts.specs.declared.shown.CertFacts.{CertFacts}
+use Rattle.stream_check.specs.cert_pieces.specs.declared.stop.TextStop.{TextStop}
+use Rattle.stream_check.specs.cert_pieces.specs.declared.stop.TextStop.TheVariants as text
 use Rattle.stream_check.specs.Standing.{StandsFor}
 use Rattle.stream_check.specs.declared.check.StreamCheck.{StreamCheck}
 use Rattle.cca_inputs.specs.Answers.{CertAnswers}

@@ -8,3 +8,15 @@ pub mod Answers
 pub mod Stops
 pub mod Reading
 pub mod Checked
+pub use Rattle.log_file.specs.bid_book
+pub use Rattle.weights_file.specs.book_form
+pub use Rattle.cca_base
+pub use Rattle.stream_check.specs.cert_facts
+pub use Rattle.place_cert.specs.cert_form
+pub use Rattle.place_cert.specs.cert_text
+pub use Rattle.edits_file
+pub use Rattle.log_file.specs.limits
+pub use Rattle.place_cert.specs.line_text
+pub use Rattle.place_cert
+pub use Rattle.slot_places
+pub use Rattle.weights_file

@@ -1,6 +1,6 @@
 -- What a run answers, prints and appends, and how that follows from one input after the other.
 use Rattle.std.specs.Prelude.{◌≡◌, ◌≤◌, ◌<◌, ◌+◌, ℕ, Option, Some, None, List, [], ◌++◌, length}
-use Rattle.limits.specs.declared.LimitKind.TheVariants.{Bytes}
+use Rattle.log_file.specs.limits.specs.declared.LimitKind.TheVariants.{Bytes}
 use Rattle.cca_inputs.specs.StatusLine.{status_line}
 use Rattle.cca_inputs.specs.declared.file_text.FileText.{FileText}
 use Rattle.cca_inputs.specs.declared.status.FileKind.{FileKind}

@@ -1,6 +1,6 @@
 -- From a file of bytes to the value of an input.
 use Rattle.std.specs.Prelude.{◌≡◌, ◌⊎◌, ◌≤◌, ◌<◌, ◌+◌, ℕ, IsSome, Option, Some, List, length}
-use Rattle.limits.specs.declared.LimitKind.TheVariants.{Bytes}
+use Rattle.log_file.specs.limits.specs.declared.LimitKind.TheVariants.{Bytes}
 use Rattle.cca_base.specs.Faults.{Rose}
 use Rattle.cca_base.specs.Files.{Agrees, CountsOnly, Folder, GaveAll, KeepsFiles}
 use Rattle.cca_inputs.specs.Statuses.{IsStop}

@@ -1,8 +1,8 @@
 -- The line that is printed for each status other than Done.
 use Rattle.std.specs.Prelude.{ℕ, List, [], ◌∷◌, ◌++◌, codes}
 use Rattle.std.specs.Fmt.{decimal}
-use Rattle.limits.specs.declared.LimitKind.{LimitKind}
-use Rattle.limits.specs.declared.LimitKind.TheVariants.{Bytes, Categories, Lots, States, Bidders, Bids, Records, Rounds, Price, Winners}
+use Rattle.log_file.specs.limits.specs.declared.LimitKind.{LimitKind}
+use Rattle.log_file.specs.limits.specs.declared.LimitKind.TheVariants.{Bytes, Categories, Lots, States, Bidders, Bids, Records, Rounds, Price, Winners}
 use Rattle.cca_inputs.specs.declared.status.CertKind.{CertKind}
 use Rattle.cca_inputs.specs.declared.status.CertKind.TheVariants as certs
 use Rattle.cca_inputs.specs.declared.status.FileKind.{FileKind}

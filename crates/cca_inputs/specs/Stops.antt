@@ -1,14 +1,14 @@
 -- The status that stands for the stop of a reader.
 use Rattle.std.specs.Prelude.{ℕ, ◌+◌}
-use Rattle.limits.specs.declared.LimitKind.TheVariants.{Bytes}
+use Rattle.log_file.specs.limits.specs.declared.LimitKind.TheVariants.{Bytes}
 use Rattle.cca_base.specs.declared.read.ReadStop.{ReadStop}
 use Rattle.cca_base.specs.declared.read.ReadStop.TheVariants as read
-use Rattle.bid_book.specs.declared.BookStop.{BookStop}
-use Rattle.bid_book.specs.declared.BookStop.TheVariants as book
-use Rattle.cert_text.specs.declared.stop.CertStop.{CertStop}
-use Rattle.cert_text.specs.declared.stop.CertStop.TheVariants as cert
-use Rattle.award_file.specs.declared.read.AwardStop.{AwardStop}
-use Rattle.award_file.specs.declared.read.AwardStop.TheVariants as award
+use Rattle.log_file.specs.bid_book.specs.declared.BookStop.{BookStop}
+use Rattle.log_file.specs.bid_book.specs.declared.BookStop.TheVariants as book
+use Rattle.place_cert.specs.cert_text.specs.declared.stop.CertStop.{CertStop}
+use Rattle.place_cert.specs.cert_text.specs.declared.stop.CertStop.TheVariants as cert
+use Rattle.log_file.specs.award_file.specs.declared.read.AwardStop.{AwardStop}
+use Rattle.log_file.specs.award_file.specs.declared.read.AwardStop.TheVariants as award
 use Rattle.log_file.specs.declared.LogStop.{LogStop}
 use Rattle.log_file.specs.declared.LogStop.TheVariants as log
 use Rattle.weights_file.specs.declared.WeightStop.{WeightStop}

@@ -1,11 +1,11 @@
 // A certificate that is checked from pieces of its file.
 ghost use Rattle.std.specs.Prelude.{◌≡◌, ◌≢◌, ◌≤◌, ◌<◌, ℕ, List, Err, length, IfOk, IfErr, IsTrue, IsSome};
-ghost use Rattle.limits.specs.declared.TheConstants.{CERT_BYTES};
-ghost use Rattle.auction_model.specs.Prices.{AreWeights};
+ghost use Rattle.log_file.specs.limits.specs.declared.TheConstants.{CERT_BYTES};
+ghost use Rattle.log_file.specs.auction_model.specs.Prices.{AreWeights};
 ghost use Rattle.cca_base.specs.Faults.{Rose};
 ghost use Rattle.cca_base.specs.Files.{CountsOnly, GaveMore, KeepsFiles};
-ghost use Rattle.cert_laws.specs.Tests.{bidders_of, states};
-ghost use Rattle.cert_pieces.specs.Rooms.{room_size};
+ghost use Rattle.stream_check.specs.cert_laws.specs.Tests.{bidders_of, states};
+ghost use Rattle.stream_check.specs.cert_pieces.specs.Rooms.{room_size};
 ghost use Rattle.stream_check.specs.Standing.{StandsFor};
 ghost use Rattle.cca_inputs.specs.Checked.{IsFed, IsJudged, ShowsFacts, StopsCheck, text_status};
 ghost use Rattle.cca_inputs.specs.Reading.{InputStops, IsRead, OnlyLoads};
@@ -13,15 +13,15 @@ ghost use Rattle.cca_inputs.specs.declared.status.FileKind.TheVariants.{Cert};
 
 use crate::stops::status_of_read;
 use crate::{CertKind, FileKind, Status};
-use bid_book::BidBook;
 use cca_base::{Files, ReadStop};
-use cert_check::Verdict;
-use cert_facts::CertFacts;
-use cert_form::one_cert;
-use cert_pieces::TextStop;
-use limits::CERT_BYTES;
+use log_file::bid_book::BidBook;
+use log_file::limits::CERT_BYTES;
+use place_cert::cert_form::one_cert;
 use std::alloc::{AllocError, Global};
 use stream_check::StreamCheck;
+use stream_check::cert_check::Verdict;
+use stream_check::cert_facts::CertFacts;
+use stream_check::cert_pieces::TextStop;
 
 // Bytes that one load asks for.
 const PIECE: usize = 4_096;

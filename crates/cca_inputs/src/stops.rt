@@ -4,13 +4,13 @@ ghost use Rattle.cca_inputs.specs.Stops.{award_status, book_status, cert_status,
 ghost use Rattle.cca_inputs.specs.declared.status.Status.TheVariants.{Memory};
 
 use crate::{FileKind, Status};
-use award_file::AwardStop;
-use bid_book::BookStop;
 use cca_base::ReadStop;
-use cert_text::CertStop;
 use edits_file::EditStop;
-use limits::LimitKind;
 use log_file::LogStop;
+use log_file::award_file::AwardStop;
+use log_file::bid_book::BookStop;
+use log_file::limits::LimitKind;
+use place_cert::cert_text::CertStop;
 use slot_places::SlotStop;
 use std::alloc::{AllocError, AllocFailed};
 use weights_file::WeightStop;

@@ -6,7 +6,7 @@ ghost use Rattle.cca_inputs.specs.Words.{AreAmong, command_value};
 
 use crate::price_form::asked_form;
 use crate::{FileKind, PriceForm};
-use wide_num::read_natural;
+use log_file::wide_num::read_natural;
 
 // The greatest number from which an auction is made.
 const MOST_NUMBER: u128 = u32::MAX as u128;

@@ -2,32 +2,32 @@
 use Rattle.std.specs.Prelude.{◌≡◌, ℕ, ℤ, false, ◌≤◌, ◌<◌, ◌^◌, Option, Some, None, Result, Ok, Err, slice_index_or, List, [], ◌∷◌, ◌++◌, codes, length, pos, reverse, ◌≤ℤ◌, refl}
 use Rattle.std.proofs.Common.{inl, inr, sym, ◌∙◌, ap, subst, arith}
 use Rattle.std.proofs.lemmas.Bool.{cases_lt}
-use Rattle.line_text.specs.LineText.{Said, stated, faulty, beyond, Says, text_of}
-use Rattle.auction_model.specs.Book.{Book, market_of}
-use Rattle.auction_model.specs.Prices.{Point, SamePoint, weight_of}
-use Rattle.book_form.specs.BookForm.{IsBook}
-use Rattle.book_form.specs.BookLines.{Excess, lines}
-use Rattle.bid_book.proofs.Within.{kept}
-use Rattle.bid_book.specs.Kept.{IsBidBook}
-use Rattle.cert_form.specs.Certificate.{CertValue}
-use Rattle.auction_rules.specs.Terms.{Terms}
-use Rattle.auction_rules.specs.declared.Event.{Event}
-use Rattle.award_file.specs.Award.{IsAward}
-use Rattle.log_file.specs.LogReading.{AreLog, log_records}
+use Rattle.cca_inputs.specs.line_text.specs.LineText.{Said, stated, faulty, beyond, Says, text_of}
+use Rattle.auction_outcome.specs.auction_model.specs.Book.{Book, market_of}
+use Rattle.auction_outcome.specs.auction_model.specs.Prices.{Point, SamePoint, weight_of}
+use Rattle.cca_inputs.specs.book_form.specs.BookForm.{IsBook}
+use Rattle.cca_inputs.specs.book_form.specs.BookLines.{Excess, lines}
+use Rattle.cca_inputs.specs.bid_book.proofs.Within.{kept}
+use Rattle.cca_inputs.specs.bid_book.specs.Kept.{IsBidBook}
+use Rattle.cca_inputs.specs.cert_form.specs.Certificate.{CertValue}
+use Rattle.big_auction.specs.auction_rules.specs.Terms.{Terms}
+use Rattle.big_auction.specs.auction_rules.specs.declared.Event.{Event}
+use Rattle.big_auction.specs.award_file.specs.Award.{IsAward}
+use Rattle.big_auction.specs.log_file.specs.LogReading.{AreLog, log_records}
 use Rattle.log_replay.specs.ReplyLines.{end_of}
 use Rattle.log_replay.specs.declared.results.ReplayStop.{ReplayStop}
-use Rattle.cca_base.specs.Files.{added}
-use Rattle.cert_form.specs.CertText.{IsCertificate, body_lines}
-use Rattle.cert_form.specs.Lines.{Line, lines as spelled, over, spell, version_lines}
-use Rattle.cert_form.specs.Says.{CertSays, cert_text}
-use Rattle.cert_laws.specs.BookSizes.{IsWithinSizes}
-use Rattle.cert_laws.specs.Priced.{IsPricedCert}
-use Rattle.cert_laws.specs.Sound.{cert_point, cert_prices}
-use Rattle.cert_laws.specs.Tests.{FailsFirst, Holds, bidders_of, states}
-use Rattle.limits.specs.declared.TheConstants.{AWARD_BYTES, BOOK_BYTES, CERT_BYTES, LOG_BYTES, MOST_WINNERS}
-use Rattle.print_form.specs.Prices.{IsPriceText}
-use Rattle.row_laws.specs.Winners.{winners_in}
-use Rattle.value_table.proofs.Plain.{net-small}
+use Rattle.cca_inputs.specs.cca_base.specs.Files.{added}
+use Rattle.cca_inputs.specs.cert_form.specs.CertText.{IsCertificate, body_lines}
+use Rattle.cca_inputs.specs.cert_form.specs.Lines.{Line, lines as spelled, over, spell, version_lines}
+use Rattle.cca_inputs.specs.cert_form.specs.Says.{CertSays, cert_text}
+use Rattle.place_price.specs.cert_laws.specs.BookSizes.{IsWithinSizes}
+use Rattle.place_price.specs.cert_laws.specs.Priced.{IsPricedCert}
+use Rattle.place_price.specs.cert_laws.specs.Sound.{cert_point, cert_prices}
+use Rattle.place_price.specs.cert_laws.specs.Tests.{FailsFirst, Holds, bidders_of, states}
+use Rattle.cca_inputs.specs.limits.specs.declared.TheConstants.{AWARD_BYTES, BOOK_BYTES, CERT_BYTES, LOG_BYTES, MOST_WINNERS}
+use Rattle.place_outcome.specs.print_form.specs.Prices.{IsPriceText}
+use Rattle.big_auction.specs.row_laws.specs.Winners.{winners_in}
+use Rattle.review_text.specs.value_table.proofs.Plain.{net-small}
 use Rattle.cca_inputs.specs.Answers.{AwardAnswers, BookAnswers, CertAnswers, LogAnswers, book_answer, cert_answer}
 use Rattle.cca_inputs.specs.Command.{form_with, price, check, award, audit}
 use Rattle.cca_inputs.specs.Outcome.{Answer, AnswerGives, FileAnswers, InputGives, Outcome, stopped, stops, value}

@@ -4,8 +4,8 @@ use Rattle.std.specs.Prelude.{Contains}
 use Rattle.std.specs.Str.{bytes_eq}
 use Rattle.std.proofs.lemmas.Bool.{true≢false, cases_Bool}
 use Rattle.std.proofs.lemmas.Slice.Eq.{bytes_eq-Decides}
-use Rattle.cca_base.specs.Faults.{Rose}
-use Rattle.cca_base.specs.Files.{CountsOnly}
+use Rattle.cca_inputs.specs.cca_base.specs.Faults.{Rose}
+use Rattle.cca_inputs.specs.cca_base.specs.Files.{CountsOnly}
 use Rattle.cca_run.specs.Run.{CountsAmong}
 
 -- counts that stay rise for these names at most

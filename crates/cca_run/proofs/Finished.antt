@@ -1,9 +1,9 @@
 -- How a command ends that has its work, and how a run then ends.
 use Rattle.std.proofs.Common.{inl, inr, ◌≡◌, ◌⊎◌, ◌∙◌, ℕ, ◌≤◌, ◌<◌, Option, Some, List, length, refl, sym, ap, subst}
-use Rattle.cca_base.specs.Faults.{Rose}
-use Rattle.cca_base.specs.Files.{Agrees, Folder}
-use Rattle.cca_base.proofs.Given.{agrees_same, agrees_told}
-use Rattle.cca_base.specs.Sink.{HasRoom, Output, Puts}
+use Rattle.cca_inputs.specs.cca_base.specs.Faults.{Rose}
+use Rattle.cca_inputs.specs.cca_base.specs.Files.{Agrees, Folder}
+use Rattle.cca_inputs.specs.cca_base.proofs.Given.{agrees_same, agrees_told}
+use Rattle.cca_inputs.specs.cca_base.specs.Sink.{HasRoom, Output, Puts}
 use Rattle.cca_inputs.specs.Command.{CommandValue, inputs_of, output_as, outputs_of}
 use Rattle.cca_inputs.specs.Outcome.{Outcome, done}
 use Rattle.cca_inputs.specs.StatusLine.{status_line}

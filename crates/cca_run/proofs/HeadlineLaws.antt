@@ -3,30 +3,30 @@ use Rattle.std.proofs.Common.{◌≡◌, ◌∙◌, ℕ, Option, Some, None, Lis
 use Rattle.std.specs.Prelude.{◌-◌, ◌<◌, ◌≤◌, Result, Ok, Err, reverse}
 use Rattle.std.proofs.lemmas.Bool.{cases_lt}
 use Rattle.std.proofs.lemmas.List.{get_or-replicate}
-use Rattle.auction_model.specs.Book.{Book, market_of}
-use Rattle.auction_model.specs.Greatest.{IsWinning}
-use Rattle.auction_model.specs.Market.{Market}
-use Rattle.auction_model.specs.Prices.{IsCoreOutcome, Point, weight_of}
+use Rattle.auction_outcome.specs.auction_model.specs.Book.{Book, market_of}
+use Rattle.auction_outcome.specs.auction_model.specs.Greatest.{IsWinning}
+use Rattle.auction_outcome.specs.auction_model.specs.Market.{Market}
+use Rattle.auction_outcome.specs.auction_model.specs.Prices.{IsCoreOutcome, Point, weight_of}
 use Rattle.auction_outcome.specs.Outcome.{IsAuctionOutcome}
-use Rattle.auction_rules.specs.Terms.{Terms}
-use Rattle.auction_rules.specs.declared.Event.{Event}
-use Rattle.award_file.specs.Reading as reading
-use Rattle.log_file.specs.LogReading.{AreLog, log_records}
+use Rattle.big_auction.specs.auction_rules.specs.Terms.{Terms}
+use Rattle.big_auction.specs.auction_rules.specs.declared.Event.{Event}
+use Rattle.big_auction.specs.award_file.specs.Reading as reading
+use Rattle.big_auction.specs.log_file.specs.LogReading.{AreLog, log_records}
 use Rattle.log_replay.specs.ReplyLines.{end_of}
 use Rattle.log_replay.specs.declared.results.ReplayStop.{ReplayStop}
 use Rattle.log_replay.specs.declared.results.ReplayStop.TheVariants.{Rounds, Price, Open}
-use Rattle.line_text.specs.LineText.{Said, stated, faulty, beyond}
-use Rattle.cert_form.specs.Certificate.{CertValue}
-use Rattle.bid_book.specs.Kept.{IsBidBook}
-use Rattle.award_file.specs.Award.{IsAward}
-use Rattle.row_laws.specs.Winners.{winners_in}
-use Rattle.cert_form.specs.CertText.{IsCertificate}
-use Rattle.cert_form.specs.Says.{CertSays, cert_text}
-use Rattle.cert_laws.specs.BookSizes.{IsWithinSizes}
-use Rattle.cert_laws.specs.Priced.{IsPricedCert}
-use Rattle.cert_laws.specs.Sound.{cert_point}
-use Rattle.cert_laws.specs.Tests.{bidders_of, states}
-use Rattle.limits.specs.declared.TheConstants.{AWARD_BYTES, LOG_BYTES, CERT_BYTES, MOST_WINNERS}
+use Rattle.cca_inputs.specs.line_text.specs.LineText.{Said, stated, faulty, beyond}
+use Rattle.cca_inputs.specs.cert_form.specs.Certificate.{CertValue}
+use Rattle.cca_inputs.specs.bid_book.specs.Kept.{IsBidBook}
+use Rattle.big_auction.specs.award_file.specs.Award.{IsAward}
+use Rattle.big_auction.specs.row_laws.specs.Winners.{winners_in}
+use Rattle.cca_inputs.specs.cert_form.specs.CertText.{IsCertificate}
+use Rattle.cca_inputs.specs.cert_form.specs.Says.{CertSays, cert_text}
+use Rattle.place_price.specs.cert_laws.specs.BookSizes.{IsWithinSizes}
+use Rattle.place_price.specs.cert_laws.specs.Priced.{IsPricedCert}
+use Rattle.place_price.specs.cert_laws.specs.Sound.{cert_point}
+use Rattle.place_price.specs.cert_laws.specs.Tests.{bidders_of, states}
+use Rattle.cca_inputs.specs.limits.specs.declared.TheConstants.{AWARD_BYTES, LOG_BYTES, CERT_BYTES, MOST_WINNERS}
 use Rattle.cca_inputs.specs.Answers.{AwardAnswers, CertAnswers, LogAnswers, award_answer, cert_answer}
 use Rattle.cca_inputs.specs.Command.{award, audit}
 use Rattle.cca_inputs.specs.Outcome.{Answer, FileAnswers, AnswerGives, InputGives, Outcome, stops, value}

@@ -1,13 +1,13 @@
 -- The bytes of an award and of its log give one outcome of an auction.
 use Rattle.std.proofs.Common.{◌≡◌, ◌∙◌, ℕ, Option, Some, None, List, [], ◌∷◌, sym, ap, subst}
 use Rattle.std.specs.Prelude.{Result, Ok, Err}
-use Rattle.limits.specs.declared.TheConstants.{AWARD_BYTES, LOG_BYTES}
-use Rattle.line_text.specs.LineText.{stated, Says}
-use Rattle.auction_model.specs.Book.{Book}
-use Rattle.auction_rules.specs.Terms.{Terms}
-use Rattle.auction_rules.specs.declared.Event.{Event}
-use Rattle.book_form.specs.BookForm.{IsBook}
-use Rattle.book_form.specs.BookLines.{lines}
+use Rattle.cca_inputs.specs.limits.specs.declared.TheConstants.{AWARD_BYTES, LOG_BYTES}
+use Rattle.cca_inputs.specs.line_text.specs.LineText.{stated, Says}
+use Rattle.auction_outcome.specs.auction_model.specs.Book.{Book}
+use Rattle.big_auction.specs.auction_rules.specs.Terms.{Terms}
+use Rattle.big_auction.specs.auction_rules.specs.declared.Event.{Event}
+use Rattle.cca_inputs.specs.book_form.specs.BookForm.{IsBook}
+use Rattle.cca_inputs.specs.book_form.specs.BookLines.{lines}
 use Rattle.log_replay.specs.declared.results.ReplayStop.{ReplayStop}
 use Rattle.cca_inputs.specs.Answers.{AwardAnswers, LogAnswers}
 use Rattle.cca_inputs.specs.Command.{auction, contents_of}

@@ -1,8 +1,8 @@
 -- The bytes of an award, and of a log of an award, have one answer.
 use Rattle.std.proofs.Common.{inl, inr, ◌≡◌, ◌∙◌, ℕ, List, sym, ap}
-use Rattle.auction_rules.specs.Terms.{Terms}
-use Rattle.auction_rules.specs.declared.Event.{Event}
-use Rattle.log_file.specs.LogReading.{AreLog, AreTooMany, IsFirstFault, log_records}
+use Rattle.big_auction.specs.auction_rules.specs.Terms.{Terms}
+use Rattle.big_auction.specs.auction_rules.specs.declared.Event.{Event}
+use Rattle.big_auction.specs.log_file.specs.LogReading.{AreLog, AreTooMany, IsFirstFault, log_records}
 use Rattle.cca_inputs.specs.Answers.{AwardAnswers, LogAnswers, RecordsAnswer}
 use Rattle.cca_inputs.specs.Outcome.{Answer, stops, value}
 use Rattle.cca_inputs.specs.declared.status.FileKind.TheVariants.{Log}

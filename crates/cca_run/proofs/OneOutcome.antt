@@ -2,42 +2,42 @@
 use Rattle.std.specs.Prelude.{◌≡◌, ℕ, ℤ, Bool, true, false, ◌≤◌, ◌<◌, ◌^◌, Option, Some, None, List, [], ◌∷◌, ◌++◌, codes, length, pos, ◌≤ℤ◌, refl}
 use Rattle.std.proofs.Common.{inl, inr, sym, ◌∙◌, ap, subst, arith}
 use Rattle.std.proofs.lemmas.Bool.{cases_lt}
-use Rattle.line_text.specs.LineText.{Said, stated, faulty, beyond, Says}
-use Rattle.auction_model.specs.Market.{Market}
-use Rattle.auction_model.specs.Greatest.{IsWinning}
-use Rattle.auction_model.specs.Lawful.{IsMarket}
-use Rattle.auction_model.specs.Book.{Book, bids_of, net_of, market_of}
-use Rattle.auction_model.specs.Prices.{Point, AreVickreyPrices, AreWeights, IsCoreOutcome, SamePoint, weight_of}
-use Rattle.auction_model.specs.PricingRun.{Turn, IsPricingRun}
-use Rattle.book_form.specs.BookForm.{IsBook}
-use Rattle.book_form.specs.BookLines.{Excess, IsBookWithinLimits, lines}
-use Rattle.print_form.specs.WinText.{win_text}
-use Rattle.bid_book.proofs.Within.{kept}
-use Rattle.cert_form.specs.Certificate.{CertValue}
-use Rattle.cert_form.specs.Says.{CertSays, cert_text}
-use Rattle.cert_laws.specs.Sound.{IsSound, cert_point, cert_prices}
-use Rattle.cert_laws.specs.Tests.{FailsFirst, Holds, bidders_of, states}
-use Rattle.print_form.specs.Json.{IsOutcomeJson}
-use Rattle.print_form.specs.Prices.{IsPriceText}
-use Rattle.print_form.specs.Turns.{AreTurnLines}
-use Rattle.row_laws.specs.Winners.{winners_in}
-use Rattle.core_price.specs.Weights.{FewWin}
+use Rattle.cca_inputs.specs.line_text.specs.LineText.{Said, stated, faulty, beyond, Says}
+use Rattle.auction_outcome.specs.auction_model.specs.Market.{Market}
+use Rattle.auction_outcome.specs.auction_model.specs.Greatest.{IsWinning}
+use Rattle.auction_outcome.specs.auction_model.specs.Lawful.{IsMarket}
+use Rattle.auction_outcome.specs.auction_model.specs.Book.{Book, bids_of, net_of, market_of}
+use Rattle.auction_outcome.specs.auction_model.specs.Prices.{Point, AreVickreyPrices, AreWeights, IsCoreOutcome, SamePoint, weight_of}
+use Rattle.auction_outcome.specs.auction_model.specs.PricingRun.{Turn, IsPricingRun}
+use Rattle.cca_inputs.specs.book_form.specs.BookForm.{IsBook}
+use Rattle.cca_inputs.specs.book_form.specs.BookLines.{Excess, IsBookWithinLimits, lines}
+use Rattle.place_outcome.specs.print_form.specs.WinText.{win_text}
+use Rattle.cca_inputs.specs.bid_book.proofs.Within.{kept}
+use Rattle.cca_inputs.specs.cert_form.specs.Certificate.{CertValue}
+use Rattle.cca_inputs.specs.cert_form.specs.Says.{CertSays, cert_text}
+use Rattle.place_price.specs.cert_laws.specs.Sound.{IsSound, cert_point, cert_prices}
+use Rattle.place_price.specs.cert_laws.specs.Tests.{FailsFirst, Holds, bidders_of, states}
+use Rattle.place_outcome.specs.print_form.specs.Json.{IsOutcomeJson}
+use Rattle.place_outcome.specs.print_form.specs.Prices.{IsPriceText}
+use Rattle.place_outcome.specs.print_form.specs.Turns.{AreTurnLines}
+use Rattle.big_auction.specs.row_laws.specs.Winners.{winners_in}
+use Rattle.place_outcome.specs.core_price.specs.Weights.{FewWin}
 use Rattle.std.specs.Prelude.{Result, Ok, Err, reverse}
-use Rattle.award_file.specs.Award.{IsAward}
-use Rattle.log_file.specs.LogReading.{AreLog, log_records}
+use Rattle.big_auction.specs.award_file.specs.Award.{IsAward}
+use Rattle.big_auction.specs.log_file.specs.LogReading.{AreLog, log_records}
 use Rattle.log_replay.specs.ReplyLines.{end_of}
-use Rattle.auction_rules.specs.Terms.{Terms}
-use Rattle.auction_rules.specs.declared.Event.{Event}
+use Rattle.big_auction.specs.auction_rules.specs.Terms.{Terms}
+use Rattle.big_auction.specs.auction_rules.specs.declared.Event.{Event}
 use Rattle.log_replay.specs.declared.results.ReplayStop.{ReplayStop}
-use Rattle.weights_file.specs.WeightsForm.{WeightsSay}
-use Rattle.edits_file.specs.EditsForm.{AreNamedEdits, EditsSay, NamedEdit, add, raise, remove, edits_of}
-use Rattle.review.specs.Edits.{edit_lots}
+use Rattle.cca_inputs.specs.weights_file.specs.WeightsForm.{WeightsSay}
+use Rattle.cca_inputs.specs.edits_file.specs.EditsForm.{AreNamedEdits, EditsSay, NamedEdit, add, raise, remove, edits_of}
+use Rattle.review_text.specs.review.specs.Edits.{edit_lots}
 use Rattle.std.specs.List.{AllByRecursion}
-use Rattle.review.specs.declared.edit.Edit.{Edit}
+use Rattle.review_text.specs.review.specs.declared.edit.Edit.{Edit}
 use Rattle.review_text.specs.ReviewText.{IsReviewText}
 use Rattle.cca_run.proofs.Same.{Same, both, equal, one-answer, one-input, printed-same}
 use Rattle.cca_run.proofs.OneLog.{one_award-answer}
-use Rattle.book_price.proofs.Ones.{ones-weigh}
+use Rattle.place_price.specs.book_price.proofs.Ones.{ones-weigh}
 use Rattle.cca_run.proofs.Ones.{not_few_and_many}
 use Rattle.cca_inputs.specs.Answers.{AwardAnswers, BookAnswers, CertAnswers, EditsAnswers, LogAnswers, WeightsAnswers, book_answer, cert_answer, edits_answer, weights_answer}
 use Rattle.cca_inputs.specs.Command.{CommandValue, win, price, check, weigh, weigh_check, auction, award, audit, make, place, place_check, review, command_of, contents_of}
@@ -47,10 +47,10 @@ use Rattle.cca_inputs.specs.declared.price_form.PriceForm.{PriceForm}
 use Rattle.cca_inputs.specs.declared.status.CertKind.TheVariants as certs
 use Rattle.cca_inputs.specs.declared.status.FileKind.{FileKind}
 use Rattle.cca_inputs.specs.declared.status.FileKind.TheVariants.{Award, Log, Book as BookFile, Cert, Weights, Slots, Edits}
-use Rattle.limits.specs.declared.TheConstants.{AWARD_BYTES, LOG_BYTES, BOOK_BYTES, CERT_BYTES, EDITS_BYTES, SLOTS_BYTES, WEIGHTS_BYTES}
+use Rattle.cca_inputs.specs.limits.specs.declared.TheConstants.{AWARD_BYTES, LOG_BYTES, BOOK_BYTES, CERT_BYTES, EDITS_BYTES, SLOTS_BYTES, WEIGHTS_BYTES}
 use Rattle.cca_run.specs.Gives.{ArePriceLines, AreRounds, AuctionGives, BookOfLogGives, CertGives, CommandGives, EditsGive, Gives, EndGives, HasTooMany, IsPricing, IsPrinted, IsYesText, LogGives, PriceGives, RepliesGive, ReviewGives, VerdictGives, WeightsGive, WinGives, WordsGive, book_file, cert_file, ones}
 use Rattle.cca_inputs.specs.declared.status.Status.TheVariants.{No, Limit}
-use Rattle.limits.specs.declared.LimitKind.TheVariants.{Winners}
+use Rattle.cca_inputs.specs.limits.specs.declared.LimitKind.TheVariants.{Winners}
 
 -- what a log leads to gives one status and one text
 one-end : (records : ℕ) (replies : List ℕ) (end : Result Book ReplayStop) (o p : Outcome) → RepliesGive records replies end o → RepliesGive records replies end p → Same o p

@@ -3,8 +3,8 @@ use Rattle.std.proofs.Common.{inl, inr, ◌≡◌, ◌∙◌, ℕ, ◌≤◌, Is
 use Rattle.std.specs.Prelude.{Contains, option_and_then, Result, Ok, Err, IsSome, reverse}
 use Rattle.std.specs.List.{AllByRecursion}
 use Rattle.std.proofs.lemmas.Bool.{cases_lt}
-use Rattle.cca_base.specs.Files.{Agrees, Folder, GaveAll}
-use Rattle.cca_base.proofs.Given.{agrees_first, agrees_next, keeps_more, keeps_still}
+use Rattle.cca_inputs.specs.cca_base.specs.Files.{Agrees, Folder, GaveAll}
+use Rattle.cca_inputs.specs.cca_base.proofs.Given.{agrees_first, agrees_next, keeps_more, keeps_still}
 use Rattle.cca_inputs.specs.Command.{CommandValue, contents_of, input_as, inputs_of, missing, output_as}
 use Rattle.cca_inputs.specs.Outcome.{Answer, AnswerGives, FileAnswers, InputGives, Outcome, done, stopped, stopped_after, stops, value}
 use Rattle.cca_inputs.specs.Reading.{Halts, InputStops, OnlyLoads}
@@ -12,13 +12,13 @@ use Rattle.cca_inputs.specs.declared.file_text.FileText.{FileText}
 use Rattle.cca_inputs.specs.declared.status.FileKind.{FileKind}
 use Rattle.cca_inputs.specs.declared.status.Status.{Status}
 use Rattle.cca_inputs.specs.declared.status.Status.TheVariants.{Memory, ReadFault}
-use Rattle.auction_model.specs.Book.{Book}
-use Rattle.auction_rules.specs.Terms.{Terms}
-use Rattle.auction_rules.specs.declared.Event.{Event}
+use Rattle.auction_outcome.specs.auction_model.specs.Book.{Book}
+use Rattle.big_auction.specs.auction_rules.specs.Terms.{Terms}
+use Rattle.big_auction.specs.auction_rules.specs.declared.Event.{Event}
 use Rattle.log_replay.specs.ReplyLines.{end_of}
 use Rattle.log_replay.specs.declared.results.ReplayStop.{ReplayStop}
 use Rattle.log_replay.specs.declared.results.ReplayStop.TheVariants.{Rounds, Price, Open}
-use Rattle.cert_form.specs.Certificate.{CertValue}
+use Rattle.cca_inputs.specs.cert_form.specs.Certificate.{CertValue}
 use Rattle.cca_inputs.specs.Answers.{CertAnswers}
 use Rattle.cca_inputs.specs.Checked.{StopsCheck}
 use Rattle.cca_run.specs.Gives.{BookOfLogGives, CommandGives, EndGives, FilesGive, VerdictGives, replay_status}

@@ -3,7 +3,7 @@ use Rattle.std.proofs.Common.{inr, ◌≡◌, ◌∙◌, ℕ, ◌≤◌, ◌+◌
 use Rattle.std.specs.Option.{option_map, IfSome}
 use Rattle.std.proofs.lemmas.List.{length-append, take-append-le}
 use Rattle.std.proofs.Math.Seq.{take-length, take-append-add}
-use Rattle.cca_base.specs.Sink.{HasRoom, Output, Puts}
+use Rattle.cca_inputs.specs.cca_base.specs.Sink.{HasRoom, Output, Puts}
 use Rattle.cca_inputs.specs.declared.status.FileKind.TheVariants.{Out}
 use Rattle.cca_inputs.specs.declared.status.Status.{Status}
 use Rattle.cca_inputs.specs.declared.status.Status.TheVariants.{WriteFault}

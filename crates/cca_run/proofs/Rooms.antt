@@ -5,8 +5,8 @@ use Rattle.std.specs.Option.{option_map, option_map_or}
 use Rattle.std.specs.Str.{bytes_eq}
 use Rattle.std.proofs.lemmas.Bool.{true≢false, cases_Bool}
 use Rattle.std.proofs.lemmas.Slice.Eq.{bytes_eq-Decides}
-use Rattle.cca_base.specs.Files.{Agrees, Folder}
-use Rattle.cca_base.specs.Sink.{HasRoom, Output}
+use Rattle.cca_inputs.specs.cca_base.specs.Files.{Agrees, Folder}
+use Rattle.cca_inputs.specs.cca_base.specs.Sink.{HasRoom, Output}
 use Rattle.cca_inputs.specs.Command.{CommandValue, command_of, output_as}
 use Rattle.cca_inputs.specs.StatusLine.{status_line}
 use Rattle.cca_inputs.specs.Statuses.{IsDecided}

@@ -1,8 +1,8 @@
 -- How the end of a run bears the headline.
 use Rattle.std.proofs.Common.{◌≡◌, ◌⊎◌, ◌∙◌, ℕ, IsTrue, Option, Some, None, List, [], ◌∷◌, length, refl, sym, ap, subst, arith, inl, inr}
 use Rattle.std.proofs.lemmas.List.{take_all}
-use Rattle.cca_base.specs.Files.{Adds, Agrees, Folder, added}
-use Rattle.cca_base.specs.Sink.{Output, Puts}
+use Rattle.cca_inputs.specs.cca_base.specs.Files.{Adds, Agrees, Folder, added}
+use Rattle.cca_inputs.specs.cca_base.specs.Sink.{Output, Puts}
 use Rattle.cca_inputs.specs.Command.{CommandValue, audit, award, command_of}
 use Rattle.cca_inputs.specs.Outcome.{Outcome}
 use Rattle.cca_inputs.specs.Statuses.{IsDecided}

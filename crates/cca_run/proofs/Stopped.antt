@@ -1,9 +1,9 @@
 -- How a run ends whose way to the work stopped, or whose words say no command.
 use Rattle.std.proofs.Common.{inl, inr, ◌≡◌, ◌⊎◌, ◌∙◌, ℕ, ◌<◌, Option, Some, List, [], ◌++◌, length, refl, sym, ap, subst}
-use Rattle.cca_base.specs.Faults.{Rose}
-use Rattle.cca_base.specs.Files.{Agrees, Folder, KeepsFiles}
-use Rattle.cca_base.proofs.Given.{agrees_told, keeps_still}
-use Rattle.cca_base.specs.Sink.{HasRoom, Output, Puts}
+use Rattle.cca_inputs.specs.cca_base.specs.Faults.{Rose}
+use Rattle.cca_inputs.specs.cca_base.specs.Files.{Agrees, Folder, KeepsFiles}
+use Rattle.cca_inputs.specs.cca_base.proofs.Given.{agrees_told, keeps_still}
+use Rattle.cca_inputs.specs.cca_base.specs.Sink.{HasRoom, Output, Puts}
 use Rattle.cca_inputs.specs.Command.{CommandValue, outputs_of}
 use Rattle.cca_inputs.specs.Outcome.{Outcome, stopped_after}
 use Rattle.cca_inputs.specs.StatusLine.{status_line}

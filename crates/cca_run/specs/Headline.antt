@@ -1,23 +1,23 @@
 -- The headline: from the bytes of three files to the book of a log and the outcome of the auction.
 use Rattle.std.specs.Prelude.{◌≡◌, ◌≤◌, ◌<◌, ℕ, IsTrue, Option, Some, None, List, length, reverse}
-use Rattle.auction_model.specs.Book.{Book, market_of}
-use Rattle.auction_model.specs.Greatest.{IsWinning}
+use Rattle.auction_outcome.specs.auction_model.specs.Book.{Book, market_of}
+use Rattle.auction_outcome.specs.auction_model.specs.Greatest.{IsWinning}
 use Rattle.auction_outcome.specs.Outcome.{IsAuctionOutcome}
-use Rattle.auction_rules.specs.BookOfLog.{book_of_log, is_complete}
-use Rattle.auction_rules.specs.Terms.{Terms}
-use Rattle.auction_rules.specs.declared.Event.{Event}
-use Rattle.award_file.specs.Reading.{reading, states}
-use Rattle.log_file.specs.LogReading.{AreLog, log_records}
-use Rattle.cert_form.specs.Certificate.{CertValue}
-use Rattle.cert_form.specs.Says.{CertSays, cert_text}
-use Rattle.cert_laws.specs.Priced.{IsPricedCert}
-use Rattle.cert_laws.specs.Sound.{cert_point}
-use Rattle.cert_laws.specs.Tests as tests
-use Rattle.line_text.specs.LineText.{stated}
-use Rattle.auction_model.specs.Prices.{weight_of}
-use Rattle.limits.specs.declared.TheConstants.{AWARD_BYTES, LOG_BYTES, MOST_WINNERS}
+use Rattle.big_auction.specs.auction_rules.specs.BookOfLog.{book_of_log, is_complete}
+use Rattle.big_auction.specs.auction_rules.specs.Terms.{Terms}
+use Rattle.big_auction.specs.auction_rules.specs.declared.Event.{Event}
+use Rattle.big_auction.specs.award_file.specs.Reading.{reading, states}
+use Rattle.big_auction.specs.log_file.specs.LogReading.{AreLog, log_records}
+use Rattle.cca_inputs.specs.cert_form.specs.Certificate.{CertValue}
+use Rattle.cca_inputs.specs.cert_form.specs.Says.{CertSays, cert_text}
+use Rattle.place_price.specs.cert_laws.specs.Priced.{IsPricedCert}
+use Rattle.place_price.specs.cert_laws.specs.Sound.{cert_point}
+use Rattle.place_price.specs.cert_laws.specs.Tests as tests
+use Rattle.cca_inputs.specs.line_text.specs.LineText.{stated}
+use Rattle.auction_outcome.specs.auction_model.specs.Prices.{weight_of}
+use Rattle.cca_inputs.specs.limits.specs.declared.TheConstants.{AWARD_BYTES, LOG_BYTES, MOST_WINNERS}
 use Rattle.log_replay.specs.ReplyLines.{first_refusal}
-use Rattle.row_laws.specs.Winners.{winners_in}
+use Rattle.big_auction.specs.row_laws.specs.Winners.{winners_in}
 use Rattle.cca_run.specs.Gives.{IsYesText, ones}
 
 -- the file of this name holds bytes of which this is so

@@ -1,7 +1,7 @@
 -- The files as they stand later, when a certificate is tested.
 use Rattle.std.specs.Prelude.{◌≡◌, ℕ, Option, List, [], ◌∷◌, unwrap_or}
 use Rattle.std.specs.List.{AllByRecursion}
-use Rattle.cca_base.specs.Files.{added}
+use Rattle.cca_inputs.specs.cca_base.specs.Files.{added}
 use Rattle.cca_inputs.specs.Outcome.{Outcome}
 use Rattle.cca_run.specs.Gives.{cert_file}
 

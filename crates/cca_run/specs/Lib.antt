@@ -4,3 +4,6 @@ pub mod Works
 pub mod Later
 pub mod Headline
 pub mod Rooms
+pub use Rattle.cca_inputs.specs.cca_base
+pub use Rattle.cca_inputs
+pub use Rattle.review_text.specs.value_table

@@ -1,8 +1,8 @@
 -- How a run ends: the causes of faults, and what is left in the files and in the output.
 use Rattle.std.specs.Prelude.{◌≡◌, ◌⊎◌, ◌<◌, ◌≤◌, ℕ, IsSome, IsTrue, Option, Some, None, List, [], ◌∷◌, ◌++◌, Contains, length}
-use Rattle.cca_base.specs.Faults.{Rose}
-use Rattle.cca_base.specs.Files.{Adds, Agrees, Folder, KeepsFiles}
-use Rattle.cca_base.specs.Sink.{HasRoom, Output, Puts}
+use Rattle.cca_inputs.specs.cca_base.specs.Faults.{Rose}
+use Rattle.cca_inputs.specs.cca_base.specs.Files.{Adds, Agrees, Folder, KeepsFiles}
+use Rattle.cca_inputs.specs.cca_base.specs.Sink.{HasRoom, Output, Puts}
 use Rattle.cca_inputs.specs.Command.{CommandValue, command_of, contents_of, input_as, inputs_of, missing, output_as, outputs_of}
 use Rattle.cca_inputs.specs.Outcome.{Outcome, stopped}
 use Rattle.cca_inputs.specs.StatusLine.{status_line}

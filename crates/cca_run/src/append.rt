@@ -6,7 +6,7 @@ ghost use Rattle.cca_run.specs.Works.{AppendEnds, AreOutputs, OnlyAppends};
 ghost use Rattle.std.specs.Prelude.{[], ◌∷◌};
 
 use crate::FileKind;
-use cca_base::{Files, write_file};
+use cca_inputs::cca_base::{Files, write_file};
 use cca_inputs::{Command, FileText};
 
 // Appends one text to the command's file of its kind, which the error names.

@@ -4,8 +4,8 @@ ghost use Rattle.cca_inputs.specs.Command.{auction};
 ghost use Rattle.cca_inputs.specs.Outcome.{Outcome};
 ghost use Rattle.cca_run.specs.Gives.{FilesGive};
 
-use bid_book::one_text;
-use log_file::one_reading;
+use big_auction::log_file::one_reading;
+use cca_inputs::bid_book::one_text;
 
 /// The bytes of an award and of its log give at most one outcome of an auction: with the status and what is printed, the text of its book
 /// too is one.

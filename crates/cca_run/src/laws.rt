@@ -1,10 +1,10 @@
 // What holds of the definitions of a run, whoever runs it.
 ghost use Rattle.std.specs.Prelude.{◌≡◌, ◌<◌, ◌≤◌, ◌++◌, ◌∷◌, ℕ, false, List, [], Option, codes, length};
-ghost use Rattle.auction_model.specs.Book.{Book};
-ghost use Rattle.cert_laws.specs.Tests.{bidders_of};
-ghost use Rattle.core_price.specs.Weights.{FewWin, ManyWin};
-ghost use Rattle.limits.specs.declared.TheConstants.{MOST_WINNERS};
-ghost use Rattle.row_laws.specs.Winners.{winners_in};
+ghost use Rattle.auction_outcome.specs.auction_model.specs.Book.{Book};
+ghost use Rattle.place_price.specs.cert_laws.specs.Tests.{bidders_of};
+ghost use Rattle.place_outcome.specs.core_price.specs.Weights.{FewWin, ManyWin};
+ghost use Rattle.cca_inputs.specs.limits.specs.declared.TheConstants.{MOST_WINNERS};
+ghost use Rattle.big_auction.specs.row_laws.specs.Winners.{winners_in};
 ghost use Rattle.cca_inputs.specs.Command.{form_with, price, check, award, audit};
 ghost use Rattle.cca_inputs.specs.Outcome.{Outcome};
 ghost use Rattle.cca_inputs.specs.declared.price_form.PriceForm.{PriceForm};
@@ -13,21 +13,21 @@ ghost use Rattle.cca_run.specs.Gives.{FilesGive, Gives, cert_file, ones};
 ghost use Rattle.cca_run.specs.Headline.{CanBeAwarded, IsAudited, IsAwarded};
 ghost use Rattle.cca_run.specs.Later.{HoldsCert};
 
-use auction_model::{book_market, core_outcome, vickrey_prices, winning_choice};
+use auction_outcome::auction_model::{book_market, core_outcome, vickrey_prices, winning_choice};
 use auction_outcome::plain_outcome;
-use award_file::book_of_award;
-use bid_book::one_book;
-use cert_form::{one_cert, text_of_cert};
-use cert_laws::{one_verdict, short_text, sound_yes};
-use edits_file::one_edits;
-use log_file::{one_reading, packages_of_log};
-use place_cert::one_place_cert;
-use place_laws::{one_place_verdict, one_pricing, sound_places};
+use big_auction::award_file::book_of_award;
+use big_auction::log_file::{one_reading, packages_of_log};
+use cca_inputs::bid_book::one_book;
+use cca_inputs::cert_form::{one_cert, text_of_cert};
+use cca_inputs::edits_file::one_edits;
+use cca_inputs::place_cert::one_place_cert;
+use cca_inputs::slot_places::{one_slots, slot_market};
+use cca_inputs::weights_file::one_weighing;
 use place_outcome::one_place_text;
-use print_form::{one_outcome_json, one_price_text, one_run_text};
+use place_outcome::place_laws::{one_place_verdict, one_pricing, sound_places};
+use place_outcome::print_form::{one_outcome_json, one_price_text, one_run_text};
+use place_price::cert_laws::{one_verdict, short_text, sound_yes};
 use review_text::one_review_text;
-use slot_places::{one_slots, slot_market};
-use weights_file::one_weighing;
 
 /// The words and the bytes of the files give at most one status and one printed text. So each status that is decided comes exactly
 /// where they give it.

@@ -6,7 +6,7 @@ ghost use Rattle.cca_run.specs.Works.{Written, text_before};
 
 use crate::work::Stop;
 use crate::{FileKind, Status};
-use cca_base::{Sink, write_sink};
+use cca_inputs::cca_base::{Sink, write_sink};
 use cca_inputs::line_of;
 
 // Writes the text, and says whether all of it was written.

@@ -1,7 +1,7 @@
 // The top call.
 ghost use Rattle.std.specs.Prelude.{◌≡◌, ◌⊎◌, ◌≤◌, ◌<◌, ◌∷◌, ℕ, List, [], length, map, string_bytes, All, IsTrue, Option, Some, None};
-ghost use Rattle.cca_base.specs.Files.{Agrees, KeepsFiles};
-ghost use Rattle.cca_base.specs.Sink.{Puts};
+ghost use Rattle.cca_inputs.specs.cca_base.specs.Files.{Agrees, KeepsFiles};
+ghost use Rattle.cca_inputs.specs.cca_base.specs.Sink.{Puts};
 ghost use Rattle.cca_inputs.specs.Command.{audit, award, command_of};
 ghost use Rattle.cca_inputs.specs.Outcome.{Outcome};
 ghost use Rattle.cca_inputs.specs.StatusLine.{status_line};
@@ -23,7 +23,7 @@ use crate::print::{print, print_stop};
 use crate::work::Work;
 use crate::work::commands::work_out;
 use crate::{FileKind, Status};
-use cca_base::{Files, Sink};
+use cca_inputs::cca_base::{Files, Sink};
 use cca_inputs::{Command, line_of, read_command};
 use std::alloc::Global;
 

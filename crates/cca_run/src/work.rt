@@ -13,11 +13,11 @@ pub(crate) mod reviewing;
 pub(crate) mod verdict;
 pub(crate) mod win;
 
+use auction_outcome::wide_num::Text;
+use cca_inputs::limits::LimitKind;
 use cca_inputs::{FileText, Status};
-use core_price::PriceStop;
-use limits::LimitKind;
+use place_outcome::core_price::PriceStop;
 use std::alloc::{AllocError, AllocFailed};
-use wide_num::Text;
 
 /// What a command prints, and the texts that it appends to its files, in order.
 #[derive(Drop)]

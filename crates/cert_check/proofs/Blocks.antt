@@ -6,9 +6,9 @@ use Rattle.std.proofs.Math.Nat.{mul-le-mul_left, le-div_iff_mul-le}
 use Rattle.std.proofs.Common.{inl, inr, sym, ◌∙◌, ap, subst, arith}
 use Rattle.std.proofs.lemmas.Bool.{and_parts, and_from, leb-true, le-leb, cases_lt}
 use Rattle.std.proofs.lemmas.Nat.{div_below, div-mul-add, mod-mul-add, le-div}
-use Rattle.auction_model.specs.Package.{is_within}
-use Rattle.auction_model.specs.Place.{states_of, left_at, place_of}
-use Rattle.auction_model.proofs.PlaceLaws.{states-positive}
+use Rattle.cert_laws.specs.auction_model.specs.Package.{is_within}
+use Rattle.cert_laws.specs.auction_model.specs.Place.{states_of, left_at, place_of}
+use Rattle.cert_laws.specs.auction_model.proofs.PlaceLaws.{states-positive}
 use Rattle.cert_check.specs.Faults.{FirstFault, CoversRun, CoversSome, CoversBlock}
 use Rattle.cert_check.specs.declared.tables.rule.LineRule.{LineRule}
 

@@ -3,9 +3,9 @@ use Rattle.std.specs.Prelude.{◌≡◌, ℕ, ◌+◌, ◌-◌, ◌^◌, true, �
 use Rattle.std.proofs.Common.{inl, inr, sym, ap, arith}
 use Rattle.std.proofs.lemmas.Bool.{cond-true, cond-false, ne_eqb, cases_Bool}
 use Rattle.std.proofs.lemmas.Int.{ints}
-use Rattle.auction_model.specs.Book.{Book, net_of, market_of}
-use Rattle.auction_model.specs.Lowered.{of_bidder}
-use Rattle.auction_model.specs.Market.{number_of, uses, worth_in}
+use Rattle.cert_laws.specs.auction_model.specs.Book.{Book, net_of, market_of}
+use Rattle.cert_laws.specs.auction_model.specs.Lowered.{of_bidder}
+use Rattle.cert_laws.specs.auction_model.specs.Market.{number_of, uses, worth_in}
 use Rattle.cert_laws.specs.Tests.{bidders_of}
 use Rattle.cert_check.specs.Worths.{CanLower, gain_of}
 

@@ -4,18 +4,18 @@ use Rattle.std.proofs.Common.{inl, inr, sym, ◌∙◌, ap, subst, arith}
 use Rattle.std.proofs.lemmas.Bool.{and_parts, leb-true, cases_lt}
 use Rattle.std.proofs.lemmas.Int.{ints}
 use Rattle.std.proofs.lemmas.Nat.{div_below, mod_below, div-add-mod'}
-use Rattle.auction_model.specs.Package.{is_within, less}
-use Rattle.auction_model.specs.Place.{states_of, place_of, left_at}
-use Rattle.auction_model.specs.Book.{lots_of, net_of, bids_of}
-use Rattle.auction_model.proofs.PlaceLaws.{states-positive, place_of-left_at, left_at-less, place-less_below, within-within}
-use Rattle.auction_model.proofs.PackageLaws.{less-empty}
-use Rattle.auction_model.proofs.DominatedLaws.{lowered-in_order, less-within}
-use Rattle.auction_model.proofs.PartReads.{read-part}
-use Rattle.bid_book.specs.Better.{IsBetter}
-use Rattle.bid_book.specs.Kept.{IsBidBook}
+use Rattle.cert_laws.specs.auction_model.specs.Package.{is_within, less}
+use Rattle.cert_laws.specs.auction_model.specs.Place.{states_of, place_of, left_at}
+use Rattle.cert_laws.specs.auction_model.specs.Book.{lots_of, net_of, bids_of}
+use Rattle.cert_laws.specs.auction_model.proofs.PlaceLaws.{states-positive, place_of-left_at, left_at-less, place-less_below, within-within}
+use Rattle.cert_laws.specs.auction_model.proofs.PackageLaws.{less-empty}
+use Rattle.cert_laws.specs.auction_model.proofs.DominatedLaws.{lowered-in_order, less-within}
+use Rattle.cert_laws.specs.auction_model.proofs.PartReads.{read-part}
+use Rattle.cert_text.specs.bid_book.specs.Better.{IsBetter}
+use Rattle.cert_text.specs.bid_book.specs.Kept.{IsBidBook}
 use Rattle.cert_laws.specs.Tests.{states}
 use Rattle.cert_check.specs.Faults.{FirstFault}
-use Rattle.wide_num.specs.Sums.{nth}
+use Rattle.cert_laws.specs.wide_num.specs.Sums.{nth}
 use Rattle.cert_check.specs.Growth.{Grows, RisesBy}
 use Rattle.cert_check.specs.LineTests.{worth_of, KeepsBid, KeepsSome, IsNeedless}
 use Rattle.cert_check.specs.declared.tables.offers.Offers.{Offers}

@@ -1,10 +1,10 @@
 -- The head's table, two lines at a time, and what is found early of the places behind its rules.
 use Rattle.std.specs.Prelude.{◌≡◌, ℕ, suc, ◌+◌, ◌*◌, ◌<◌, ◌≤◌, ◌↔◌, ◌≤ℤ◌, refl}
 use Rattle.std.proofs.Common.{sym, subst, arith}
-use Rattle.auction_model.specs.Book.{Book, net_of, menu_of}
-use Rattle.auction_model.specs.Menu.{without}
-use Rattle.auction_model.specs.Table.{entry_at}
-use Rattle.cert_form.specs.Certificate.{CertValue}
+use Rattle.cert_laws.specs.auction_model.specs.Book.{Book, net_of, menu_of}
+use Rattle.cert_laws.specs.auction_model.specs.Menu.{without}
+use Rattle.cert_laws.specs.auction_model.specs.Table.{entry_at}
+use Rattle.cert_laws.specs.cert_form.specs.Certificate.{CertValue}
 use Rattle.cert_laws.specs.Tests.{Asks, C3, ObeysAt, NoEarlier, bidders_of, states, full}
 use Rattle.cert_check.specs.LineTests.{offered, worth_of, RulesAt}
 use Rattle.cert_check.specs.declared.tables.offers.Offers.{Offers}

@@ -3,14 +3,14 @@ use Rattle.std.specs.Prelude.{◌≡◌, ℕ, ◌+◌, ◌-◌, ◌<◌, IsTrue,
 use Rattle.std.proofs.Common.{inl, inr, sym, ◌∙◌, ap, subst, arith}
 use Rattle.std.proofs.lemmas.Bool.{cases_lt}
 use Rattle.std.proofs.lemmas.Int.{ints}
-use Rattle.auction_model.specs.Package.{is_within, less, IsNothingFrom}
-use Rattle.auction_model.specs.Place.{states_of, left_at, place_of}
-use Rattle.auction_model.specs.Book.{lots_of}
-use Rattle.auction_model.proofs.PlaceLaws.{place-less}
-use Rattle.auction_model.proofs.TrimLaws.{trim-within}
+use Rattle.cert_laws.specs.auction_model.specs.Package.{is_within, less, IsNothingFrom}
+use Rattle.cert_laws.specs.auction_model.specs.Place.{states_of, left_at, place_of}
+use Rattle.cert_laws.specs.auction_model.specs.Book.{lots_of}
+use Rattle.cert_laws.specs.auction_model.proofs.PlaceLaws.{place-less}
+use Rattle.cert_laws.specs.auction_model.proofs.TrimLaws.{trim-within}
 use Rattle.cert_laws.specs.Tests.{states}
 use Rattle.cert_check.specs.Faults.{FirstFault}
-use Rattle.wide_num.specs.Sums.{nth}
+use Rattle.cert_laws.specs.wide_num.specs.Sums.{nth}
 use Rattle.cert_check.specs.LineTests.{worth_of, KeepsBid, KeepsSome}
 use Rattle.cert_check.specs.declared.tables.offers.Offers.{Offers}
 use Rattle.cert_check.proofs.Blocks.{fault-same, fault-both}

@@ -3,13 +3,13 @@ use Rattle.std.specs.Prelude.{◌≡◌, ℕ, suc, ◌+◌, ◌-◌, ◌*◌, �
 use Rattle.std.proofs.Common.{sym, ◌∙◌, ap, subst, arith}
 use Rattle.std.proofs.lemmas.Int.{ints, unsigned_abs-mul}
 use Rattle.std.proofs.Math.Nat.{mul-le-mul_left}
-use Rattle.auction_model.specs.Menu.{without}
-use Rattle.auction_model.specs.Book.{net_of, menu_of}
-use Rattle.auction_model.specs.Lowered.{of_bidder}
-use Rattle.auction_model.specs.Prices.{sum_over, everyone}
-use Rattle.bid_book.specs.Kept.{IsBidBook}
-use Rattle.cert_form.specs.Certificate.{CertValue}
-use Rattle.cert_form.specs.CertText.{AllInRange}
+use Rattle.cert_laws.specs.auction_model.specs.Menu.{without}
+use Rattle.cert_laws.specs.auction_model.specs.Book.{net_of, menu_of}
+use Rattle.cert_laws.specs.auction_model.specs.Lowered.{of_bidder}
+use Rattle.cert_laws.specs.auction_model.specs.Prices.{sum_over, everyone}
+use Rattle.cert_text.specs.bid_book.specs.Kept.{IsBidBook}
+use Rattle.cert_laws.specs.cert_form.specs.Certificate.{CertValue}
+use Rattle.cert_laws.specs.cert_form.specs.CertText.{AllInRange}
 use Rattle.cert_laws.specs.Tests.{bidders_of, lowered_net, C9}
 use Rattle.cert_check.specs.Fields.{IsOf}
 use Rattle.cert_check.specs.declared.claim.Claim.{Claim}

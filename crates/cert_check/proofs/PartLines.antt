@@ -1,9 +1,9 @@
 -- The table of a part, two lines at a time.
 use Rattle.std.specs.Prelude.{◌≡◌, ℕ, ◌+◌, ◌*◌, ◌<◌, ◌≤◌, List, ℤ, refl}
 use Rattle.std.proofs.Common.{sym, subst, arith}
-use Rattle.auction_model.specs.Book.{net_of, menu_of}
-use Rattle.auction_model.specs.Menu.{without}
-use Rattle.cert_form.specs.Certificate.{WithoutValue}
+use Rattle.cert_laws.specs.auction_model.specs.Book.{net_of, menu_of}
+use Rattle.cert_laws.specs.auction_model.specs.Menu.{without}
+use Rattle.cert_laws.specs.cert_form.specs.Certificate.{WithoutValue}
 use Rattle.cert_laws.specs.Tests.{ObeysAt, IsPart, bidders_of, states}
 use Rattle.cert_laws.proofs.Places.{one_place}
 use Rattle.cert_check.specs.Faults.{FirstFault}

@@ -4,12 +4,12 @@ use Rattle.std.proofs.Common.{inl, inr, sym, ◌∙◌, ap, subst, arith}
 use Rattle.std.proofs.lemmas.Bool.{cases_lt}
 use Rattle.std.proofs.lemmas.Int.{ints}
 use Rattle.std.proofs.Math.Nat.{mul-le-mul_left}
-use Rattle.auction_model.specs.Table.{entry_at}
-use Rattle.cert_form.specs.CertText.{IsTable, AreTableLines, AllInRange}
+use Rattle.cert_laws.specs.auction_model.specs.Table.{entry_at}
+use Rattle.cert_laws.specs.cert_form.specs.CertText.{IsTable, AreTableLines, AllInRange}
 use Rattle.cert_laws.specs.Tests.{bidders_of, states, full}
 use Rattle.cert_laws.proofs.Places.{first_rule}
 use Rattle.cert_check.specs.Faults.{FirstFault}
-use Rattle.wide_num.specs.Sums.{nth}
+use Rattle.cert_laws.specs.wide_num.specs.Sums.{nth}
 use Rattle.cert_check.specs.Places.{IsFirstFailing}
 use Rattle.cert_check.specs.LineTests.{offered, worth_of, KeepsZero, KeepsSome, ObeysIn, RulesAt, TestsTable}
 use Rattle.cert_check.specs.declared.tables.offers.Offers.{Offers}

@@ -3,13 +3,13 @@ use Rattle.std.specs.Prelude.{◌≡◌, ℕ, suc, ◌+◌, ◌<◌, ◌≤◌, 
 use Rattle.std.proofs.Common.{ap, subst, arith}
 use Rattle.std.proofs.lemmas.Bool.{cond-false, ne_eqb}
 use Rattle.std.proofs.lemmas.Int.{ints}
-use Rattle.auction_model.specs.Book.{lots_of, menu_of}
-use Rattle.auction_model.specs.Package.{less}
-use Rattle.auction_model.specs.Place.{place_of, left_at}
-use Rattle.auction_model.specs.Table.{entry_at}
+use Rattle.cert_laws.specs.auction_model.specs.Book.{lots_of, menu_of}
+use Rattle.cert_laws.specs.auction_model.specs.Package.{less}
+use Rattle.cert_laws.specs.auction_model.specs.Place.{place_of, left_at}
+use Rattle.cert_laws.specs.auction_model.specs.Table.{entry_at}
 use Rattle.cert_laws.specs.Tests.{ObeysAt, Obeys, bidders_of}
 use Rattle.cert_check.specs.Faults.{FirstFault}
-use Rattle.wide_num.specs.Sums.{nth}
+use Rattle.cert_laws.specs.wide_num.specs.Sums.{nth}
 use Rattle.cert_check.specs.LineTests.{worth_of, ObeysIn}
 use Rattle.cert_check.specs.declared.tables.offers.Offers.{Offers}
 

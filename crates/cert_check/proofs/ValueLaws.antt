@@ -2,11 +2,11 @@
 use Rattle.std.specs.Prelude.{◌≡◌, ℕ, suc, ◌+◌, ◌*◌, ◌<◌, ◌≤◌, Bool, IsTrue, List, length, slice_index_or, replicate, ℤ, pos, refl, Option, Some, None, if◌then◌else◌}
 use Rattle.std.proofs.Common.{inl, inr, sym, ap, subst, arith}
 use Rattle.std.proofs.lemmas.Bool.{cases_lt, and_from, ne_eqb}
-use Rattle.auction_model.specs.Package.{is_within}
-use Rattle.auction_model.specs.Menu.{Menu, without, is_known_after, packages_after}
-use Rattle.auction_model.specs.Book.{Book, bids_of, net_of, menu_of, market_of}
-use Rattle.cert_form.specs.Certificate.{CertValue}
-use Rattle.cert_form.specs.CertText.{IsCertificate}
+use Rattle.cert_laws.specs.auction_model.specs.Package.{is_within}
+use Rattle.cert_laws.specs.auction_model.specs.Menu.{Menu, without, is_known_after, packages_after}
+use Rattle.cert_laws.specs.auction_model.specs.Book.{Book, bids_of, net_of, menu_of, market_of}
+use Rattle.cert_laws.specs.cert_form.specs.Certificate.{CertValue}
+use Rattle.cert_laws.specs.cert_form.specs.CertText.{IsCertificate}
 use Rattle.cert_laws.specs.Tests.{ObeysAt, bidders_of, states, C2, C3}
 use Rattle.cert_laws.proofs.Winning.{known_from}
 use Rattle.cert_text.specs.CertValues.{cert_value, IsFor}

@@ -1,8 +1,8 @@
 -- The first place of a line at which a rule fails.
 use Rattle.std.specs.Prelude.{◌≡◌, ℕ, ◌+◌, ◌-◌, ◌≤◌, ◌<◌, IsTrue, List, ◌+ℤ◌, ◌≤ℤ◌}
-use Rattle.auction_model.specs.Package.{is_within}
-use Rattle.auction_model.specs.Place.{states_of, left_at}
-use Rattle.wide_num.specs.Sums.{nth}
+use Rattle.cert_laws.specs.auction_model.specs.Package.{is_within}
+use Rattle.cert_laws.specs.auction_model.specs.Place.{states_of, left_at}
+use Rattle.cert_laws.specs.wide_num.specs.Sums.{nth}
 use Rattle.cert_check.specs.declared.tables.rule.LineRule.{LineRule}
 
 -- r is the first number below `stop` at which P fails, or `stop` where there is none

@@ -1,8 +1,8 @@
 -- Lines that never fall.
 use Rattle.std.specs.Prelude.{ℕ, ◌+◌, ◌<◌, IsTrue, List, length, ℤ, ◌≤ℤ◌}
-use Rattle.auction_model.specs.Package.{is_within}
-use Rattle.auction_model.specs.Place.{states_of, left_at}
-use Rattle.wide_num.specs.Sums.{nth}
+use Rattle.cert_laws.specs.auction_model.specs.Package.{is_within}
+use Rattle.cert_laws.specs.auction_model.specs.Place.{states_of, left_at}
+use Rattle.cert_laws.specs.wide_num.specs.Sums.{nth}
 
 -- where more is left of each category, the line has at least as much
 abbrev pub Grows : List ℕ → List ℤ → Type 0

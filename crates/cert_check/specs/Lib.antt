@@ -11,3 +11,11 @@ pub mod Growth
 pub mod Worths
 pub mod LineTests
 pub mod EarlierBids
+pub use Rattle.cert_laws.specs.auction_model
+pub use Rattle.cert_laws.specs.cert_form
+pub use Rattle.cert_laws
+pub use Rattle.cert_text
+pub use Rattle.cert_text.specs.limits
+pub use Rattle.cert_text.specs.line_text
+pub use Rattle.cert_text.specs.text_lines
+pub use Rattle.cert_laws.specs.wide_num

@@ -1,12 +1,12 @@
 -- The rules of a table for the bids that it is tested for, line by line.
 use Rattle.std.specs.Prelude.{◌≡◌, ℕ, ◌+◌, ◌-◌, ◌*◌, ◌<◌, ◌≤◌, IsTrue, List, length, ℤ, pos, ◌+ℤ◌, ◌≤ℤ◌}
-use Rattle.auction_model.specs.Package.{is_within, less}
-use Rattle.auction_model.specs.Place.{states_of, place_of, left_at}
-use Rattle.auction_model.specs.Table.{entry_at}
-use Rattle.auction_model.specs.Menu.{Menu, without}
-use Rattle.auction_model.specs.Book.{lots_of, menu_of}
+use Rattle.cert_laws.specs.auction_model.specs.Package.{is_within, less}
+use Rattle.cert_laws.specs.auction_model.specs.Place.{states_of, place_of, left_at}
+use Rattle.cert_laws.specs.auction_model.specs.Table.{entry_at}
+use Rattle.cert_laws.specs.auction_model.specs.Menu.{Menu, without}
+use Rattle.cert_laws.specs.auction_model.specs.Book.{lots_of, menu_of}
 use Rattle.cert_laws.specs.Tests.{ObeysAt, Obeys, bidders_of, states}
-use Rattle.wide_num.specs.Sums.{nth}
+use Rattle.cert_laws.specs.wide_num.specs.Sums.{nth}
 use Rattle.cert_check.specs.Worths.{worth_with}
 use Rattle.cert_check.specs.declared.tables.offers.Offers.{Offers}
 

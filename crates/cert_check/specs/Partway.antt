@@ -1,7 +1,7 @@
 -- What is known of the tests when only a part of a certificate has come.
 use Rattle.std.specs.Prelude.{◌≡◌, ℕ, ◌+◌, ◌<◌, ◌⊎◌, ◌^◌, Option, Some, None}
-use Rattle.auction_model.specs.Book.{Book}
-use Rattle.cert_form.specs.Certificate.{CertValue}
+use Rattle.cert_laws.specs.auction_model.specs.Book.{Book}
+use Rattle.cert_laws.specs.cert_form.specs.Certificate.{CertValue}
 use Rattle.cert_laws.specs.Tests.{Asks, FailsFirst}
 use Rattle.cert_check.specs.declared.failure.Failure.{Failure}
 

@@ -1,7 +1,7 @@
 -- What the checker answers.
 use Rattle.std.specs.Prelude.{ℕ}
-use Rattle.auction_model.specs.Book.{Book}
-use Rattle.cert_form.specs.Certificate.{CertValue}
+use Rattle.cert_laws.specs.auction_model.specs.Book.{Book}
+use Rattle.cert_laws.specs.cert_form.specs.Certificate.{CertValue}
 use Rattle.cert_laws.specs.Tests.{Holds, FailsFirst}
 use Rattle.cert_check.specs.declared.verdict.Verdict.{Verdict}
 use Rattle.cert_check.specs.declared.verdict.Verdict.TheVariants.{Yes, No}

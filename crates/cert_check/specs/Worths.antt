@@ -1,8 +1,8 @@
 -- What the worths of a table need: no number leaves the range.
 use Rattle.std.specs.Prelude.{◌≡◌, ℕ, ◌<◌, ◌≤◌, ◌^◌, List, length, ℤ, pos, ◌*ℤ◌, ◌-ℤ◌, unsigned_abs, if◌then◌else◌}
-use Rattle.auction_model.specs.Book.{Book, bids_of, net_of, market_of}
-use Rattle.auction_model.specs.Lowered.{of_bidder}
-use Rattle.auction_model.specs.Market.{number_of, uses, worth_in}
+use Rattle.cert_laws.specs.auction_model.specs.Book.{Book, bids_of, net_of, market_of}
+use Rattle.cert_laws.specs.auction_model.specs.Lowered.{of_bidder}
+use Rattle.cert_laws.specs.auction_model.specs.Market.{number_of, uses, worth_in}
 use Rattle.cert_laws.specs.Tests.{bidders_of}
 
 -- den times a net amount, less what its bidder gains

@@ -1,10 +1,10 @@
 // What the first three tests have shown.
 ghost use Rattle.std.specs.Prelude.{◌≡◌, ◌<◌, ◌≤◌};
-ghost use Rattle.auction_model.specs.Market.{number_of};
+ghost use Rattle.cert_laws.specs.auction_model.specs.Market.{number_of};
 ghost use Rattle.cert_check.specs.Head.{IsHead};
 
 use crate::judging::number;
-use bid_book::BidBook;
+use cert_text::bid_book::BidBook;
 
 /// The denominator, the value and the choice of a certificate of a book whose first three tests hold.
 #[derive(Drop)]

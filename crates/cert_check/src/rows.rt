@@ -1,13 +1,13 @@
 // C6: the rows.
 ghost use Rattle.std.specs.Prelude.{IsTrue, length, map, not, [], ◌*ℤ◌, ◌-ℤ◌, ◌≡◌, ◌↔◌};
-ghost use Rattle.auction_model.specs.Book.{market_of};
-ghost use Rattle.auction_model.specs.Lowered.{of_bidder};
-ghost use Rattle.auction_model.specs.Market.{value_of, worth_in};
-ghost use Rattle.auction_model.specs.Prices.{sum_over};
+ghost use Rattle.cert_laws.specs.auction_model.specs.Book.{market_of};
+ghost use Rattle.cert_laws.specs.auction_model.specs.Lowered.{of_bidder};
+ghost use Rattle.cert_laws.specs.auction_model.specs.Market.{value_of, worth_in};
+ghost use Rattle.cert_laws.specs.auction_model.specs.Prices.{sum_over};
 ghost use Rattle.cert_check.specs.Fields.{IsOf, cert_with, row_with};
 ghost use Rattle.cert_check.specs.Places.{IsFirstFailing};
-ghost use Rattle.cert_form.specs.CertText.{AllInRange, AreMembers, AreRows};
-ghost use Rattle.cert_form.specs.Certificate.{CertValue, RowValue, is_member};
+ghost use Rattle.cert_laws.specs.cert_form.specs.CertText.{AllInRange, AreMembers, AreRows};
+ghost use Rattle.cert_laws.specs.cert_form.specs.Certificate.{CertValue, RowValue, is_member};
 ghost use Rattle.cert_laws.specs.Tests.{C6, IsTightRow, bidders_of};
 ghost use Rattle.cert_text.specs.Parts.{row_value};
 
@@ -17,7 +17,7 @@ use crate::sums::amounts::times;
 use crate::sums::members::{uses_all, uses_none};
 use crate::sums::{paid_by, won_beside};
 use cert_text::CertRow;
-use choices::value_among;
+use cert_text::choices::value_among;
 
 /// The first place at which C6 fails of a certificate with these payments and rows.
 pub(crate) fn rows_test(claim: &Claim, pay: &[i128], rows: &[CertRow]) -> Option<u64>

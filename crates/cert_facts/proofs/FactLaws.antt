@@ -1,13 +1,13 @@
 -- What the facts of a certificate say of its winners: they are those of the choice, in order, and each has its Vickrey price, which is small.
 use Rattle.std.proofs.Common.{◌≡◌, ℕ, ◌≤◌, ◌^◌, cond, List, [], ◌∷◌, map, pos, unsigned_abs, refl, sym, ap, subst, ◌∙◌}
 use Rattle.std.specs.List.{AllByRecursion}
-use Rattle.auction_model.specs.Book.{Book}
-use Rattle.bid_book.specs.Kept.{IsBidBook}
-use Rattle.cert_form.specs.Certificate.{CertValue, WithoutValue}
+use Rattle.cert_laws.specs.auction_model.specs.Book.{Book}
+use Rattle.cert_text.specs.bid_book.specs.Kept.{IsBidBook}
+use Rattle.cert_laws.specs.cert_form.specs.Certificate.{CertValue, WithoutValue}
 use Rattle.cert_laws.specs.Sound.{cert_prices}
 use Rattle.cert_laws.specs.Tests.{vickrey_of}
-use Rattle.choices.specs.declared.chooser.Single.{Single}
-use Rattle.choices.specs.Singles.{winners_after}
+use Rattle.cert_text.specs.choices.specs.declared.chooser.Single.{Single}
+use Rattle.cert_text.specs.choices.specs.Singles.{winners_after}
 use Rattle.cert_facts.specs.declared.shown.CertFacts.{CertFacts}
 use Rattle.cert_facts.specs.Facts.{AreFacts, single_of}
 use Rattle.cert_facts.proofs.Known.{vickrey-small}

@@ -2,17 +2,17 @@
 use Rattle.std.proofs.Common.{◌≡◌, ℕ, zero, suc, ◌+◌, ◌<◌, ◌≤◌, cond, List, [], ◌∷◌, ◌++◌, length, get_or, take, map, refl, sym, ap, subst, ◌∙◌, arith, eq-eqb}
 use Rattle.std.proofs.lemmas.List.{get_or-map, length-map, take_all}
 use Rattle.std.specs.List.{AllByRecursion}
-use Rattle.auction_model.specs.Book.{Book}
-use Rattle.bid_book.proofs.Within.{each_at}
-use Rattle.cert_form.specs.Certificate.{WithoutValue, part_of}
-use Rattle.cert_form.specs.CertText.{AreWithouts}
+use Rattle.cert_laws.specs.auction_model.specs.Book.{Book}
+use Rattle.cert_text.specs.bid_book.proofs.Within.{each_at}
+use Rattle.cert_laws.specs.cert_form.specs.Certificate.{WithoutValue, part_of}
+use Rattle.cert_laws.specs.cert_form.specs.CertText.{AreWithouts}
 use Rattle.cert_laws.proofs.TextSizes.{part-later}
 use Rattle.cert_text.specs.declared.certificate.Certificate.{Certificate}
 use Rattle.cert_text.specs.declared.certificate.WithoutPart.{WithoutPart}
 use Rattle.cert_text.specs.CertValues.{cert_value}
 use Rattle.cert_text.specs.Parts.{without_value}
-use Rattle.choices.specs.declared.chooser.Single.{Single}
-use Rattle.choices.specs.Singles.{winners_after}
+use Rattle.cert_text.specs.choices.specs.declared.chooser.Single.{Single}
+use Rattle.cert_text.specs.choices.specs.Singles.{winners_after}
 use Rattle.cert_facts.specs.Facts.{HasFacts, single_of}
 use Rattle.cert_facts.specs.Parts.{IsPartOf}
 use Rattle.cert_facts.proofs.Winners.{Wins, all-win, each-after, each-of_map}

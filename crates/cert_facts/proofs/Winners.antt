@@ -2,8 +2,8 @@
 use Rattle.std.proofs.Common.{◌≡◌, ◌≢◌, ℕ, zero, suc, ◌+◌, ◌-◌, ◌<◌, ◌≤◌, not, IsTrue, List, [], ◌∷◌, length, get_or, map, sym, ap, subst, ◌∙◌, arith}
 use Rattle.std.proofs.lemmas.Bool.{ne_eqb}
 use Rattle.std.specs.List.{AllByRecursion}
-use Rattle.auction_model.specs.Market.{uses}
-use Rattle.choices.specs.Singles.{winners_after}
+use Rattle.cert_laws.specs.auction_model.specs.Market.{uses}
+use Rattle.cert_text.specs.choices.specs.Singles.{winners_after}
 
 -- what holds of each bidder behind the first k that has a number other than 0
 pub each-after : (T : ℕ → Type 0) (k : ℕ) (z : List ℕ) → ((i : ℕ) → i < length z → get_or z i 0 ≢ 0 → T (suc k + i)) → AllByRecursion T (winners_after k z)

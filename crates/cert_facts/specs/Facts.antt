@@ -1,10 +1,10 @@
 -- What is printed of a certificate, and the certificates of which that can be told.
 use Rattle.std.specs.Prelude.{◌≡◌, ℕ, map}
-use Rattle.auction_model.specs.Book.{Book}
-use Rattle.cert_form.specs.Certificate.{CertValue, WithoutValue}
-use Rattle.cert_form.specs.CertText.{IsCertificate}
+use Rattle.cert_laws.specs.auction_model.specs.Book.{Book}
+use Rattle.cert_laws.specs.cert_form.specs.Certificate.{CertValue, WithoutValue}
+use Rattle.cert_laws.specs.cert_form.specs.CertText.{IsCertificate}
 use Rattle.cert_laws.specs.Tests.{C1, C2, C4, C5, bidders_of, states, vickrey_of}
-use Rattle.choices.specs.declared.chooser.Single.{Single}
+use Rattle.cert_text.specs.choices.specs.declared.chooser.Single.{Single}
 use Rattle.cert_facts.specs.declared.shown.CertFacts.{CertFacts}
 
 -- a certificate of the book, of whose tests those hold on which its facts rest: its sizes, its choice, its parts and its payments

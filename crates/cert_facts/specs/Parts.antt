@@ -1,7 +1,7 @@
 -- The parts of a certificate of the program.
 use Rattle.std.specs.Prelude.{◌≡◌, ◌<◌, ◌≤◌, IsTrue, length}
-use Rattle.auction_model.specs.Market.{uses}
-use Rattle.cert_form.specs.Certificate.{part_of}
+use Rattle.cert_laws.specs.auction_model.specs.Market.{uses}
+use Rattle.cert_laws.specs.cert_form.specs.Certificate.{part_of}
 use Rattle.cert_text.specs.declared.certificate.Certificate.{Certificate}
 use Rattle.cert_text.specs.declared.certificate.WithoutPart.{WithoutPart}
 use Rattle.cert_text.specs.CertValues.{cert_value}

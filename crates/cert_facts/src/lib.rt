@@ -4,5 +4,8 @@
 mod shown;
 mod singles;
 
+pub use cert_laws;
+pub use cert_laws::cert_form;
+pub use cert_text::{bid_book, choices, lots};
 pub use shown::{CertFacts, facts};
 pub use singles::Singles;

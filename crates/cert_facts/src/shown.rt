@@ -7,11 +7,11 @@ ghost use Rattle.cert_text.specs.CertValues.{cert_value};
 ghost use Rattle.cert_text.specs.Parts.{without_value};
 
 use crate::Singles;
-use bid_book::BidBook;
+use cert_laws::wide_num::NumList;
+use cert_text::bid_book::BidBook;
+use cert_text::choices::{Choice, Single, value, worth};
 use cert_text::{Certificate, WithoutPart};
-use choices::{Choice, Single, value, worth};
 use std::alloc::{AllocError, Global};
-use wide_num::NumList;
 
 /// What is printed of a certificate: its facts, without its tables and its rows. All amounts are net of reserve.
 #[derive(Drop)]

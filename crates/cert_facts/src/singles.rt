@@ -1,7 +1,7 @@
 // Lists of winners, each alone.
 ghost use Rattle.std.specs.Prelude.{◌≡◌, ◌∷◌, ◌++◌, [], OnErr, OnOk};
 
-use choices::Single;
+use cert_text::choices::Single;
 use std::alloc::{AllocError, Global};
 use std::marker::Model;
 
@@ -13,7 +13,7 @@ pub struct Singles {
 
 impl Model for Singles {
     ghost use Rattle.std.specs.Prelude.{List};
-    ghost use Rattle.choices.specs.declared.chooser.Single.{Single};
+    ghost use Rattle.cert_text.specs.choices.specs.declared.chooser.Single.{Single};
 
     ghost Value = { List Single };
 

@@ -13,7 +13,7 @@ use Rattle.cert_form.specs.Plan.{Follows, Stage, StepTo, excess, begin, finish}
 use Rattle.cert_form.specs.Lines.{Line, Kind, kind, Numbers, these, signed, chosen, headed, counted, members, ordered_head, ordered_count, FitNumbers, Fits, AreNumbers, spell, over, after, after_numbers, table_plan, set_table_plan, part_plan, ordered_part_plan, unless_zero, parts_plan, ordered_parts_plan, rows_plan, ordered_rows_plan, first_size, just_line, is_first_version, version_of, version_plan, body_plan, cert_plan, places_plan, IsCertText, IsPlacesText, lines}
 use Rattle.cert_form.specs.Reading.{AreFineNumbers, Fine}
 use Rattle.cert_form.proofs.PlanReads.{follows_both, reads}
-use Rattle.wide_num.proofs.Decimal.{AreDigits}
+use Rattle.text_lines.specs.wide_num.proofs.Decimal.{AreDigits}
 use Rattle.text_lines.proofs.Numerals.{numeral_is, one_numbers}
 
 -- no line feed, as a test

@@ -6,3 +6,7 @@ pub mod Reading
 pub mod Says
 pub mod CertText
 pub mod OneProof
+pub use Rattle.limits
+pub use Rattle.line_text
+pub use Rattle.text_lines
+pub use Rattle.text_lines.specs.wide_num

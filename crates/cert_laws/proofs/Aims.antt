@@ -3,17 +3,17 @@ use Rattle.std.specs.Prelude.{◌≡◌, ℕ, zero, suc, ◌+◌, ◌-◌, ◌�
 use Rattle.std.proofs.Common.{inl, inr, sym, ◌∙◌, ap, arith}
 use Rattle.std.proofs.lemmas.Bool.{false≢true, cases_Bool, false_from_ne_true}
 use Rattle.std.proofs.lemmas.Int.{ints}
-use Rattle.auction_model.specs.Market.{uses}
-use Rattle.auction_model.specs.Lowered.{of_bidder}
-use Rattle.auction_model.specs.Book.{Book, market_of}
-use Rattle.auction_model.specs.Prices.{Point, AreWeights, IsCorePoint, AreVickreyPrices, IsLeastSum, IsNearest, share, square_distance, weight_of}
-use Rattle.auction_model.proofs.PriceLaws.{vickrey-one}
-use Rattle.wide_num.specs.Sums.{total, dot}
-use Rattle.wide_num.proofs.Sums.{total-zero}
-use Rattle.point_laws.specs.Points.{SamePoint, square_distance as distance_to}
-use Rattle.point_laws.specs.Multipliers.{AreFirst, AreSecond, AreShares, SumsToOrStands}
-use Rattle.point_laws.proofs.PointLaws.{least, nearest, times_zero}
-use Rattle.auction_model.proofs.Shares.{share-positive, share-whole}
+use Rattle.row_laws.specs.auction_model.specs.Market.{uses}
+use Rattle.row_laws.specs.auction_model.specs.Lowered.{of_bidder}
+use Rattle.row_laws.specs.auction_model.specs.Book.{Book, market_of}
+use Rattle.row_laws.specs.auction_model.specs.Prices.{Point, AreWeights, IsCorePoint, AreVickreyPrices, IsLeastSum, IsNearest, share, square_distance, weight_of}
+use Rattle.row_laws.specs.auction_model.proofs.PriceLaws.{vickrey-one}
+use Rattle.cert_form.specs.wide_num.specs.Sums.{total, dot}
+use Rattle.cert_form.specs.wide_num.proofs.Sums.{total-zero}
+use Rattle.row_laws.specs.point_laws.specs.Points.{SamePoint, square_distance as distance_to}
+use Rattle.row_laws.specs.point_laws.specs.Multipliers.{AreFirst, AreSecond, AreShares, SumsToOrStands}
+use Rattle.row_laws.specs.point_laws.proofs.PointLaws.{least, nearest, times_zero}
+use Rattle.row_laws.specs.auction_model.proofs.Shares.{share-positive, share-whole}
 use Rattle.row_laws.proofs.Excess.{everyone-is}
 use Rattle.cert_form.specs.Certificate.{CertValue, is_member, row_of}
 use Rattle.cert_laws.specs.Tests.{bidders_of, C1, C5, C6, C7, C8, vickrey_of}

@@ -3,14 +3,14 @@ use Rattle.std.specs.Prelude.{◌≡◌, ℕ, zero, suc, ◌+◌, ◌≤◌, ◌
 use Rattle.std.proofs.Common.{inl, inr, sym, ◌∙◌, ap, subst, arith}
 use Rattle.std.proofs.lemmas.Bool.{false≢true, and_parts, or_cases, leb-true, ltb-true, eqb-true}
 use Rattle.std.proofs.lemmas.Int.{ints}
-use Rattle.auction_model.specs.Package.{is_within, less}
-use Rattle.auction_model.specs.Place.{states_of, place_of, left_at}
-use Rattle.auction_model.specs.Market.{sum_after, is_number_before, is_earlier, number_of}
-use Rattle.auction_model.specs.Menu.{Menu, fits_after}
-use Rattle.auction_model.specs.Table.{entry_at}
-use Rattle.auction_model.proofs.PackageLaws.{less-empty}
-use Rattle.auction_model.proofs.MenuLaws.{fits-past_end, fits-cons}
-use Rattle.auction_model.proofs.PlaceLaws.{left_at-less, place-less_below}
+use Rattle.row_laws.specs.auction_model.specs.Package.{is_within, less}
+use Rattle.row_laws.specs.auction_model.specs.Place.{states_of, place_of, left_at}
+use Rattle.row_laws.specs.auction_model.specs.Market.{sum_after, is_number_before, is_earlier, number_of}
+use Rattle.row_laws.specs.auction_model.specs.Menu.{Menu, fits_after}
+use Rattle.row_laws.specs.auction_model.specs.Table.{entry_at}
+use Rattle.row_laws.specs.auction_model.proofs.PackageLaws.{less-empty}
+use Rattle.row_laws.specs.auction_model.proofs.MenuLaws.{fits-past_end, fits-cons}
+use Rattle.row_laws.specs.auction_model.proofs.PlaceLaws.{left_at-less, place-less_below}
 use Rattle.cert_laws.specs.Tests.{Obeys, NoEarlier, left_after, worth_before}
 
 -- the worth of a bid, and 0 for none

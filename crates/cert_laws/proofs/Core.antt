@@ -3,17 +3,17 @@ use Rattle.std.specs.Prelude.{◌≡◌, ℕ, zero, suc, ◌+◌, ◌*◌, ◌�
 use Rattle.std.proofs.Common.{inl, inr, sym, ◌∙◌, ap, subst, arith}
 use Rattle.std.proofs.lemmas.Bool.{false≢true, cases_Bool, not_from_false, ne_eqb}
 use Rattle.std.proofs.lemmas.Int.{ints}
-use Rattle.auction_model.specs.Market.{sum_after, value_of, number_of, uses}
-use Rattle.auction_model.specs.Menu.{fits_after}
-use Rattle.auction_model.specs.Lowered.{of_bidder}
-use Rattle.auction_model.specs.Table.{entry_at}
-use Rattle.auction_model.specs.Book.{Book, net_of, menu_of, market_of}
-use Rattle.auction_model.specs.Prices.{sum_over, everyone, IsUnblocked, IsCorePoint}
-use Rattle.auction_model.proofs.PlaceLaws.{left_at-whole}
-use Rattle.wide_num.specs.Sums.{total}
-use Rattle.wide_num.proofs.Sums.{total-scale}
-use Rattle.point_laws.proofs.Sums.{total-sub, total-le}
-use Rattle.point_laws.proofs.PointLaws.{times_zero}
+use Rattle.row_laws.specs.auction_model.specs.Market.{sum_after, value_of, number_of, uses}
+use Rattle.row_laws.specs.auction_model.specs.Menu.{fits_after}
+use Rattle.row_laws.specs.auction_model.specs.Lowered.{of_bidder}
+use Rattle.row_laws.specs.auction_model.specs.Table.{entry_at}
+use Rattle.row_laws.specs.auction_model.specs.Book.{Book, net_of, menu_of, market_of}
+use Rattle.row_laws.specs.auction_model.specs.Prices.{sum_over, everyone, IsUnblocked, IsCorePoint}
+use Rattle.row_laws.specs.auction_model.proofs.PlaceLaws.{left_at-whole}
+use Rattle.cert_form.specs.wide_num.specs.Sums.{total}
+use Rattle.cert_form.specs.wide_num.proofs.Sums.{total-scale}
+use Rattle.row_laws.specs.point_laws.proofs.Sums.{total-sub, total-le}
+use Rattle.row_laws.specs.point_laws.proofs.PointLaws.{times_zero}
 use Rattle.row_laws.proofs.Sums.{over-is, choice-is}
 use Rattle.cert_form.specs.Certificate.{CertValue}
 use Rattle.cert_laws.specs.Tests.{bidders_of, states, full, C1, C5, C9, won, lowered_net}

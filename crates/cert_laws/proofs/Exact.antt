@@ -4,11 +4,11 @@ use Rattle.std.proofs.Common.{inl, inr, sym, ◌∙◌, ap, arith}
 use Rattle.std.proofs.lemmas.Bool.{cases_Bool, cases_lt}
 use Rattle.std.proofs.lemmas.List.{get_or_past}
 use Rattle.std.proofs.lemmas.Int.{ints, clamps}
-use Rattle.auction_model.specs.Market.{uses}
-use Rattle.auction_model.specs.Menu.{Menu, without}
-use Rattle.auction_model.specs.Table.{IsExactTable}
-use Rattle.auction_model.specs.Lowered.{of_bidder, lowered}
-use Rattle.auction_model.specs.Book.{Book, net_of, menu_of, market_of}
+use Rattle.row_laws.specs.auction_model.specs.Market.{uses}
+use Rattle.row_laws.specs.auction_model.specs.Menu.{Menu, without}
+use Rattle.row_laws.specs.auction_model.specs.Table.{IsExactTable}
+use Rattle.row_laws.specs.auction_model.specs.Lowered.{of_bidder, lowered}
+use Rattle.row_laws.specs.auction_model.specs.Book.{Book, net_of, menu_of, market_of}
 use Rattle.row_laws.specs.Surplus.{surpluses_of, AsksWinnersOnly}
 use Rattle.row_laws.proofs.Surplus.{surpluses-are, surpluses-length}
 use Rattle.cert_form.specs.Certificate.{CertValue}

@@ -1,7 +1,7 @@
 -- All tests together: a certificate that passes them is sound.
 use Rattle.std.specs.Prelude.{◌≡◌, ℕ, List, length}
-use Rattle.auction_model.specs.Book.{Book}
-use Rattle.auction_model.specs.Prices.{AreWeights, weight_of}
+use Rattle.row_laws.specs.auction_model.specs.Book.{Book}
+use Rattle.row_laws.specs.auction_model.specs.Prices.{AreWeights, weight_of}
 use Rattle.cert_form.specs.Certificate.{CertValue}
 use Rattle.cert_laws.specs.Tests.{bidders_of, Holds}
 use Rattle.cert_laws.specs.Sound.{IsSound}

@@ -3,8 +3,8 @@ use Rattle.std.specs.Prelude.{◌≡◌, ℕ, suc, ◌+◌, ◌*◌, ◌≤◌, 
 use Rattle.std.proofs.Common.{inl, inr, sym, ap, subst, arith}
 use Rattle.std.proofs.lemmas.Bool.{cases_order}
 use Rattle.std.proofs.Math.Nat.{mul-le-mul_left}
-use Rattle.auction_model.specs.Menu.{Menu}
-use Rattle.auction_model.specs.Place.{states_of}
+use Rattle.row_laws.specs.auction_model.specs.Menu.{Menu}
+use Rattle.row_laws.specs.auction_model.specs.Place.{states_of}
 use Rattle.cert_laws.specs.Tests.{ObeysAt}
 
 -- the number of a line and a place comes before that of another only where the line does, or the place in the same line

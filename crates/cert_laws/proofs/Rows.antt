@@ -3,14 +3,14 @@ use Rattle.std.specs.Prelude.{◌≡◌, ℕ, zero, suc, ◌<◌, Bool, true, fa
 use Rattle.std.proofs.Common.{sym, ◌∙◌, ap, arith}
 use Rattle.std.proofs.lemmas.Bool.{false≢true, not_from_false, false_from_ne_true}
 use Rattle.std.proofs.lemmas.Int.{ints}
-use Rattle.auction_model.specs.Market.{Market, number_of, uses, worth_in}
-use Rattle.auction_model.specs.Lowered.{of_bidder}
-use Rattle.auction_model.specs.Book.{Book, market_of}
-use Rattle.auction_model.specs.Prices.{Point, sum_over, everyone, paid, offer, IsCorePoint}
-use Rattle.auction_model.specs.Blocks.{row_bound, excess_of}
-use Rattle.wide_num.specs.Sums.{dot}
-use Rattle.wide_num.proofs.Sums.{total-same}
-use Rattle.point_laws.specs.Points.{MeetsRows, IsTight}
+use Rattle.row_laws.specs.auction_model.specs.Market.{Market, number_of, uses, worth_in}
+use Rattle.row_laws.specs.auction_model.specs.Lowered.{of_bidder}
+use Rattle.row_laws.specs.auction_model.specs.Book.{Book, market_of}
+use Rattle.row_laws.specs.auction_model.specs.Prices.{Point, sum_over, everyone, paid, offer, IsCorePoint}
+use Rattle.row_laws.specs.auction_model.specs.Blocks.{row_bound, excess_of}
+use Rattle.cert_form.specs.wide_num.specs.Sums.{dot}
+use Rattle.cert_form.specs.wide_num.proofs.Sums.{total-same}
+use Rattle.row_laws.specs.point_laws.specs.Points.{MeetsRows, IsTight}
 use Rattle.row_laws.proofs.Sums.{over-is}
 use Rattle.row_laws.proofs.Rows.{excess-bound}
 use Rattle.cert_form.specs.Certificate.{CertValue, RowValue, is_member, row_of}

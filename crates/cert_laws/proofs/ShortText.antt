@@ -2,16 +2,16 @@
 use Rattle.std.proofs.Common.{◌≡◌, ℕ, suc, zero, ◌+◌, ◌≤◌, ◌<◌, Bool, true, false, cond, ◌==◌, IsTrue, List, [], ◌∷◌, ◌++◌, length, codes, get_or, refl, ap, subst, arith, unsigned_abs}
 use Rattle.std.specs.Prelude.{ℤ, pos}
 use Rattle.std.proofs.lemmas.Bool.{ne_eqb, not_from_false}
-use Rattle.limits.specs.declared.TheConstants.{MOST_AMOUNT}
-use Rattle.auction_model.specs.Book.{Book, net_of, menu_of}
-use Rattle.auction_model.specs.Lowered.{sum_to}
-use Rattle.auction_model.specs.Market.{number_of, uses}
-use Rattle.auction_model.specs.Menu.{Menu, without}
-use Rattle.auction_model.specs.Place.{states_of}
-use Rattle.auction_model.specs.Table.{IsExactTable, IsLine}
-use Rattle.auction_model.proofs.BoundLaws.{AreCapped, line-sizes}
-use Rattle.text_lines.specs.Numeral.{numbers_text}
-use Rattle.text_lines.proofs.Lengths.{tens, times}
+use Rattle.cert_form.specs.limits.specs.declared.TheConstants.{MOST_AMOUNT}
+use Rattle.row_laws.specs.auction_model.specs.Book.{Book, net_of, menu_of}
+use Rattle.row_laws.specs.auction_model.specs.Lowered.{sum_to}
+use Rattle.row_laws.specs.auction_model.specs.Market.{number_of, uses}
+use Rattle.row_laws.specs.auction_model.specs.Menu.{Menu, without}
+use Rattle.row_laws.specs.auction_model.specs.Place.{states_of}
+use Rattle.row_laws.specs.auction_model.specs.Table.{IsExactTable, IsLine}
+use Rattle.row_laws.specs.auction_model.proofs.BoundLaws.{AreCapped, line-sizes}
+use Rattle.cert_form.specs.text_lines.specs.Numeral.{numbers_text}
+use Rattle.cert_form.specs.text_lines.proofs.Lengths.{tens, times}
 use Rattle.row_laws.specs.Winners.{winners_in}
 use Rattle.cert_form.specs.Certificate.{CertValue, part_of}
 use Rattle.cert_form.specs.Lines.{Line, is_first_version, version_of, version_lines}

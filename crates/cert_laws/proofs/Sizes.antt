@@ -3,24 +3,24 @@ use Rattle.std.specs.Prelude.{◌≡◌, ℕ, zero, suc, ◌+◌, ◌-◌, ◌*�
 use Rattle.std.proofs.Common.{inl, inr, sym, ◌∙◌, ap, subst, arith, set}
 use Rattle.std.proofs.lemmas.Bool.{and_parts, and_from, le-leb, cases_Bool}
 use Rattle.std.proofs.lemmas.Int.{ints}
-use Rattle.auction_model.specs.Package.{is_within, less}
-use Rattle.auction_model.specs.Place.{states_of, place_of, left_at}
-use Rattle.auction_model.specs.Market.{sum_after, number_of, uses}
-use Rattle.auction_model.specs.Menu.{Menu, is_known_after, packages_after, fits_after}
-use Rattle.auction_model.specs.Table.{entry_at, IsExactTable, IsEntry}
-use Rattle.auction_model.specs.Lowered.{of_bidder}
-use Rattle.auction_model.specs.Book.{Book, bids_of, net_of, menu_of, market_of, lots_of}
-use Rattle.auction_model.specs.Prices.{sum_over, everyone}
-use Rattle.auction_model.proofs.PackageLaws.{less-empty}
-use Rattle.auction_model.proofs.MenuLaws.{fits-cons, fits-at_end}
-use Rattle.auction_model.proofs.PlaceLaws.{left_at-less, place-less_below, left_at-whole}
-use Rattle.auction_model.proofs.BookMarket.{fewer-known, fewer-taken}
+use Rattle.row_laws.specs.auction_model.specs.Package.{is_within, less}
+use Rattle.row_laws.specs.auction_model.specs.Place.{states_of, place_of, left_at}
+use Rattle.row_laws.specs.auction_model.specs.Market.{sum_after, number_of, uses}
+use Rattle.row_laws.specs.auction_model.specs.Menu.{Menu, is_known_after, packages_after, fits_after}
+use Rattle.row_laws.specs.auction_model.specs.Table.{entry_at, IsExactTable, IsEntry}
+use Rattle.row_laws.specs.auction_model.specs.Lowered.{of_bidder}
+use Rattle.row_laws.specs.auction_model.specs.Book.{Book, bids_of, net_of, menu_of, market_of, lots_of}
+use Rattle.row_laws.specs.auction_model.specs.Prices.{sum_over, everyone}
+use Rattle.row_laws.specs.auction_model.proofs.PackageLaws.{less-empty}
+use Rattle.row_laws.specs.auction_model.proofs.MenuLaws.{fits-cons, fits-at_end}
+use Rattle.row_laws.specs.auction_model.proofs.PlaceLaws.{left_at-less, place-less_below, left_at-whole}
+use Rattle.row_laws.specs.auction_model.proofs.BookMarket.{fewer-known, fewer-taken}
 use Rattle.cert_form.specs.Certificate.{CertValue, part_of}
 use Rattle.cert_laws.specs.Tests.{Obeys, bidders_of, states, C2, C3, C4, C5, won, vickrey_of}
 use Rattle.cert_laws.proofs.Winning.{obeys, full-below, allowed, value_is, most, part_most, unused_to, lost-nothing}
-use Rattle.wide_num.specs.Sums.{total}
-use Rattle.wide_num.proofs.Sums.{total-scale}
-use Rattle.point_laws.proofs.Sums.{total-le}
+use Rattle.cert_form.specs.wide_num.specs.Sums.{total}
+use Rattle.cert_form.specs.wide_num.proofs.Sums.{total-scale}
+use Rattle.row_laws.specs.point_laws.proofs.Sums.{total-le}
 use Rattle.row_laws.proofs.Sums.{over-is, choice-is}
 
 module _ (m : Menu) (worth : ℕ → ℕ → ℤ) (supply : List ℕ) (table : List (List ℤ)) (rules : Obeys m worth supply table) where

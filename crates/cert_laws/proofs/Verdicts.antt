@@ -2,7 +2,7 @@
 use Rattle.std.specs.Prelude.{◌≡◌, ℕ, refl}
 use Rattle.std.proofs.Common.{inl, inr, sym}
 use Rattle.std.proofs.lemmas.Bool.{cases_order}
-use Rattle.auction_model.specs.Book.{Book}
+use Rattle.row_laws.specs.auction_model.specs.Book.{Book}
 use Rattle.cert_form.specs.Certificate.{CertValue}
 use Rattle.cert_laws.specs.Tests.{Asks, Holds, FailsFirst}
 

@@ -3,18 +3,18 @@ use Rattle.std.specs.Prelude.{◌≡◌, ℕ, zero, suc, ◌+◌, ◌-◌, ◌*�
 use Rattle.std.proofs.Common.{sym, ◌∙◌, ap, subst, arith}
 use Rattle.std.proofs.lemmas.Bool.{false≢true, and_from, le-leb, eqb-true, eq-eqb, not-true, not-false}
 use Rattle.std.proofs.lemmas.Int.{ints}
-use Rattle.auction_model.specs.Package.{is_within}
-use Rattle.auction_model.specs.Place.{states_of, left_at}
-use Rattle.auction_model.specs.Market.{sum_after, value_of, number_of, worth_in, uses}
-use Rattle.auction_model.specs.Menu.{Menu, is_known_after, packages_after, fits_after, without}
-use Rattle.auction_model.specs.Greatest.{IsGreatestValue, IsWinning}
-use Rattle.auction_model.specs.Table.{entry_at}
-use Rattle.auction_model.specs.Book.{Book, bids_of, net_of, menu_of, market_of}
-use Rattle.auction_model.specs.Prices.{allowed_without, IsVickreyPrice, AreVickreyPrices}
-use Rattle.auction_model.proofs.ChoiceLaws.{known-length}
-use Rattle.auction_model.proofs.BookMarket.{fits-known}
-use Rattle.auction_model.proofs.PlaceLaws.{left_at-whole, states-positive}
-use Rattle.auction_model.proofs.SkipLaws.{fits-skip}
+use Rattle.row_laws.specs.auction_model.specs.Package.{is_within}
+use Rattle.row_laws.specs.auction_model.specs.Place.{states_of, left_at}
+use Rattle.row_laws.specs.auction_model.specs.Market.{sum_after, value_of, number_of, worth_in, uses}
+use Rattle.row_laws.specs.auction_model.specs.Menu.{Menu, is_known_after, packages_after, fits_after, without}
+use Rattle.row_laws.specs.auction_model.specs.Greatest.{IsGreatestValue, IsWinning}
+use Rattle.row_laws.specs.auction_model.specs.Table.{entry_at}
+use Rattle.row_laws.specs.auction_model.specs.Book.{Book, bids_of, net_of, menu_of, market_of}
+use Rattle.row_laws.specs.auction_model.specs.Prices.{allowed_without, IsVickreyPrice, AreVickreyPrices}
+use Rattle.row_laws.specs.auction_model.proofs.ChoiceLaws.{known-length}
+use Rattle.row_laws.specs.auction_model.proofs.BookMarket.{fits-known}
+use Rattle.row_laws.specs.auction_model.proofs.PlaceLaws.{left_at-whole, states-positive}
+use Rattle.row_laws.specs.auction_model.proofs.SkipLaws.{fits-skip}
 use Rattle.cert_form.specs.Certificate.{CertValue, part_of}
 use Rattle.cert_laws.specs.Tests.{Obeys, bidders_of, states, full, C2, C3, C4, IsPart, won, vickrey_of}
 use Rattle.cert_laws.specs.Sound.{cert_prices}

@@ -1,7 +1,7 @@
 -- Books within the limits of an auction, as far as the length of a certificate depends on them.
 use Rattle.std.specs.Prelude.{ℕ, ◌≤◌, length, unsigned_abs}
-use Rattle.limits.specs.declared.TheConstants.{MOST_AMOUNT, MOST_BIDDERS, MOST_STATES}
-use Rattle.auction_model.specs.Book.{Book, bids_of, net_of}
+use Rattle.cert_form.specs.limits.specs.declared.TheConstants.{MOST_AMOUNT, MOST_BIDDERS, MOST_STATES}
+use Rattle.row_laws.specs.auction_model.specs.Book.{Book, bids_of, net_of}
 use Rattle.cert_laws.specs.Tests.{bidders_of, states}
 
 -- so many bidders and states at most, and no net amount is larger than an amount may be

@@ -3,3 +3,9 @@ pub mod Tests
 pub mod Sound
 pub mod Priced
 pub mod BookSizes
+pub use Rattle.row_laws.specs.auction_model
+pub use Rattle.cert_form
+pub use Rattle.row_laws.specs.far_num
+pub use Rattle.row_laws.specs.point_laws
+pub use Rattle.row_laws
+pub use Rattle.cert_form.specs.wide_num

@@ -1,9 +1,9 @@
 -- The tests of a certificate that need no more of an auction than its market: those of payments, rows and multipliers. As all tests,
 -- each asks something at each of its places and nothing at any other number.
 use Rattle.std.specs.Prelude.{◌≡◌, ℕ, zero, suc, ◌+◌, ◌<◌, ◌≤◌, IsTrue, IsFalse, not, List, length, ℤ, pos, ◌+ℤ◌, ◌-ℤ◌, ◌*ℤ◌, ◌≤ℤ◌, ◌<ℤ◌, ◌⊎◌, if◌then◌else◌}
-use Rattle.auction_model.specs.Market.{Market, value_of, number_of, worth_in, uses}
-use Rattle.auction_model.specs.Lowered.{of_bidder}
-use Rattle.auction_model.specs.Prices.{sum_over}
+use Rattle.row_laws.specs.auction_model.specs.Market.{Market, value_of, number_of, worth_in, uses}
+use Rattle.row_laws.specs.auction_model.specs.Lowered.{of_bidder}
+use Rattle.row_laws.specs.auction_model.specs.Prices.{sum_over}
 use Rattle.cert_form.specs.Certificate.{CertValue, RowValue, is_member, part_of, row_of}
 
 -- what a winner's bid is worth, and 0 for a loser

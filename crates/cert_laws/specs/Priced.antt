@@ -1,12 +1,12 @@
 -- What a certificate that pricing writes is.
 use Rattle.std.specs.Prelude.{ℕ, ◌<◌, ◌≤◌, IsTrue}
-use Rattle.auction_model.specs.Book.{Book, net_of, menu_of, market_of}
-use Rattle.auction_model.specs.Greatest.{IsFirstGreatest, IsWinning}
-use Rattle.auction_model.specs.Lowered.{lowered}
-use Rattle.auction_model.specs.Market.{value_of, uses}
-use Rattle.auction_model.specs.Menu.{without}
-use Rattle.auction_model.specs.Prices.{IsCoreOutcome, allowed_without}
-use Rattle.auction_model.specs.Table.{IsExactTable}
+use Rattle.row_laws.specs.auction_model.specs.Book.{Book, net_of, menu_of, market_of}
+use Rattle.row_laws.specs.auction_model.specs.Greatest.{IsFirstGreatest, IsWinning}
+use Rattle.row_laws.specs.auction_model.specs.Lowered.{lowered}
+use Rattle.row_laws.specs.auction_model.specs.Market.{value_of, uses}
+use Rattle.row_laws.specs.auction_model.specs.Menu.{without}
+use Rattle.row_laws.specs.auction_model.specs.Prices.{IsCoreOutcome, allowed_without}
+use Rattle.row_laws.specs.auction_model.specs.Table.{IsExactTable}
 use Rattle.row_laws.specs.Surplus.{surpluses_of}
 use Rattle.cert_form.specs.Certificate.{CertValue, WithoutValue, part_of}
 use Rattle.cert_laws.specs.Sound.{cert_point}

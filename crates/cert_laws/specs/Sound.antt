@@ -1,9 +1,9 @@
 -- What a yes of the checker says of a book and a certificate.
 use Rattle.std.specs.Prelude.{◌≡◌, ℕ, ℤ, pos, if◌then◌else◌}
-use Rattle.auction_model.specs.Book.{Book, market_of}
-use Rattle.auction_model.specs.Greatest.{IsWinning}
-use Rattle.auction_model.specs.Market.{value_of, uses}
-use Rattle.auction_model.specs.Prices.{Point, AreVickreyPrices, IsCoreOutcome}
+use Rattle.row_laws.specs.auction_model.specs.Book.{Book, market_of}
+use Rattle.row_laws.specs.auction_model.specs.Greatest.{IsWinning}
+use Rattle.row_laws.specs.auction_model.specs.Market.{value_of, uses}
+use Rattle.row_laws.specs.auction_model.specs.Prices.{Point, AreVickreyPrices, IsCoreOutcome}
 use Rattle.cert_form.specs.Certificate.{CertValue}
 use Rattle.cert_laws.specs.Tests.{vickrey_of}
 

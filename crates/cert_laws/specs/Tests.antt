@@ -1,13 +1,13 @@
 -- The tests C1 to C9 of a certificate of a book and the weights of its bidders. A test asks something at each of its places, in the order of the places, and nothing at any other number.
 use Rattle.std.specs.Prelude.{◌≡◌, ℕ, zero, suc, ◌+◌, ◌-◌, ◌*◌, ◌^◌, ◌<◌, ◌≤◌, IsTrue, List, length, ℤ, pos, ◌+ℤ◌, ◌-ℤ◌, ◌*ℤ◌, ◌≤ℤ◌, ◌<ℤ◌, ◌⊎◌, if◌then◌else◌}
-use Rattle.auction_model.specs.Package.{is_within, less}
-use Rattle.auction_model.specs.Market.{is_number_before, value_of, number_of, uses}
-use Rattle.auction_model.specs.Menu.{Menu, packages_after, without}
-use Rattle.auction_model.specs.Place.{states_of, place_of, left_at}
-use Rattle.auction_model.specs.Table.{entry_at}
-use Rattle.auction_model.specs.Lowered.{of_bidder}
-use Rattle.auction_model.specs.Book.{Book, bids_of, net_of, menu_of, market_of}
-use Rattle.auction_model.specs.Prices.{sum_over, everyone}
+use Rattle.row_laws.specs.auction_model.specs.Package.{is_within, less}
+use Rattle.row_laws.specs.auction_model.specs.Market.{is_number_before, value_of, number_of, uses}
+use Rattle.row_laws.specs.auction_model.specs.Menu.{Menu, packages_after, without}
+use Rattle.row_laws.specs.auction_model.specs.Place.{states_of, place_of, left_at}
+use Rattle.row_laws.specs.auction_model.specs.Table.{entry_at}
+use Rattle.row_laws.specs.auction_model.specs.Lowered.{of_bidder}
+use Rattle.row_laws.specs.auction_model.specs.Book.{Book, bids_of, net_of, menu_of, market_of}
+use Rattle.row_laws.specs.auction_model.specs.Prices.{sum_over, everyone}
 pub use Rattle.cert_laws.specs.MarketTests.{sum_holding}
 use Rattle.cert_laws.specs.MarketTests.{won_in, vickrey_in, PaysWithinBids, IsTight, HasTightRow, ShowsLeastSum, ShowsNearest}
 use Rattle.cert_form.specs.Certificate.{CertValue, WithoutValue, RowValue, part_of}

@@ -8,21 +8,24 @@
 #![tactic(auto)]
 
 ghost use Rattle.std.specs.Prelude.{◌≡◌, ◌≤◌, ◌<◌, ℕ, List, ℤ, length};
-ghost use Rattle.auction_model.specs.Book.{Book, net_of, menu_of, market_of};
-ghost use Rattle.auction_model.specs.Lowered.{lowered};
-ghost use Rattle.auction_model.specs.Menu.{without};
-ghost use Rattle.auction_model.specs.Prices.{AreWeights, weight_of};
-ghost use Rattle.auction_model.specs.Table.{IsExactTable};
+ghost use Rattle.row_laws.specs.auction_model.specs.Book.{Book, net_of, menu_of, market_of};
+ghost use Rattle.row_laws.specs.auction_model.specs.Lowered.{lowered};
+ghost use Rattle.row_laws.specs.auction_model.specs.Menu.{without};
+ghost use Rattle.row_laws.specs.auction_model.specs.Prices.{AreWeights, weight_of};
+ghost use Rattle.row_laws.specs.auction_model.specs.Table.{IsExactTable};
 ghost use Rattle.row_laws.specs.Surplus.{surpluses_of};
 ghost use Rattle.cert_form.specs.Certificate.{CertValue};
 ghost use Rattle.cert_form.specs.CertText.{IsCertificate};
 ghost use Rattle.cert_form.specs.Says.{cert_text};
 ghost use Rattle.row_laws.specs.Winners.{winners_in};
-ghost use Rattle.limits.specs.declared.TheConstants.{MOST_WINNERS};
+ghost use Rattle.cert_form.specs.limits.specs.declared.TheConstants.{MOST_WINNERS};
 ghost use Rattle.cert_laws.specs.BookSizes.{IsWithinSizes};
 ghost use Rattle.cert_laws.specs.Priced.{IsPricedCert};
 ghost use Rattle.cert_laws.specs.Sound.{IsSound};
 ghost use Rattle.cert_laws.specs.Tests.{Obeys, bidders_of, states, C5, lowered_net, Holds, FailsFirst};
+
+pub use cert_form;
+pub use cert_form::wide_num;
 
 /// A certificate that passes all tests is sound: its choice is the winning one, its value the value of that choice, its
 /// parts give the Vickrey prices, and its choice and payments are the core outcome.

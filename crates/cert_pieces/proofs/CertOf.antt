@@ -3,13 +3,13 @@ use Rattle.std.proofs.Common.{◌≡◌, ℕ, suc, zero, ◌≤◌, List, [], �
 use Rattle.std.proofs.lemmas.Int.{ints}
 use Rattle.std.specs.Prelude.{ℤ, pos, negsuc, codes, map}
 use Rattle.cert_pieces.specs.Standing.{AllIn}
-use Rattle.cert_form.specs.Certificate.{CertValue, WithoutValue, RowValue}
-use Rattle.cert_form.specs.Plan.{Follows}
-use Rattle.cert_form.specs.Lines.{Line, Kind, Numbers, kind, these, signed, chosen, headed, counted, members, Fits, FitNumbers, AreNumbers, Rise, after, after_numbers, just_line, table_plan, parts_plan, rows_plan, version_lines, version_plan, body_plan, IsCertText}
-use Rattle.text_lines.specs.Range.{AllInRange}
+use Rattle.cert_text.specs.cert_form.specs.Certificate.{CertValue, WithoutValue, RowValue}
+use Rattle.cert_text.specs.cert_form.specs.Plan.{Follows}
+use Rattle.cert_text.specs.cert_form.specs.Lines.{Line, Kind, Numbers, kind, these, signed, chosen, headed, counted, members, Fits, FitNumbers, AreNumbers, Rise, after, after_numbers, just_line, table_plan, parts_plan, rows_plan, version_lines, version_plan, body_plan, IsCertText}
+use Rattle.cert_text.specs.text_lines.specs.Range.{AllInRange}
 use Rattle.cert_text.proofs.PlanSteps.{all_in}
-use Rattle.cert_form.proofs.Version.{version_is}
-use Rattle.cert_form.specs.CertText.{line, as_numbers, choice_line, table_lines, part_lines, row_lines, body_lines, cert_lines, AtMost, AreTableLines, AreWithouts, AreMembers, AreRows, IsCertificate}
+use Rattle.cert_text.specs.cert_form.proofs.Version.{version_is}
+use Rattle.cert_text.specs.cert_form.specs.CertText.{line, as_numbers, choice_line, table_lines, part_lines, row_lines, body_lines, cert_lines, AtMost, AreTableLines, AreWithouts, AreMembers, AreRows, IsCertificate}
 
 -- of lines in range, the first ones are
 in_left : (xs ys : List Line) → AllIn (xs ++ ys) → AllIn xs

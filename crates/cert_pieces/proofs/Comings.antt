@@ -2,11 +2,11 @@
 use Rattle.std.proofs.Common.{◌≡◌, ◌≢◌, ℕ, suc, zero, ◌+◌, ◌-◌, ◌≤◌, ◌<◌, Bool, true, false, List, [], ◌∷◌, ◌++◌, length, drop, get_or, refl, sym, ap, subst, ◌∙◌, arith, append_assoc}
 use Rattle.std.proofs.lemmas.Bool.Decides.{nat_tests}
 use Rattle.std.specs.Prelude.{ℤ, pos, codes, nat_le, nat_eq, if◌then◌else◌}
-use Rattle.cert_form.specs.Certificate.{CertValue, WithoutValue, RowValue, part_of}
-use Rattle.cert_form.specs.Lines.{Line, is_first_version, version_of}
-use Rattle.cert_form.specs.CertText.{line, as_numbers, choice_line, table_lines, part_lines, row_lines, body_lines, cert_lines, IsCertificate, IsWithout, AreWithouts}
-use Rattle.cert_form.proofs.Version.{version_is}
-use Rattle.cert_form.proofs.Written.{long_numbers}
+use Rattle.cert_text.specs.cert_form.specs.Certificate.{CertValue, WithoutValue, RowValue, part_of}
+use Rattle.cert_text.specs.cert_form.specs.Lines.{Line, is_first_version, version_of}
+use Rattle.cert_text.specs.cert_form.specs.CertText.{line, as_numbers, choice_line, table_lines, part_lines, row_lines, body_lines, cert_lines, IsCertificate, IsWithout, AreWithouts}
+use Rattle.cert_text.specs.cert_form.proofs.Version.{version_is}
+use Rattle.cert_text.specs.cert_form.proofs.Written.{long_numbers}
 use Rattle.cert_pieces.specs.declared.due.Due.{Due}
 use Rattle.cert_pieces.specs.declared.due.Due.TheVariants.{Version, Without, Payments, Rows}
 use Rattle.cert_pieces.specs.declared.due.Table.{Table}

@@ -4,18 +4,18 @@ use Rattle.std.proofs.lemmas.Bool.Decides.{nat_tests}
 use Rattle.std.proofs.lemmas.Int.{ints}
 use Rattle.std.proofs.lemmas.List.{append-nil}
 use Rattle.std.specs.Prelude.{ℤ, pos, negsuc, codes}
-use Rattle.cert_form.specs.Certificate.{CertValue}
-use Rattle.cert_form.specs.CertText.{line, cert_lines, IsCertificate}
-use Rattle.cert_form.specs.Plan.{Follows}
-use Rattle.cert_form.specs.Lines.{AreNumbers, FitNumbers, Fits, IsCertText, Kind, Line, Numbers, after, after_numbers, chosen, counted, headed, is_first_version, kind, members, part_plan, parts_plan, rows_plan, signed, table_plan, these, unless_zero, ordered_head, ordered_count}
-use Rattle.text_lines.specs.Range.{any_out}
+use Rattle.cert_text.specs.cert_form.specs.Certificate.{CertValue}
+use Rattle.cert_text.specs.cert_form.specs.CertText.{line, cert_lines, IsCertificate}
+use Rattle.cert_text.specs.cert_form.specs.Plan.{Follows}
+use Rattle.cert_text.specs.cert_form.specs.Lines.{AreNumbers, FitNumbers, Fits, IsCertText, Kind, Line, Numbers, after, after_numbers, chosen, counted, headed, is_first_version, kind, members, part_plan, parts_plan, rows_plan, signed, table_plan, these, unless_zero, ordered_head, ordered_count}
+use Rattle.cert_text.specs.text_lines.specs.Range.{any_out}
 use Rattle.cert_pieces.specs.declared.due.Due.{Due}
 use Rattle.cert_pieces.specs.declared.due.Due.TheVariants.{Version, Limits, Den, Value, Choice, Title, Entries, Without, PartChoice, Payments, Rows, Members, Multipliers, RowChoice, End, Nothing}
 use Rattle.cert_pieces.specs.declared.due.Table.{Table}
 use Rattle.cert_pieces.specs.declared.due.Table.TheVariants.{Head, Part, Lowered}
 use Rattle.cert_text.specs.StagePlans.{closing_plan}
 use Rattle.cert_pieces.specs.Dues.{ending, from_part, behind_table, version_number, limits_plan, opening, plan_due, IsDue, IsTableOf}
-use Rattle.cert_form.proofs.PlanReads.{follows_both}
+use Rattle.cert_text.specs.cert_form.proofs.PlanReads.{follows_both}
 use Rattle.cert_pieces.proofs.CertOf.{cert_of}
 use Rattle.cert_pieces.specs.Standing.{AllIn, IsReading}
 use Rattle.cert_pieces.specs.declared.line.LinePart.{LinePart}

@@ -5,7 +5,7 @@ use Rattle.std.proofs.lemmas.Bool.{cases_lt}
 use Rattle.std.specs.Prelude.{ℤ, false}
 use Rattle.cert_pieces.specs.declared.due.Due.{Due}
 use Rattle.cert_pieces.specs.declared.due.Due.TheVariants.{Version, Limits, Den, Value, Choice, Title, Entries, Without, PartChoice, Payments, Rows, Members, Multipliers, RowChoice, End, Nothing}
-use Rattle.cert_form.specs.Lines.{FitNumbers}
+use Rattle.cert_text.specs.cert_form.specs.Lines.{FitNumbers}
 use Rattle.cert_pieces.specs.declared.line.form.Form.{Form}
 use Rattle.cert_pieces.specs.declared.line.form.Form.TheVariants as form
 use Rattle.cert_pieces.specs.declared.line.form.Form.TheVariants.{Just, Both, Signed, Chosen, Counted}

@@ -2,12 +2,12 @@
 use Rattle.std.proofs.Common.{◌≡◌, ◌≢◌, ℕ, suc, zero, ◌+◌, Bool, true, false, List, [], ◌∷◌, ◌++◌, length, take, drop, get_or, refl, sym, ap, subst, ◌∙◌, arith, append_assoc, length-append, take-append-drop}
 use Rattle.std.proofs.lemmas.List.{drop_all, append-nil}
 use Rattle.std.specs.Prelude.{ℤ, pos, Option, Some, None, codes, map}
-use Rattle.line_text.specs.LineText.{IsLine, IsTextOf}
-use Rattle.cert_form.specs.Plan.{Follows as ToEnd}
-use Rattle.cert_form.specs.Lines.{FitNumbers, Fits, IsCertText, Kind, Line, after, body_plan, cert_plan, is_first_version, just_line, kind, lines, over, these, version_of}
-use Rattle.cert_form.specs.CertText.{line}
-use Rattle.cert_form.specs.Reading.{Reached}
-use Rattle.cert_form.proofs.Reading.{reached-start}
+use Rattle.cert_text.specs.line_text.specs.LineText.{IsLine, IsTextOf}
+use Rattle.cert_text.specs.cert_form.specs.Plan.{Follows as ToEnd}
+use Rattle.cert_text.specs.cert_form.specs.Lines.{FitNumbers, Fits, IsCertText, Kind, Line, after, body_plan, cert_plan, is_first_version, just_line, kind, lines, over, these, version_of}
+use Rattle.cert_text.specs.cert_form.specs.CertText.{line}
+use Rattle.cert_text.specs.cert_form.specs.Reading.{Reached}
+use Rattle.cert_text.specs.cert_form.proofs.Reading.{reached-start}
 use Rattle.cert_pieces.specs.declared.due.Due.{Due}
 use Rattle.cert_pieces.specs.declared.due.Due.TheVariants.{Version, Limits, Den, Value, Choice, Title, Entries, Without, PartChoice, Payments, Rows, Members, Multipliers, RowChoice, End, Nothing}
 use Rattle.cert_pieces.specs.declared.line.LinePart.{LinePart}
@@ -20,7 +20,7 @@ use Rattle.cert_pieces.specs.Dues.{word_of, numbers_due, behind, plan_due, versi
 use Rattle.cert_pieces.specs.Rooms.{form_due, start_due, segment}
 use Rattle.cert_pieces.specs.Stops.{SaysStop, StopsFor}
 use Rattle.cert_pieces.specs.Standing.{AllIn, Lead, IsReading, IsEnding, ReadsBehind, StandsBehind}
-use Rattle.line_text.proofs.Lines.{line_append}
+use Rattle.cert_text.specs.line_text.proofs.Lines.{line_append}
 use Rattle.cert_pieces.proofs.Places.{reached_more, reached_within, drop_more, line_unfit, line_done, line_out, line_unfinished, behind_last, all_there}
 
 -- one more line in range

@@ -2,11 +2,11 @@
 use Rattle.std.proofs.Common.{◌≡◌, ℕ, Bool, true, false, List, [], ◌∷◌, refl, sym, subst}
 use Rattle.std.specs.Prelude.{Some, None, if◌then◌else◌}
 use Rattle.std.specs.Option.{option_or}
-use Rattle.line_text.specs.LineText.{first_excess, IsTextOf, stated}
-use Rattle.cert_form.specs.Certificate.{CertValue}
-use Rattle.cert_form.specs.Plan.{placed, next_place}
-use Rattle.cert_form.specs.Lines.{Line, spell, over, lines, IsCertText}
-use Rattle.cert_form.specs.Says.{CertSays}
+use Rattle.cert_text.specs.line_text.specs.LineText.{first_excess, IsTextOf, stated}
+use Rattle.cert_text.specs.cert_form.specs.Certificate.{CertValue}
+use Rattle.cert_text.specs.cert_form.specs.Plan.{placed, next_place}
+use Rattle.cert_text.specs.cert_form.specs.Lines.{Line, spell, over, lines, IsCertText}
+use Rattle.cert_text.specs.cert_form.specs.Says.{CertSays}
 use Rattle.cert_pieces.specs.Standing.{AllIn}
 use Rattle.cert_pieces.proofs.CertOf.{cert_of}
 

@@ -2,14 +2,14 @@
 use Rattle.std.proofs.Common.{◌≡◌, ℕ, ◌+◌, ◌-◌, ◌*◌, ◌≤◌, ◌<◌, ◌^◌, Bool, true, false, List, [], ◌∷◌, ◌++◌, length, set, get_or, take, drop, refl, sym, ap, subst, ◌∙◌, arith, append_assoc}
 use Rattle.std.proofs.lemmas.Bool.Decides.{nat_tests}
 use Rattle.std.specs.Prelude.{ℤ, pos, ◌||◌}
-use Rattle.line_text.specs.LineText.{IsLine}
-use Rattle.line_text.proofs.Lines.{line_append}
-use Rattle.text_lines.specs.Numeral.{numeral, numbers_text}
-use Rattle.text_lines.specs.Range.{is_out}
-use Rattle.text_lines.proofs.Numerals.{numeral_is, numeral-one}
-use Rattle.text_lines.proofs.FieldRuns.{numbers-push}
-use Rattle.wide_num.proofs.Decimal.{IsDigit}
-use Rattle.cert_form.specs.Lines.{signed}
+use Rattle.cert_text.specs.line_text.specs.LineText.{IsLine}
+use Rattle.cert_text.specs.line_text.proofs.Lines.{line_append}
+use Rattle.cert_text.specs.text_lines.specs.Numeral.{numeral, numbers_text}
+use Rattle.cert_text.specs.text_lines.specs.Range.{is_out}
+use Rattle.cert_text.specs.text_lines.proofs.Numerals.{numeral_is, numeral-one}
+use Rattle.cert_text.specs.text_lines.proofs.FieldRuns.{numbers-push}
+use Rattle.cert_text.specs.wide_num.proofs.Decimal.{IsDigit}
+use Rattle.cert_text.specs.cert_form.specs.Lines.{signed}
 use Rattle.cert_pieces.specs.declared.line.fields.Field.{Field}
 use Rattle.cert_pieces.specs.declared.line.form.Form.TheVariants.{Signed}
 use Rattle.cert_pieces.specs.Fields.{IsField, behind_space}

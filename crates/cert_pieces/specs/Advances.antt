@@ -1,6 +1,6 @@
 -- What bytes of a piece make of a reader.
 use Rattle.std.specs.Prelude.{◌≡◌, ℕ, ◌≤◌, ◌<◌, List, ◌++◌, get_or, ℤ}
-use Rattle.cert_form.specs.Lines.{Line}
+use Rattle.cert_text.specs.cert_form.specs.Lines.{Line}
 use Rattle.cert_pieces.specs.declared.reader.Reader.{Reader}
 use Rattle.cert_pieces.specs.declared.reader.Progress.{Progress}
 use Rattle.cert_pieces.specs.declared.reader.Progress.TheVariants.{Open, Ended}

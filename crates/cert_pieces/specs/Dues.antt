@@ -1,8 +1,8 @@
 -- The plan of a certificate's lines, by the line that is to come.
 use Rattle.std.specs.Prelude.{◌≡◌, ℕ, suc, ◌-◌, ◌<◌, ◌≤◌, Bool, true, false, List, [], ◌∷◌, ◌++◌, codes, drop, replicate, ℤ, pos}
-use Rattle.limits.specs.declared.TheConstants.{MOST_BIDDERS, MOST_STATES}
-use Rattle.cert_form.specs.CertText.{line}
-use Rattle.cert_form.specs.Lines.{Line, Kind, Numbers, kind, these, signed, chosen, headed, counted, members, table_plan, parts_plan, rows_plan, after_numbers, is_first_version}
+use Rattle.cert_text.specs.limits.specs.declared.TheConstants.{MOST_BIDDERS, MOST_STATES}
+use Rattle.cert_text.specs.cert_form.specs.CertText.{line}
+use Rattle.cert_text.specs.cert_form.specs.Lines.{Line, Kind, Numbers, kind, these, signed, chosen, headed, counted, members, table_plan, parts_plan, rows_plan, after_numbers, is_first_version}
 use Rattle.cert_text.specs.StagePlans.{closing_plan}
 use Rattle.cert_pieces.specs.declared.due.Due.{Due}
 use Rattle.cert_pieces.specs.declared.due.Due.TheVariants.{Version, Limits, Den, Value, Choice, Title, Entries, Without, PartChoice, Payments, Rows, Members, Multipliers, RowChoice, End, Nothing}

@@ -1,9 +1,9 @@
 -- The lines of a certificate that are still to come.
 use Rattle.std.specs.Prelude.{◌≡◌, ℕ, ◌-◌, ◌≤◌, nat_le, Bool, true, false, List, [], ◌∷◌, ◌++◌, codes, drop, take, get_or, length, ℤ, pos, slice_index_or, if◌then◌else◌}
-use Rattle.limits.specs.declared.TheConstants.{MOST_BIDDERS, MOST_STATES}
-use Rattle.cert_form.specs.Certificate.{CertValue, WithoutValue, RowValue, part_of}
-use Rattle.cert_form.specs.Lines.{Line, is_first_version}
-use Rattle.cert_form.specs.CertText.{line, as_numbers, choice_line, table_lines, part_lines, row_lines, IsWithout, IsCertificate}
+use Rattle.cert_text.specs.limits.specs.declared.TheConstants.{MOST_BIDDERS, MOST_STATES}
+use Rattle.cert_text.specs.cert_form.specs.Certificate.{CertValue, WithoutValue, RowValue, part_of}
+use Rattle.cert_text.specs.cert_form.specs.Lines.{Line, is_first_version}
+use Rattle.cert_text.specs.cert_form.specs.CertText.{line, as_numbers, choice_line, table_lines, part_lines, row_lines, IsWithout, IsCertificate}
 use Rattle.cert_pieces.specs.declared.due.Due.{Due}
 use Rattle.cert_pieces.specs.declared.due.Due.TheVariants.{Version, Limits, Den, Value, Choice, Title, Entries, Without, PartChoice, Payments, Rows, Members, Multipliers, RowChoice, End, Nothing}
 use Rattle.cert_pieces.specs.declared.due.Table.{Table}

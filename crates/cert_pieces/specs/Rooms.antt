@@ -1,7 +1,7 @@
 -- Where the numbers of a line stand in the room.
 use Rattle.std.specs.Prelude.{◌≡◌, ℕ, ◌+◌, ◌-◌, ◌*◌, ◌%◌, List, take, drop, ℤ}
-use Rattle.limits.specs.declared.TheConstants.{MOST_BIDDERS, MOST_STATES}
-use Rattle.cert_form.specs.Lines.{is_first_version}
+use Rattle.cert_text.specs.limits.specs.declared.TheConstants.{MOST_BIDDERS, MOST_STATES}
+use Rattle.cert_text.specs.cert_form.specs.Lines.{is_first_version}
 use Rattle.cert_pieces.specs.declared.line.form.Form.{Form}
 use Rattle.cert_pieces.specs.declared.line.form.Form.TheVariants as form
 use Rattle.cert_pieces.specs.declared.due.Due.{Due}

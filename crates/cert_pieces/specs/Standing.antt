@@ -1,9 +1,9 @@
 -- For which text a reader stands.
 use Rattle.std.specs.Prelude.{◌≡◌, ℕ, ◌+◌, Option, Some, None, false, List, [], ◌∷◌, ◌++◌, length, take, drop, ℤ}
-use Rattle.line_text.specs.LineText.{IsLine}
-use Rattle.cert_form.specs.Plan.{Follows}
-use Rattle.cert_form.specs.Lines.{Line, Kind, Fits, after, over, IsCertText}
-use Rattle.cert_form.specs.Reading.{Reached}
+use Rattle.cert_text.specs.line_text.specs.LineText.{IsLine}
+use Rattle.cert_text.specs.cert_form.specs.Plan.{Follows}
+use Rattle.cert_text.specs.cert_form.specs.Lines.{Line, Kind, Fits, after, over, IsCertText}
+use Rattle.cert_text.specs.cert_form.specs.Reading.{Reached}
 use Rattle.cert_pieces.specs.declared.due.Due.{Due}
 use Rattle.cert_pieces.specs.declared.due.Due.TheVariants.{Nothing}
 use Rattle.cert_pieces.specs.declared.line.LinePart.{LinePart}

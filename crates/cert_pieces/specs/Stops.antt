@@ -1,7 +1,7 @@
 -- Texts that are no certificate, whatever follows.
 use Rattle.std.specs.Prelude.{ℕ, List, ◌++◌}
-use Rattle.line_text.specs.LineText.{faulty, beyond}
-use Rattle.cert_form.specs.Says.{CertSays}
+use Rattle.cert_text.specs.line_text.specs.LineText.{faulty, beyond}
+use Rattle.cert_text.specs.cert_form.specs.Says.{CertSays}
 use Rattle.cert_pieces.specs.declared.stop.TextStop.{TextStop}
 use Rattle.cert_pieces.specs.declared.stop.TextStop.TheVariants.{Form, Range}
 

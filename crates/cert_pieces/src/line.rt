@@ -2,7 +2,7 @@
 ghost use Rattle.std.specs.Prelude.{◌≡◌, ◌≤◌, ◌↔◌, ℕ, List, [], ◌∷◌, ◌++◌, length, ◌<◌, ◌+◌, slice_set, ℤ};
 ghost use Rattle.cert_pieces.specs.declared.line.form.Form.{Form};
 ghost use Rattle.cert_pieces.specs.Forms.{numbers_of, room_for, MayBegin, MayFollow, Keeps};
-ghost use Rattle.line_text.specs.LineText.{IsLine};
+ghost use Rattle.cert_text.specs.line_text.specs.LineText.{IsLine};
 ghost use Rattle.cert_pieces.specs.Pieces.{between};
 ghost use Rattle.cert_pieces.specs.LineParts.{IsPart, Becomes, Accepts, ReadsOn};
 ghost use Rattle.cert_pieces.specs.Tallies.{IsKept};

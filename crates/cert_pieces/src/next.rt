@@ -1,8 +1,8 @@
 // Which line comes behind a line.
 ghost use Rattle.std.specs.Prelude.{◌≡◌, ◌≤◌, ◌<◌, ℕ, List, [], ◌∷◌, ◌++◌, length, ℤ, pos, IsTrue, ◌↔◌, ◌⊎◌};
-ghost use Rattle.cert_form.specs.Certificate.{CertValue};
-ghost use Rattle.cert_form.specs.CertText.{as_numbers, IsCertificate};
-ghost use Rattle.cert_form.specs.Lines.{rows_plan, FitNumbers};
+ghost use Rattle.cert_text.specs.cert_form.specs.Certificate.{CertValue};
+ghost use Rattle.cert_text.specs.cert_form.specs.CertText.{as_numbers, IsCertificate};
+ghost use Rattle.cert_text.specs.cert_form.specs.Lines.{rows_plan, FitNumbers};
 ghost use Rattle.cert_pieces.specs.LinesLeft.{lines_left, parts_left, table_left, rows_left, HasPart, HasDue, ComesNext, AreLeft, Leads};
 ghost use Rattle.cert_pieces.specs.Dues.{Follows, IsDue, IsKnown, numbers_due, plan_due, from_part, behind_table, IsTableOf};
 ghost use Rattle.cert_text.specs.StagePlans.{closing_plan};

@@ -1,9 +1,9 @@
 // The lines of a certificate from pieces of bytes.
 ghost use Rattle.std.specs.Prelude.{◌≡◌, ◌≤◌, ◌<◌, ◌+◌, ◌^◌, ℕ, List, [], ◌∷◌, ◌++◌, length, take, drop, Option, Some, None, OnOk, IfErr, ℤ, ◌-◌, ◌≢◌, IsTrue, false, get_or, pos};
-ghost use Rattle.line_text.specs.LineText.{stated};
-ghost use Rattle.cert_form.specs.Certificate.{CertValue};
-ghost use Rattle.cert_form.specs.Lines.{Line};
-ghost use Rattle.cert_form.specs.Says.{CertSays};
+ghost use Rattle.cert_text.specs.line_text.specs.LineText.{stated};
+ghost use Rattle.cert_text.specs.cert_form.specs.Certificate.{CertValue};
+ghost use Rattle.cert_text.specs.cert_form.specs.Lines.{Line};
+ghost use Rattle.cert_text.specs.cert_form.specs.Says.{CertSays};
 ghost use Rattle.cert_pieces.specs.Dues.{line_with};
 ghost use Rattle.cert_pieces.specs.LinesLeft.{LeadsInRoom};
 ghost use Rattle.cert_pieces.specs.Order.{ComesBehind};

@@ -1,18 +1,18 @@
 // Where the numbers of a line stand in the room.
 ghost use Rattle.std.specs.Prelude.{◌≡◌, ◌≢◌, ◌≤◌, ◌<◌, ◌+◌, ◌^◌, ℕ, List, length, take, drop};
-ghost use Rattle.cert_form.specs.Lines.{is_first_version};
+ghost use Rattle.cert_text.specs.cert_form.specs.Lines.{is_first_version};
 ghost use Rattle.cert_pieces.specs.Dues.{word_of, title_of, version_number, IsDue};
 ghost use Rattle.cert_pieces.specs.Forms.{room_for};
 ghost use Rattle.cert_pieces.specs.Rooms.{room_size, form_due, start_due, entries_start, rows_start, segment};
-ghost use Rattle.line_text.specs.LineText.{IsLine};
+ghost use Rattle.cert_text.specs.line_text.specs.LineText.{IsLine};
 ghost use Rattle.cert_pieces.specs.Pieces.{between};
 ghost use Rattle.cert_pieces.specs.LineParts.{IsPart, ReadsOn};
 
 use crate::due::{Due, Table};
 use crate::line::form::Form;
 use crate::line::{LinePart, LineRead, Outcome, read_line};
+use cert_text::limits::{MOST_BIDDERS, MOST_STATES};
 use cert_text::{Shape, has_first_version};
-use limits::{MOST_BIDDERS, MOST_STATES};
 
 /// How many numbers the room of a reader has.
 pub fn room_len(shape: Shape) -> usize

@@ -1,5 +1,5 @@
+use place_price::slot_places::{Slots, read_slots};
 use place_price::{Verdict, check_places, place_rounds, price_places};
-use slot_places::{Slots, read_slots};
 use std::alloc::{AllocError, Global};
 use std::process::Abort;
 

@@ -1,5 +1,7 @@
 use crate::samples::{PLACE_CERT, edited};
-use place_cert::{CertStop, PlaceCertificate, PlaceRow, PlaceWithout, read_places, write_places};
+use place_price::place_cert::{
+    CertStop, PlaceCertificate, PlaceRow, PlaceWithout, read_places, write_places,
+};
 use std::alloc::{AllocError, Global};
 use std::process::Abort;
 use std::test::Fail;

@@ -1,12 +1,12 @@
 ghost use Rattle.std.specs.Prelude.{IsTrue, length, pos, slice_index_or, ℕ, ◌<◌, ◌≤◌, ◌≤ℤ◌};
 
-use bid_book::{BidBook, read_book};
-use blocking::{Looked, find_block};
-use book_price::{PricedBook, price_book};
-use core_price::{PriceStop, count_winners, for_bidders};
+use place_price::bid_book::{BidBook, read_book};
+use place_price::blocking::{Looked, find_block};
+use place_price::book_price::{PricedBook, price_book};
+use place_price::core_price::{PriceStop, count_winners, for_bidders};
+use place_price::value_table::{BookChooser, ValueTable, win};
 use std::alloc::{AllocError, Global};
 use std::process::Abort;
-use value_table::{BookChooser, ValueTable, win};
 
 /// One lot of each of two categories; b1 and b2 win it, and pay together what b3 bids for both.
 const BOOK: &str =

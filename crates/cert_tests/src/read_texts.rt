@@ -1,4 +1,4 @@
-use cert_text::{CertRow, CertStop, Certificate, Shape, read_cert, write_cert};
+use place_price::cert_text::{CertRow, CertStop, Certificate, Shape, read_cert, write_cert};
 use std::alloc::{AllocError, Global};
 use std::process::Abort;
 use std::test::Fail;

@@ -1,11 +1,13 @@
 // The texts of three small certificates.
 ghost use Rattle.std.specs.Prelude.{◌≡◌, ◌∷◌, [], negsuc, pos, IfOk};
 
-use cert_text::{CertRow, CertRows, Certificate, WithoutList, WithoutPart, write_cert};
-use choices::{Choice, Grid, Numbers};
+use place_price::cert_text::{
+    CertRow, CertRows, Certificate, WithoutList, WithoutPart, write_cert,
+};
+use place_price::choices::{Choice, Grid, Numbers};
+use place_price::wide_num::NumList;
 use std::alloc::{AllocError, Global};
 use std::test::Fail;
-use wide_num::NumList;
 
 // The list of one number.
 fn single(alloc: Global, number: u16) -> Result<Numbers, AllocError>

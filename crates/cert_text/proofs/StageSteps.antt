@@ -1,7 +1,7 @@
 -- The stages of a certificate's text, from what is read of each.
 use Rattle.std.proofs.Common.{◌≡◌, ℕ, false, map, List, [], ◌∷◌, ◌++◌, length, sym, subst}
 use Rattle.std.specs.Prelude.{ℤ, pos, codes}
-use Rattle.limits.specs.declared.TheConstants.{MOST_BIDDERS, MOST_STATES}
+use Rattle.cert_form.specs.limits.specs.declared.TheConstants.{MOST_BIDDERS, MOST_STATES}
 use Rattle.cert_form.specs.Certificate.{WithoutValue, RowValue}
 use Rattle.cert_form.specs.Lines.{Line, Kind, kind, just_line, version_of, these, signed, headed, counted, table_plan, parts_plan, rows_plan}
 use Rattle.cert_form.specs.CertText.{line, choice_line, as_numbers, table_lines, part_lines, row_lines}

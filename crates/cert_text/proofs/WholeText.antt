@@ -3,12 +3,12 @@ use Rattle.std.proofs.Common.{◌≡◌, ℕ, suc, ◌+◌, ◌≤◌, ◌<◌, 
 use Rattle.std.specs.Prelude.{ℤ, map, ◌==◌}
 use Rattle.std.proofs.lemmas.Bool.{eqb-false}
 use Rattle.std.proofs.lemmas.List.{append-nil}
-use Rattle.line_text.specs.LineText.{IsLine, IsTextOf}
+use Rattle.cert_form.specs.line_text.specs.LineText.{IsLine, IsTextOf}
 use Rattle.cert_form.specs.Certificate.{CertValue}
 use Rattle.cert_form.specs.Lines.{Line, Kind, version_lines, version_plan, body_plan, cert_plan, IsCertText, lines}
 use Rattle.cert_form.specs.CertText.{IsChoice, IsTable, AreWithouts, AreRows, IsCertificate, body_lines, cert_lines}
-use Rattle.wide_num.specs.Range.{InRange}
-use Rattle.text_lines.specs.Range.{AllInRange}
+use Rattle.cert_form.specs.wide_num.specs.Range.{InRange}
+use Rattle.cert_form.specs.text_lines.specs.Range.{AllInRange}
 use Rattle.cert_form.specs.Reading.{Reached}
 use Rattle.cert_form.proofs.Version.{version_is}
 use Rattle.cert_form.proofs.Reading.{reached-start, reached-end, reached-more, reached-tail}

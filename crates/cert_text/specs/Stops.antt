@@ -1,6 +1,6 @@
 -- Why bytes are not read as a certificate.
 use Rattle.std.specs.Prelude.{ℕ, List}
-use Rattle.line_text.specs.LineText.{FaultAt, Exceeds, faulty, beyond}
+use Rattle.cert_form.specs.line_text.specs.LineText.{FaultAt, Exceeds, faulty, beyond}
 use Rattle.cert_form.specs.Plan.{Follows}
 use Rattle.cert_form.specs.Lines.{Kind, Fits, after, lines}
 use Rattle.cert_form.specs.Says.{CertSays}

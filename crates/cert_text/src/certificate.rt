@@ -1,7 +1,7 @@
 // What a certificate holds.
 ghost use Rattle.std.specs.Prelude.{◌≡◌, ◌≢◌, length, map, IfSome, IfNone};
 ghost use Rattle.std.specs.List.{AllByRecursion};
-ghost use Rattle.auction_model.specs.Place.{states_of};
+ghost use Rattle.choices.specs.auction_model.specs.Place.{states_of};
 ghost use Rattle.cert_form.specs.Certificate.{part_of};
 ghost use Rattle.cert_form.specs.CertText.{IsCertificate};
 ghost use Rattle.cert_form.specs.OneProof.{IsCertificate-prop};
@@ -9,9 +9,9 @@ ghost use Rattle.cert_text.specs.Parts.{cert_from, without_value};
 ghost use Rattle.choices.specs.Lines.{width_of};
 
 use crate::{CertRows, WithoutList};
-use bid_book::BidBook;
+use cert_form::wide_num::NumList;
+use choices::bid_book::BidBook;
 use choices::{Choice, Grid, Numbers};
-use wide_num::NumList;
 
 /// For how many bidders and states a certificate is.
 #[derive(Clone, Copy, Debug, PartialEq, Eq)]

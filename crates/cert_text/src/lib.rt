@@ -12,7 +12,11 @@ mod stop;
 mod version;
 mod write;
 
+pub use cert_form;
+pub use cert_form::{limits, text_lines, wide_num};
 pub use certificate::{CertRow, Certificate, Shape, WithoutPart};
+pub use choices;
+pub use choices::{bid_book, lots};
 pub use lists::{CertRows, WithoutList};
 pub use read::read_cert;
 pub use stop::CertStop;

@@ -1,6 +1,6 @@
 // From bytes to a certificate.
 ghost use Rattle.std.specs.Prelude.{◌≡◌, ◌≤◌, IfErr, IfOk, OnOk, length, drop};
-ghost use Rattle.line_text.specs.LineText.{stated};
+ghost use Rattle.cert_form.specs.line_text.specs.LineText.{stated};
 ghost use Rattle.choices.specs.Lines.{width_of};
 ghost use Rattle.cert_form.specs.Says.{CertSays};
 ghost use Rattle.cert_form.specs.CertText.{IsCertificate};

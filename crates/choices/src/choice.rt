@@ -1,6 +1,6 @@
 // Choices.
 ghost use Rattle.std.specs.Prelude.{◌≡◌, ◌-◌, ◌≤◌, ◌<◌, length, slice_set, IfOk};
-ghost use Rattle.auction_model.specs.Market.{number_of};
+ghost use Rattle.bid_book.specs.auction_model.specs.Market.{number_of};
 
 use crate::Numbers;
 use std::alloc::{AllocError, Global};

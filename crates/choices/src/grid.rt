@@ -1,13 +1,13 @@
 // Grids.
 ghost use Rattle.std.specs.Prelude.{◌≡◌, ◌<◌, ◌++◌, ◌∷◌, [], map, length, OnOk, OnErr, slice_index_or};
 ghost use Rattle.std.specs.Rc.{rc_slice_items};
-ghost use Rattle.auction_model.specs.Table.{entry_at};
+ghost use Rattle.bid_book.specs.auction_model.specs.Table.{entry_at};
 ghost use Rattle.choices.specs.Lines.{width_of};
 
+use bid_book::wide_num::NumList;
 use std::alloc::{AllocError, Global};
 use std::marker::Model;
 use std::rc::RcSlice;
-use wide_num::NumList;
 
 /// Lines of equally many numbers. Grids may share lines. Lines and places in a line are counted from 0.
 #[derive(Drop)]

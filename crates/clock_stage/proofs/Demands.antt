@@ -5,11 +5,11 @@ use Rattle.std.specs.List.{All, AllByRecursion}
 use Rattle.std.proofs.lemmas.List.{replicate_more, take-append-le, take_all, get_or_default}
 use Rattle.std.proofs.lemmas.List.Sums.{sum_by-cons}
 use Rattle.std.proofs.lemmas.List.Elements.{All-from_recursion, recursion_from_All}
-use Rattle.auction_model.specs.Package.{together}
-use Rattle.auction_model.specs.Place.{states_of, left_at}
-use Rattle.auction_model.proofs.PlaceLaws.{states-positive}
-use Rattle.auction_rules.specs.Rounds.{sum_of}
-use Rattle.auction_rules.specs.Rounds.{listing}
+use Rattle.award_file.specs.auction_model.specs.Package.{together}
+use Rattle.award_file.specs.auction_model.specs.Place.{states_of, left_at}
+use Rattle.award_file.specs.auction_model.proofs.PlaceLaws.{states-positive}
+use Rattle.award_file.specs.auction_rules.specs.Rounds.{sum_of}
+use Rattle.award_file.specs.auction_rules.specs.Rounds.{listing}
 
 -- two packages of as many categories have as many together
 pub length-together : (p q : List ℕ) → length q ≡ length p → length (together p q) ≡ length p

@@ -1,7 +1,7 @@
 -- The rounds of a history.
 use Rattle.std.proofs.Common.{◌≡◌, ℕ, ◌-◌, ◌<◌, ◌≤◌, List, length, get_or, sym, ap, ◌∙◌, arith}
 use Rattle.std.proofs.lemmas.List.{length-map, get_or-map}
-use Rattle.auction_rules.specs.State.{Round}
+use Rattle.award_file.specs.auction_rules.specs.State.{Round}
 use Rattle.clock_stage.specs.declared.rounds.ClockRound.{ClockRound}
 use Rattle.clock_stage.specs.Kept.{IsRound, IsHistory, bidders_in, categories_in, no_round, round_at}
 use Rattle.clock_stage.specs.Rounds.{round_value, round_values}

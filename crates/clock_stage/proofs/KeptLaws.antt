@@ -5,17 +5,17 @@ use Rattle.std.specs.List.{All, AllByRecursion}
 use Rattle.std.proofs.lemmas.Bool.{cases_Bool, leb-true, leb-false, cond-true}
 use Rattle.std.proofs.lemmas.List.{length-map, length-append, length-set, length-replicate}
 use Rattle.std.proofs.lemmas.List.Elements.{All-from_recursion, All-push, All-nil, All-set, All-replicate}
-use Rattle.auction_model.specs.Package.{is_within, cost_of}
-use Rattle.auction_rules.specs.declared.Reply.{Reply}
-use Rattle.auction_rules.specs.declared.Reply.TheVariants as reply
-use Rattle.auction_rules.specs.declared.Stage.TheVariants.{Clock}
-use Rattle.auction_rules.specs.Terms.{Terms, no_lots, broken_cap}
-use Rattle.auction_rules.specs.Rounds.{raised_prices}
-use Rattle.auction_rules.specs.Replies.{first_reply, when, bid_reply, supply_reply, spectrum_reply, points_above, price_top}
-use Rattle.auction_model.specs.PackageTests.{first_over}
-use Rattle.auction_rules.specs.State.{asked}
-use Rattle.auction_model.proofs.PackageTestLaws.{first_over-within}
-use Rattle.auction_rules.proofs.LawfulBids.{sum-within}
+use Rattle.award_file.specs.auction_model.specs.Package.{is_within, cost_of}
+use Rattle.award_file.specs.auction_rules.specs.declared.Reply.{Reply}
+use Rattle.award_file.specs.auction_rules.specs.declared.Reply.TheVariants as reply
+use Rattle.award_file.specs.auction_rules.specs.declared.Stage.TheVariants.{Clock}
+use Rattle.award_file.specs.auction_rules.specs.Terms.{Terms, no_lots, broken_cap}
+use Rattle.award_file.specs.auction_rules.specs.Rounds.{raised_prices}
+use Rattle.award_file.specs.auction_rules.specs.Replies.{first_reply, when, bid_reply, supply_reply, spectrum_reply, points_above, price_top}
+use Rattle.award_file.specs.auction_model.specs.PackageTests.{first_over}
+use Rattle.award_file.specs.auction_rules.specs.State.{asked}
+use Rattle.award_file.specs.auction_model.proofs.PackageTestLaws.{first_over-within}
+use Rattle.award_file.specs.auction_rules.proofs.LawfulBids.{sum-within}
 use Rattle.award_file.specs.Award.{IsAward}
 use Rattle.clock_stage.specs.ClockState.{ClockState, clock_with, round_with, reply_to_close, has_excess, next_prices, next_round}
 use Rattle.clock_stage.specs.Kept.{IsHeld, IsRound, IsClock, IsFor}

@@ -1,13 +1,13 @@
 -- The state of a clock, and what its bids and closes make of it.
 use Rattle.std.specs.Prelude.{ℕ, suc, ◌-◌, Bool, true, false, not, List, [], ◌∷◌, ◌++◌, length, map, slice_index, slice_set, if◌then◌else◌}
-use Rattle.auction_model.specs.Package.{is_within, cost_of}
-use Rattle.auction_rules.specs.declared.Reply.{Reply}
-use Rattle.auction_rules.specs.declared.Reply.TheVariants as reply
-use Rattle.auction_rules.specs.declared.Stage.TheVariants.{Clock}
-use Rattle.auction_rules.specs.Terms.{Terms, no_lots}
-use Rattle.auction_rules.specs.Rounds.{raised_prices}
-use Rattle.auction_rules.specs.Replies.{is_clock, is_ok_reply, closing_reply, bid_reply}
-use Rattle.auction_rules.specs.State.{Round, DeskState, round_now, asked}
+use Rattle.award_file.specs.auction_model.specs.Package.{is_within, cost_of}
+use Rattle.award_file.specs.auction_rules.specs.declared.Reply.{Reply}
+use Rattle.award_file.specs.auction_rules.specs.declared.Reply.TheVariants as reply
+use Rattle.award_file.specs.auction_rules.specs.declared.Stage.TheVariants.{Clock}
+use Rattle.award_file.specs.auction_rules.specs.Terms.{Terms, no_lots}
+use Rattle.award_file.specs.auction_rules.specs.Rounds.{raised_prices}
+use Rattle.award_file.specs.auction_rules.specs.Replies.{is_clock, is_ok_reply, closing_reply, bid_reply}
+use Rattle.award_file.specs.auction_rules.specs.State.{Round, DeskState, round_now, asked}
 
 -- whether rounds are posted, the closed rounds, and the posted one. Once the clock has ended it keeps the final round as posted
 pub record ClockState : Type 0 where

@@ -1,7 +1,7 @@
 -- What is worked out before a close changes anything.
 use Rattle.std.specs.Prelude.{◌≡◌, true, false}
-use Rattle.auction_rules.specs.declared.Reply.TheVariants as reply
-use Rattle.auction_rules.specs.Terms.{Terms}
+use Rattle.award_file.specs.auction_rules.specs.declared.Reply.TheVariants as reply
+use Rattle.award_file.specs.auction_rules.specs.Terms.{Terms}
 use Rattle.clock_stage.specs.declared.closes.Closing.{Closing}
 use Rattle.clock_stage.specs.declared.closes.Closing.TheVariants.{Next, Ends, Refused}
 use Rattle.clock_stage.specs.ClockState.{ClockState, has_excess, next_prices, next_round, reply_to_close}

@@ -1,7 +1,7 @@
 -- What a close answers.
 use Rattle.std.specs.Prelude.{◌≡◌, IsTrue, IsFalse}
-use Rattle.auction_rules.specs.declared.Reply.{Reply}
-use Rattle.auction_rules.specs.declared.Reply.TheVariants as reply
+use Rattle.award_file.specs.auction_rules.specs.declared.Reply.{Reply}
+use Rattle.award_file.specs.auction_rules.specs.declared.Reply.TheVariants as reply
 use Rattle.clock_stage.specs.declared.closes.Closed.{Closed}
 use Rattle.clock_stage.specs.declared.closes.Closed.TheVariants.{NextRound, StageEnds, Full, PriceTop, Memory}
 use Rattle.clock_stage.specs.ClockState.{ClockState, round_number}

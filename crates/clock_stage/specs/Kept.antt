@@ -1,9 +1,9 @@
 -- What each clock and each history keep.
 use Rattle.std.specs.Prelude.{◌≡◌, ℕ, ◌≤◌, ◌<◌, true, List, [], length, sum, slice_index_or, ◌-◌}
 use Rattle.std.specs.List.{All}
-use Rattle.limits.specs.declared.TheConstants.{MOST_BIDDERS, MOST_CATEGORIES, MOST_LOTS, MOST_PRICE, MOST_ROUNDS}
-use Rattle.auction_rules.specs.Terms.{Terms}
-use Rattle.auction_rules.specs.State.{Round}
+use Rattle.award_file.specs.limits.specs.declared.TheConstants.{MOST_BIDDERS, MOST_CATEGORIES, MOST_LOTS, MOST_PRICE, MOST_ROUNDS}
+use Rattle.award_file.specs.auction_rules.specs.Terms.{Terms}
+use Rattle.award_file.specs.auction_rules.specs.State.{Round}
 use Rattle.clock_stage.specs.ClockState.{ClockState, round_with}
 
 -- a package that a bidder may hold where there are so many categories

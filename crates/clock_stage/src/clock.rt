@@ -1,11 +1,11 @@
 // The clock.
 ghost use Rattle.std.specs.Prelude.{◌≡◌, ◌≢◌, ◌⊎◌, ◌∷◌, ◌++◌, ◌<◌, [], IfOk, IsTrue, List, ℕ, length, replicate, map, true, false};
-ghost use Rattle.auction_rules.specs.declared.Event.{Event};
-ghost use Rattle.auction_rules.specs.declared.Reply.{Reply};
-ghost use Rattle.auction_rules.specs.Replies.{reply_to};
-ghost use Rattle.auction_rules.specs.State.{state_of};
-ghost use Rattle.auction_rules.specs.Rounds.{listing};
-ghost use Rattle.auction_rules.specs.Terms.{entrant};
+ghost use Rattle.award_file.specs.auction_rules.specs.declared.Event.{Event};
+ghost use Rattle.award_file.specs.auction_rules.specs.declared.Reply.{Reply};
+ghost use Rattle.award_file.specs.auction_rules.specs.Replies.{reply_to};
+ghost use Rattle.award_file.specs.auction_rules.specs.State.{state_of};
+ghost use Rattle.award_file.specs.auction_rules.specs.Rounds.{listing};
+ghost use Rattle.award_file.specs.auction_rules.specs.Terms.{entrant};
 ghost use Rattle.clock_stage.specs.ClockState.{after_bid, after_close, clock_of, clock_with, reply_to_bid, reply_to_close, round_number};
 ghost use Rattle.clock_stage.specs.Closings.{IsRefusal, Tells};
 ghost use Rattle.clock_stage.specs.Kept.{IsClock, IsFor, bidders_in, categories_in};
@@ -14,9 +14,9 @@ ghost use Rattle.clock_stage.specs.Rounds.{round_value};
 use crate::bids::reply_to_bid;
 use crate::closes::{Closed, Closing, closing_of};
 use crate::rounds::{ClockRound, History, empty_packages};
-use auction_rules::{Event, Reply};
 use award_file::Award;
-use lots::Package;
+use award_file::auction_rules::{Event, Reply};
+use award_file::lots::Package;
 use std::alloc::{AllocError, Global};
 use std::marker::Model;
 

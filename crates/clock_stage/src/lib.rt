@@ -8,7 +8,9 @@ mod demand;
 mod rounds;
 mod steps;
 
-pub use auction_rules::{Event, Reply, Stage};
+pub use award_file;
+pub use award_file::auction_rules::{Event, Reply, Stage};
+pub use award_file::{auction_rules, bid_book, limits, lots, text_lines};
 pub use bids::reply_to_package;
 pub use clock::Clock;
 pub use closes::Closed;

@@ -1,11 +1,11 @@
 // Rounds, and the history of the closed ones.
 ghost use Rattle.std.specs.Prelude.{◌≡◌, ◌≤◌, ◌∷◌, ◌++◌, [], All, IfOk, List, ℕ, OnErr, OnOk, length, map, replicate, slice_index, slice_index_or, ◌-◌};
-ghost use Rattle.limits.specs.declared.TheConstants.{MOST_POINTS, MOST_PRICE};
-ghost use Rattle.auction_model.specs.Package.{cost_of};
+ghost use Rattle.award_file.specs.limits.specs.declared.TheConstants.{MOST_POINTS, MOST_PRICE};
+ghost use Rattle.award_file.specs.auction_model.specs.Package.{cost_of};
 ghost use Rattle.clock_stage.specs.Kept.{IsHeld, IsHistory, IsRound, bidders_in, categories_in, round_at};
 ghost use Rattle.clock_stage.specs.Rounds.{round_value};
 
-use lots::{Package, Supply};
+use award_file::lots::{Package, Supply};
 use std::alloc::{AllocError, Global};
 use std::marker::Model;
 use std::mem;
@@ -86,7 +86,7 @@ pub struct History {
 
 impl Model for History {
     ghost use Rattle.std.specs.Prelude.{List};
-    ghost use Rattle.auction_rules.specs.State.{Round};
+    ghost use Rattle.award_file.specs.auction_rules.specs.State.{Round};
     ghost use Rattle.clock_stage.specs.Kept.{IsHistory};
     ghost use Rattle.clock_stage.specs.Rounds.{round_values};
 

@@ -1,8 +1,8 @@
 // The price step.
 ghost use Rattle.std.specs.Prelude.{◌≡◌, ◌≤◌, ◌^◌, All, IfOk, length};
-ghost use Rattle.limits.specs.declared.TheConstants.{MOST_PRICE};
-ghost use Rattle.auction_rules.specs.Rounds.{raised_prices};
-ghost use Rattle.auction_rules.specs.Step.{permille_at, stepped};
+ghost use Rattle.award_file.specs.limits.specs.declared.TheConstants.{MOST_PRICE};
+ghost use Rattle.award_file.specs.auction_rules.specs.Rounds.{raised_prices};
+ghost use Rattle.award_file.specs.auction_rules.specs.Step.{permille_at, stepped};
 
 use award_file::StepTable;
 use std::alloc::{AllocError, Global};

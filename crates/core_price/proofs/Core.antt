@@ -3,24 +3,24 @@ use Rattle.std.specs.Prelude.{◌≡◌, ℕ, zero, suc, ◌-◌, ◌<◌, ◌�
 use Rattle.std.proofs.Common.{◌∙◌, ap, arith, ◌⊎◌, inl, inr}
 use Rattle.std.proofs.lemmas.Int.{ints}
 use Rattle.std.proofs.lemmas.Bool.{ne_eqb, eq-eqb}
-use Rattle.auction_model.specs.Market.{Market, worth_in, uses}
-use Rattle.auction_model.specs.Greatest.{IsWinning}
-use Rattle.auction_model.specs.Lawful.{IsMarket}
-use Rattle.auction_model.specs.Lowered.{of_bidder}
-use Rattle.auction_model.specs.Prices.{Point, IsUnblocked, IsCorePoint}
-use Rattle.auction_model.specs.Blocks.{excess_of}
-use Rattle.far_num.specs.Members.{holds}
-use Rattle.far_num.specs.declared.Row.{Row}
+use Rattle.nearest_point.specs.auction_model.specs.Market.{Market, worth_in, uses}
+use Rattle.nearest_point.specs.auction_model.specs.Greatest.{IsWinning}
+use Rattle.nearest_point.specs.auction_model.specs.Lawful.{IsMarket}
+use Rattle.nearest_point.specs.auction_model.specs.Lowered.{of_bidder}
+use Rattle.nearest_point.specs.auction_model.specs.Prices.{Point, IsUnblocked, IsCorePoint}
+use Rattle.nearest_point.specs.auction_model.specs.Blocks.{excess_of}
+use Rattle.blocking.specs.far_num.specs.Members.{holds}
+use Rattle.blocking.specs.far_num.specs.declared.Row.{Row}
 use Rattle.nearest_point.specs.Problem.{bounds, coefficients, row_at}
 use Rattle.nearest_point.proofs.Places.{lt_or}
-use Rattle.point_laws.specs.Multipliers.{AreFirst, SumsTo}
-use Rattle.point_laws.proofs.Order.{zero_or}
-use Rattle.row_laws.specs.Rows.{IsGivenBy}
-use Rattle.row_laws.specs.Winners.{for_bidders, has_bit, row_of, winners_in}
-use Rattle.row_laws.proofs.Blocks.{excess-row, free-excess, idle-outside}
-use Rattle.row_laws.proofs.Excess.{excess-is, terms}
-use Rattle.wide_num.specs.Sums.{nth, dot, total}
-use Rattle.wide_num.proofs.Sums.{total-same}
+use Rattle.nearest_point.specs.point_laws.specs.Multipliers.{AreFirst, SumsTo}
+use Rattle.nearest_point.specs.point_laws.proofs.Order.{zero_or}
+use Rattle.blocking.specs.row_laws.specs.Rows.{IsGivenBy}
+use Rattle.blocking.specs.row_laws.specs.Winners.{for_bidders, has_bit, row_of, winners_in}
+use Rattle.blocking.specs.row_laws.proofs.Blocks.{excess-row, free-excess, idle-outside}
+use Rattle.blocking.specs.row_laws.proofs.Excess.{excess-is, terms}
+use Rattle.nearest_point.specs.wide_num.specs.Sums.{nth, dot, total}
+use Rattle.nearest_point.specs.wide_num.proofs.Sums.{total-same}
 use Rattle.core_price.specs.SoFar.{choice_at}
 use Rattle.core_price.specs.Turns.{point_of}
 use Rattle.core_price.proofs.Places.{place-of}

@@ -8,14 +8,14 @@ use Rattle.std.proofs.lemmas.Bool.{cases_Bool, false≢true}
 use Rattle.std.proofs.lemmas.Bool.Decides.{Decides-int_eq}
 use Rattle.std.proofs.lemmas.Int.{ints}
 use Rattle.std.proofs.lemmas.List.{get_or-map, length-map}
-use Rattle.far_num.specs.Members.{holds}
-use Rattle.far_num.specs.declared.Row.{Row}
+use Rattle.blocking.specs.far_num.specs.Members.{holds}
+use Rattle.blocking.specs.far_num.specs.declared.Row.{Row}
 use Rattle.nearest_point.specs.Problem.{bounds, coefficients, row_at}
-use Rattle.point_laws.specs.Multipliers.{AreFirst, AreSecond, sum_at}
-use Rattle.point_laws.proofs.PointLaws.{zero_times}
-use Rattle.wide_num.specs.Range.{Divides}
-use Rattle.wide_num.specs.Sums.{dot, nth, total}
-use Rattle.wide_num.proofs.Sums.{total-first, total-same}
+use Rattle.nearest_point.specs.point_laws.specs.Multipliers.{AreFirst, AreSecond, sum_at}
+use Rattle.nearest_point.specs.point_laws.proofs.PointLaws.{zero_times}
+use Rattle.nearest_point.specs.wide_num.specs.Range.{Divides}
+use Rattle.nearest_point.specs.wide_num.specs.Sums.{dot, nth, total}
+use Rattle.nearest_point.specs.wide_num.proofs.Sums.{total-first, total-same}
 use Rattle.core_price.specs.Kept.{AreAmong, firsts, is_used, pair_used, rows_in, seconds, with_pairs}
 use Rattle.core_price.specs.Lowest.{IsLowest}
 use Rattle.core_price.specs.declared.priced.PricedRow.{PricedRow}

@@ -1,7 +1,7 @@
 -- The members of a row, bidder by bidder.
 use Rattle.std.proofs.Common.{◌≡◌, ℕ, suc, ◌+◌, ◌-◌, ◌/◌, ◌%◌, ◌<◌, ◌==◌, Bool, true, false, cond, List, [], ◌∷◌, ◌++◌, length, get_or, drop, refl, sym, ap, ◌∙◌, arith}
 use Rattle.std.proofs.lemmas.List.{append-nil, drop_more}
-use Rattle.row_laws.specs.Winners.{has_bit, members_of, row_of}
+use Rattle.blocking.specs.row_laws.specs.Winners.{has_bit, members_of, row_of}
 
 -- the bidder, where the lowest bit is set
 abbrev pub lowest_member : ℕ → ℕ → List ℕ

@@ -4,21 +4,21 @@ use Rattle.std.specs.Prelude.{◌≡◌, ℕ, zero, suc, ◌-◌, ◌<◌, true,
 use Rattle.std.proofs.Common.{sym, ◌∙◌, ap, arith, subst, ◌⊎◌, inl, inr}
 use Rattle.std.proofs.lemmas.Int.{ints}
 use Rattle.std.proofs.lemmas.Bool.{cases_Bool}
-use Rattle.auction_model.specs.Market.{Market, uses}
-use Rattle.auction_model.specs.Lowered.{of_bidder}
-use Rattle.auction_model.specs.Prices.{Point, everyone, paid, share, sum_over, square_distance, SamePoint, HasLeastSum, IsNearestTo, weight_of}
-use Rattle.far_num.specs.declared.Row.{Row}
+use Rattle.nearest_point.specs.auction_model.specs.Market.{Market, uses}
+use Rattle.nearest_point.specs.auction_model.specs.Lowered.{of_bidder}
+use Rattle.nearest_point.specs.auction_model.specs.Prices.{Point, everyone, paid, share, sum_over, square_distance, SamePoint, HasLeastSum, IsNearestTo, weight_of}
+use Rattle.blocking.specs.far_num.specs.declared.Row.{Row}
 use Rattle.nearest_point.specs.Problem.{bounds, coefficients, row_at, share_at, weight_at}
-use Rattle.point_laws.specs.Multipliers.{AreFirst, AreSecond, AreShares, SumsTo}
-use Rattle.point_laws.specs.Points.{MeetsRows, SamePoint as SameNumbers, square_distance as distance}
-use Rattle.point_laws.proofs.PointLaws.{least, nearest, at_each}
-use Rattle.auction_model.proofs.Shares.{share-positive, share-whole}
-use Rattle.row_laws.specs.Rows.{Meets}
-use Rattle.row_laws.specs.Surplus.{AsksWinnersOnly}
-use Rattle.row_laws.specs.Winners.{for_bidders, for_winners, winners_in}
-use Rattle.row_laws.proofs.Sums.{over-is}
-use Rattle.row_laws.proofs.Winners.{there_and_back, paid-zip, loser-zero, all-bidders}
-use Rattle.wide_num.specs.Sums.{nth, total}
+use Rattle.nearest_point.specs.point_laws.specs.Multipliers.{AreFirst, AreSecond, AreShares, SumsTo}
+use Rattle.nearest_point.specs.point_laws.specs.Points.{MeetsRows, SamePoint as SameNumbers, square_distance as distance}
+use Rattle.nearest_point.specs.point_laws.proofs.PointLaws.{least, nearest, at_each}
+use Rattle.nearest_point.specs.auction_model.proofs.Shares.{share-positive, share-whole}
+use Rattle.blocking.specs.row_laws.specs.Rows.{Meets}
+use Rattle.blocking.specs.row_laws.specs.Surplus.{AsksWinnersOnly}
+use Rattle.blocking.specs.row_laws.specs.Winners.{for_bidders, for_winners, winners_in}
+use Rattle.blocking.specs.row_laws.proofs.Sums.{over-is}
+use Rattle.blocking.specs.row_laws.proofs.Winners.{there_and_back, paid-zip, loser-zero, all-bidders}
+use Rattle.nearest_point.specs.wide_num.specs.Sums.{nth, total}
 use Rattle.core_price.specs.Answers.{IsAnswer}
 use Rattle.core_price.specs.Turns.{point_of}
 use Rattle.core_price.specs.Weights.{CanWeigh, weights_in}

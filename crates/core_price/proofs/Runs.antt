@@ -3,16 +3,16 @@ use Rattle.std.specs.Prelude.{◌≡◌, ℕ, zero, suc, ◌<◌, List, [], ◌�
 use Rattle.std.specs.List.{AllByRecursion}
 use Rattle.std.proofs.Common.{sym, arith, subst}
 use Rattle.std.proofs.lemmas.Int.{ints}
-use Rattle.auction_model.specs.Market.{Market}
-use Rattle.auction_model.specs.Lowered.{of_bidder}
-use Rattle.auction_model.specs.Prices.{Point, weight_of}
-use Rattle.auction_model.specs.PricingRun.{IsTurnPoint, MeetsRow, MeetsRows}
-use Rattle.far_num.specs.declared.Row.{Row}
+use Rattle.nearest_point.specs.auction_model.specs.Market.{Market}
+use Rattle.nearest_point.specs.auction_model.specs.Lowered.{of_bidder}
+use Rattle.nearest_point.specs.auction_model.specs.Prices.{Point, weight_of}
+use Rattle.nearest_point.specs.auction_model.specs.PricingRun.{IsTurnPoint, MeetsRow, MeetsRows}
+use Rattle.blocking.specs.far_num.specs.declared.Row.{Row}
 use Rattle.nearest_point.specs.Problem.{row_at}
-use Rattle.row_laws.specs.Rows.{Meets, row_in}
-use Rattle.row_laws.specs.Surplus.{AsksWinnersOnly}
-use Rattle.row_laws.specs.Winners.{for_bidders, for_winners, winners_in}
-use Rattle.row_laws.proofs.Blocks.{meets-winners, meets-bidders}
+use Rattle.blocking.specs.row_laws.specs.Rows.{Meets, row_in}
+use Rattle.blocking.specs.row_laws.specs.Surplus.{AsksWinnersOnly}
+use Rattle.blocking.specs.row_laws.specs.Winners.{for_bidders, for_winners, winners_in}
+use Rattle.blocking.specs.row_laws.proofs.Blocks.{meets-winners, meets-bidders}
 use Rattle.core_price.specs.Answers.{IsAnswer}
 use Rattle.core_price.specs.Turns.{point_of}
 use Rattle.core_price.specs.Weights.{CanWeigh, weights_in}

@@ -4,12 +4,12 @@ use Rattle.std.specs.List.{AllByRecursion}
 use Rattle.std.specs.declared.option.Option.TheVariants.{Some, None}
 use Rattle.std.proofs.Common.{sym, ap, arith}
 use Rattle.std.proofs.lemmas.Int.{ints}
-use Rattle.auction_model.specs.Market.{Market}
-use Rattle.auction_model.specs.Lowered.{of_bidder}
-use Rattle.auction_model.specs.Prices.{Point}
-use Rattle.auction_model.specs.Blocks.{IsGreatestExcess}
-use Rattle.auction_model.specs.PricingRun.{Block, GoOn, IsBlockOf, IsTurnPoint, MeetsRow, MeetsRows, Row, Turn}
-use Rattle.row_laws.proofs.Rows.{over-same}
+use Rattle.nearest_point.specs.auction_model.specs.Market.{Market}
+use Rattle.nearest_point.specs.auction_model.specs.Lowered.{of_bidder}
+use Rattle.nearest_point.specs.auction_model.specs.Prices.{Point}
+use Rattle.nearest_point.specs.auction_model.specs.Blocks.{IsGreatestExcess}
+use Rattle.nearest_point.specs.auction_model.specs.PricingRun.{Block, GoOn, IsBlockOf, IsTurnPoint, MeetsRow, MeetsRows, Row, Turn}
+use Rattle.blocking.specs.row_laws.proofs.Rows.{over-same}
 
 -- the rows have the same bound and the same bidders
 pub record IsSame (m : Market) (a b : Row) : Type 0 where

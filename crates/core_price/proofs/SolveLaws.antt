@@ -1,11 +1,11 @@
 -- What the search for the nearest point answers.
 use Rattle.std.specs.Prelude.{◌≡◌, ℕ, ◌^◌, ◌≤◌, List, length, ℤ, pos, ◌≤ℤ◌, ◌<ℤ◌}
-use Rattle.far_num.specs.declared.Row.{Row}
+use Rattle.blocking.specs.far_num.specs.declared.Row.{Row}
 use Rattle.nearest_point.specs.Numbers.{AreBelow, pairs_used}
 use Rattle.nearest_point.specs.Problem.{AreOnes, bounds, coefficients, weight_at}
-use Rattle.point_laws.specs.Multipliers.{AreFirst, AreSecond, SumsTo}
-use Rattle.point_laws.specs.Points.{MeetsRows}
-use Rattle.wide_num.specs.Sums.{nth}
+use Rattle.nearest_point.specs.point_laws.specs.Multipliers.{AreFirst, AreSecond, SumsTo}
+use Rattle.nearest_point.specs.point_laws.specs.Points.{MeetsRows}
+use Rattle.nearest_point.specs.wide_num.specs.Sums.{nth}
 use Rattle.core_price.specs.Answers.{IsAnswer}
 
 -- a point that meets the rows, with both kinds of multipliers and none of them large, is an answer

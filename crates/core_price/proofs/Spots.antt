@@ -3,12 +3,12 @@ use Rattle.std.specs.Prelude.{◌≡◌, ◌≢◌, ℕ, zero, suc, ◌+◌, ◌
 use Rattle.std.proofs.Common.{sym, ◌∙◌, ap, arith, ◌⊎◌, inl, inr}
 use Rattle.std.proofs.Math.Nat.{pow-suc}
 use Rattle.std.proofs.lemmas.Bool.{ne_eqb, eq-eqb, cases_eq}
-use Rattle.auction_model.specs.Market.{uses}
-use Rattle.auction_model.specs.PricingRun.{Row, single_rows}
-use Rattle.choices.specs.Singles.{winners_after}
-use Rattle.wide_num.specs.Sums.{nth}
-use Rattle.row_laws.specs.Winners.{winners_in, for_bidders, has_bit}
-use Rattle.row_laws.proofs.Bits.{no-bit}
+use Rattle.nearest_point.specs.auction_model.specs.Market.{uses}
+use Rattle.nearest_point.specs.auction_model.specs.PricingRun.{Row, single_rows}
+use Rattle.blocking.specs.choices.specs.Singles.{winners_after}
+use Rattle.nearest_point.specs.wide_num.specs.Sums.{nth}
+use Rattle.blocking.specs.row_laws.specs.Winners.{winners_in, for_bidders, has_bit}
+use Rattle.blocking.specs.row_laws.proofs.Bits.{no-bit}
 
 -- how many bidders stand before the winner i + 1
 abbrev pub spot : List ℕ → ℕ → ℕ

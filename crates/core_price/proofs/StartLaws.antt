@@ -6,24 +6,24 @@ use Rattle.std.proofs.lemmas.Int.{ints}
 use Rattle.std.proofs.lemmas.Bool.{cases_Bool, ne_eqb, false≢true}
 use Rattle.std.proofs.lemmas.List.{get_or-map, length-map}
 use Rattle.std.proofs.lemmas.Nat.{pow_pos, pow_below}
-use Rattle.auction_model.proofs.PriceLaws.{vickrey-one}
-use Rattle.auction_model.specs.Market.{Market, uses, value_of, worth_in}
-use Rattle.auction_model.specs.Greatest.{IsFirstGreatest, IsWinning}
-use Rattle.auction_model.specs.Lawful.{IsMarket}
-use Rattle.auction_model.specs.Lowered.{of_bidder}
-use Rattle.auction_model.specs.Prices.{allowed_without, AreVickreyPrices, everyone, IsVickreyPrice, sum_over, weight_of}
-use Rattle.auction_model.specs.PricingRun.{Row as BidderRow, single_rows}
-use Rattle.choices.specs.Singles.{AreSingles, IsSingle}
-use Rattle.choices.specs.declared.chooser.Single.{Single}
-use Rattle.far_num.specs.declared.Row.{Row}
+use Rattle.nearest_point.specs.auction_model.proofs.PriceLaws.{vickrey-one}
+use Rattle.nearest_point.specs.auction_model.specs.Market.{Market, uses, value_of, worth_in}
+use Rattle.nearest_point.specs.auction_model.specs.Greatest.{IsFirstGreatest, IsWinning}
+use Rattle.nearest_point.specs.auction_model.specs.Lawful.{IsMarket}
+use Rattle.nearest_point.specs.auction_model.specs.Lowered.{of_bidder}
+use Rattle.nearest_point.specs.auction_model.specs.Prices.{allowed_without, AreVickreyPrices, everyone, IsVickreyPrice, sum_over, weight_of}
+use Rattle.nearest_point.specs.auction_model.specs.PricingRun.{Row as BidderRow, single_rows}
+use Rattle.blocking.specs.choices.specs.Singles.{AreSingles, IsSingle}
+use Rattle.blocking.specs.choices.specs.declared.chooser.Single.{Single}
+use Rattle.blocking.specs.far_num.specs.declared.Row.{Row}
 use Rattle.nearest_point.specs.Problem.{row_at}
-use Rattle.point_laws.proofs.Sums.{total-le}
-use Rattle.row_laws.specs.Rows.{IsGivenBy, row_in}
-use Rattle.row_laws.specs.Winners.{for_bidders, has_bit, row_of, winners_in}
-use Rattle.row_laws.proofs.Sizes.{unused-worth, won-low}
-use Rattle.row_laws.proofs.Sums.{over-is}
-use Rattle.row_laws.proofs.Winners.{loser-zero, paid-zip}
-use Rattle.wide_num.specs.Sums.{nth, total}
+use Rattle.nearest_point.specs.point_laws.proofs.Sums.{total-le}
+use Rattle.blocking.specs.row_laws.specs.Rows.{IsGivenBy, row_in}
+use Rattle.blocking.specs.row_laws.specs.Winners.{for_bidders, has_bit, row_of, winners_in}
+use Rattle.blocking.specs.row_laws.proofs.Sizes.{unused-worth, won-low}
+use Rattle.blocking.specs.row_laws.proofs.Sums.{over-is}
+use Rattle.blocking.specs.row_laws.proofs.Winners.{loser-zero, paid-zip}
+use Rattle.nearest_point.specs.wide_num.specs.Sums.{nth, total}
 use Rattle.core_price.specs.Rows.{prices_of, single_bits}
 use Rattle.core_price.specs.SoFar.{CanTurn, IsSoFar, choice_at}
 use Rattle.core_price.specs.Weights.{CanWeigh, FewWin}

@@ -9,31 +9,31 @@ use Rattle.std.proofs.lemmas.Bool.{eqb-true, ne_eqb, or_from, or_cases, cases_eq
 use Rattle.std.proofs.lemmas.List.{get_or-map, length-map}
 use Rattle.std.proofs.lemmas.Map.Keys.{IsDistinct-push}
 use Rattle.std.proofs.lemmas.Map.Steps.{length-le_from_distinct_below}
-use Rattle.auction_model.proofs.ListLaws.{each-push}
-use Rattle.auction_model.proofs.PriceLaws.{vickrey-one}
-use Rattle.auction_model.specs.Market.{Market, value_of, worth_in}
-use Rattle.auction_model.specs.Greatest.{IsWinning}
-use Rattle.auction_model.specs.Lawful.{IsMarket}
-use Rattle.auction_model.specs.Lowered.{of_bidder}
-use Rattle.auction_model.specs.Prices.{AreVickreyPrices, IsUnblocked, weight_of}
-use Rattle.auction_model.specs.Blocks.{IsGreatestExcess}
-use Rattle.auction_model.specs.PricingRun.{GoOn, Turn as BidderTurn, single_rows}
+use Rattle.nearest_point.specs.auction_model.proofs.ListLaws.{each-push}
+use Rattle.nearest_point.specs.auction_model.proofs.PriceLaws.{vickrey-one}
+use Rattle.nearest_point.specs.auction_model.specs.Market.{Market, value_of, worth_in}
+use Rattle.nearest_point.specs.auction_model.specs.Greatest.{IsWinning}
+use Rattle.nearest_point.specs.auction_model.specs.Lawful.{IsMarket}
+use Rattle.nearest_point.specs.auction_model.specs.Lowered.{of_bidder}
+use Rattle.nearest_point.specs.auction_model.specs.Prices.{AreVickreyPrices, IsUnblocked, weight_of}
+use Rattle.nearest_point.specs.auction_model.specs.Blocks.{IsGreatestExcess}
+use Rattle.nearest_point.specs.auction_model.specs.PricingRun.{GoOn, Turn as BidderTurn, single_rows}
 use Rattle.blocking.specs.declared.look.Block.{Block}
 use Rattle.blocking.specs.Look.{IsBlock}
-use Rattle.far_num.specs.Members.{holds}
-use Rattle.far_num.specs.declared.Row.{Row}
-use Rattle.auction_model.specs.Prices.{AreWeights}
+use Rattle.blocking.specs.far_num.specs.Members.{holds}
+use Rattle.blocking.specs.far_num.specs.declared.Row.{Row}
+use Rattle.nearest_point.specs.auction_model.specs.Prices.{AreWeights}
 use Rattle.nearest_point.specs.Problem.{AreOnes, IsNarrow, bounds, coefficients, row_at}
 use Rattle.nearest_point.proofs.Bits.{dot_single, holds_nonneg}
 use Rattle.nearest_point.proofs.Places.{lt_or}
-use Rattle.point_laws.proofs.Order.{mul_nonneg, cancel_nonneg}
-use Rattle.point_laws.proofs.Sums.{total-nonneg}
-use Rattle.row_laws.specs.Rows.{IsGivenBy, row_in}
-use Rattle.row_laws.specs.Winners.{for_bidders, row_of, winners_in}
-use Rattle.row_laws.proofs.Blocks.{block-row, excess-row, free-excess, idle-outside, row-is_new}
-use Rattle.row_laws.proofs.Sizes.{won-low}
-use Rattle.row_laws.proofs.Sums.{over-is}
-use Rattle.wide_num.specs.Sums.{dot, nth}
+use Rattle.nearest_point.specs.point_laws.proofs.Order.{mul_nonneg, cancel_nonneg}
+use Rattle.nearest_point.specs.point_laws.proofs.Sums.{total-nonneg}
+use Rattle.blocking.specs.row_laws.specs.Rows.{IsGivenBy, row_in}
+use Rattle.blocking.specs.row_laws.specs.Winners.{for_bidders, row_of, winners_in}
+use Rattle.blocking.specs.row_laws.proofs.Blocks.{block-row, excess-row, free-excess, idle-outside, row-is_new}
+use Rattle.blocking.specs.row_laws.proofs.Sizes.{won-low}
+use Rattle.blocking.specs.row_laws.proofs.Sums.{over-is}
+use Rattle.nearest_point.specs.wide_num.specs.Sums.{dot, nth}
 use Rattle.core_price.specs.Answers.{CanSolve, IsAnswer}
 use Rattle.core_price.specs.Lowest.{IsLowest}
 use Rattle.core_price.specs.SoFar.{CanTurn, HasEnded, IsSoFar, choice_at}

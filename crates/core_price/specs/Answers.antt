@@ -1,13 +1,13 @@
 -- What the search for the point of a turn is given, and what it answers.
 use Rattle.std.specs.Prelude.{◌≡◌, ◌⊎◌, ℕ, ◌^◌, ◌≤◌, List, length, ℤ, pos, ◌≤ℤ◌, ◌<ℤ◌}
-use Rattle.far_num.specs.declared.Row.{Row}
-use Rattle.limits.specs.declared.TheConstants.{MOST_WINNERS}
+use Rattle.blocking.specs.far_num.specs.declared.Row.{Row}
+use Rattle.blocking.specs.limits.specs.declared.TheConstants.{MOST_WINNERS}
 use Rattle.nearest_point.specs.Numbers.{AreBelow, pairs_used}
-use Rattle.auction_model.specs.Prices.{AreWeights}
+use Rattle.nearest_point.specs.auction_model.specs.Prices.{AreWeights}
 use Rattle.nearest_point.specs.Problem.{AreBounds, AreOnes, AreTargets, HasMembers, HasSingles, IsNarrow, bounds, coefficients, weight_at}
-use Rattle.point_laws.specs.Multipliers.{AreFirst, AreSecond, SumsTo}
-use Rattle.point_laws.specs.Points.{MeetsRows}
-use Rattle.wide_num.specs.Sums.{nth}
+use Rattle.nearest_point.specs.point_laws.specs.Multipliers.{AreFirst, AreSecond, SumsTo}
+use Rattle.nearest_point.specs.point_laws.specs.Points.{MeetsRows}
+use Rattle.nearest_point.specs.wide_num.specs.Sums.{nth}
 
 -- the conditions of the search, which may have no coordinate
 pub record CanSolve (prices : List ℤ) (weights : List ℕ) (rows : List Row) : Type 0 where

@@ -1,12 +1,12 @@
 -- The rows that are kept, with their pairs of multipliers.
 use Rattle.std.specs.Prelude.{◌≡◌, ◌≢◌, ℕ, Bool, not, ◌||◌, List, [], ◌∷◌, map, ℤ, pos, ◌*ℤ◌, ◌⊎◌, ⊤}
 use Rattle.std.specs.Ordering.{int_eq}
-use Rattle.auction_model.specs.Market.{Market}
-use Rattle.far_num.specs.Members.{holds}
-use Rattle.far_num.specs.declared.Row.{Row}
-use Rattle.row_laws.specs.Rows.{IsGivenBy}
-use Rattle.row_laws.specs.Winners.{winners_in}
-use Rattle.wide_num.specs.Sums.{nth, dot}
+use Rattle.nearest_point.specs.auction_model.specs.Market.{Market}
+use Rattle.blocking.specs.far_num.specs.Members.{holds}
+use Rattle.blocking.specs.far_num.specs.declared.Row.{Row}
+use Rattle.blocking.specs.row_laws.specs.Rows.{IsGivenBy}
+use Rattle.blocking.specs.row_laws.specs.Winners.{winners_in}
+use Rattle.nearest_point.specs.wide_num.specs.Sums.{nth, dot}
 use Rattle.core_price.specs.declared.priced.PricedRow.{PricedRow}
 
 abbrev pub rows_in : List PricedRow → List Row

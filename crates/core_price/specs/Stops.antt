@@ -1,7 +1,7 @@
 -- Why there are no prices.
 use Rattle.std.specs.Prelude.{◌≡◌, ℕ, List}
 use Rattle.core_price.specs.Weights.{FewWin, ManyWin}
-use Rattle.row_laws.specs.Winners.{winners_in}
+use Rattle.blocking.specs.row_laws.specs.Winners.{winners_in}
 use Rattle.core_price.specs.declared.priced.PriceStop.{PriceStop}
 use Rattle.core_price.specs.declared.priced.PriceStop.TheVariants.{Winners, Memory}
 

@@ -1,10 +1,10 @@
 -- The weights of the winners, and how many winners can be priced with them.
 use Rattle.std.specs.Prelude.{◌≡◌, ℕ, zero, suc, ◌<◌, ◌≤◌, ◌⊎◌, List, [], ◌∷◌, length}
-use Rattle.auction_model.specs.Market.{Market}
-use Rattle.limits.specs.declared.TheConstants.{MOST_WEIGHTED_WINNERS, MOST_WINNERS}
-use Rattle.auction_model.specs.Prices.{AreWeights}
+use Rattle.nearest_point.specs.auction_model.specs.Market.{Market}
+use Rattle.blocking.specs.limits.specs.declared.TheConstants.{MOST_WEIGHTED_WINNERS, MOST_WINNERS}
+use Rattle.nearest_point.specs.auction_model.specs.Prices.{AreWeights}
 use Rattle.nearest_point.specs.Problem.{AreOnes}
-use Rattle.row_laws.specs.Winners.{winners_in}
+use Rattle.blocking.specs.row_laws.specs.Winners.{winners_in}
 
 -- a weight for each bidder as a weight for each winner, in order
 abbrev pub weights_in : List ℕ → List ℕ → List ℕ

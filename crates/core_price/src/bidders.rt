@@ -1,9 +1,9 @@
 // Winners as bidders.
-ghost use Rattle.row_laws.specs.Winners;
-ghost use Rattle.row_laws.specs.Winners.{row_of, winners_in};
+ghost use Rattle.blocking.specs.row_laws.specs.Winners;
+ghost use Rattle.blocking.specs.row_laws.specs.Winners.{row_of, winners_in};
 ghost use Rattle.std.specs.Prelude.{IfOk, OnOk, [], length, if◌then◌else◌, ◌++◌, ◌<◌, ◌==◌, ◌%◌, ◌^◌, ◌∷◌, ◌≡◌};
 
-use choices::{Choice, Numbers};
+use blocking::choices::{Choice, Numbers};
 use std::alloc::{AllocError, Global};
 
 /// How many bidders win.

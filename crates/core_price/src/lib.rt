@@ -1,18 +1,18 @@
 //! Core-selecting prices: rows are added, turn after turn, until no coalition blocks the point.
 #![tactic(auto)]
 
-ghost use Rattle.auction_model.specs.Market.{value_of};
-ghost use Rattle.auction_model.specs.Prices.{AreWeights};
-ghost use Rattle.choices.specs.Singles.{AreSingles};
+ghost use Rattle.nearest_point.specs.auction_model.specs.Market.{value_of};
+ghost use Rattle.nearest_point.specs.auction_model.specs.Prices.{AreWeights};
+ghost use Rattle.blocking.specs.choices.specs.Singles.{AreSingles};
 ghost use Rattle.core_price.specs.Priced.{IsPriced};
 ghost use Rattle.core_price.specs.Stops.{IsStop};
 ghost use Rattle.core_price.specs.Weights.{FewWin};
-ghost use Rattle.limits.specs.declared.TheConstants.{MOST_AMOUNT};
-ghost use Rattle.row_laws.specs.Surplus.{surpluses_of};
-ghost use Rattle.row_laws.specs.Winners.{for_bidders, winners_in};
+ghost use Rattle.blocking.specs.limits.specs.declared.TheConstants.{MOST_AMOUNT};
+ghost use Rattle.blocking.specs.row_laws.specs.Surplus.{surpluses_of};
+ghost use Rattle.blocking.specs.row_laws.specs.Winners.{for_bidders, winners_in};
 ghost use Rattle.std.specs.Prelude.{IfErr, IfOk, length, pos, ◌*◌, ◌^◌, ◌≡◌, ◌≤ℤ◌, ◌≤◌};
 
-use choices::{Chooser, Single};
+use blocking::choices::{Chooser, Single};
 use std::alloc::{AllocError, Global};
 
 mod bidders;
@@ -25,8 +25,10 @@ mod turns;
 mod weights;
 
 pub use bidders::{count_winners, for_bidders, members_of};
+pub use blocking;
 use kept::kept_rows;
 pub use lists::{RowList, TurnList};
+pub use nearest_point::wide_num;
 pub use priced::{PriceStop, Priced, PricedRow, Turn};
 use start::{first_rows, prices_of};
 use turns::{Ended, take_turns};

@@ -4,10 +4,10 @@ ghost use Rattle.std.specs.Prelude.{◌≡◌};
 
 use crate::{RowList, TurnList};
 use blocking::Block;
-use choices::{Choice, Found};
-use far_num::Row;
+use blocking::choices::{Choice, Found};
+use blocking::far_num::Row;
+use nearest_point::wide_num::NumList;
 use std::alloc::AllocError;
-use wide_num::NumList;
 
 /// A row with the choice that gives it, and its multipliers at the last point.
 #[derive(Drop)]

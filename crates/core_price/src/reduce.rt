@@ -2,12 +2,12 @@
 ghost use Rattle.core_price.specs.Lowest.{DividesAll, DividesPoint, IsLowest, IsMultiple};
 ghost use Rattle.nearest_point.specs.Numbers.{AreBelow};
 ghost use Rattle.std.specs.Prelude.{IfOk, length, pos, ℕ, ℤ, ◌<ℤ◌, ◌^◌, ◌≡◌};
-ghost use Rattle.wide_num.specs.Range.{Divides, InRange};
+ghost use Rattle.nearest_point.specs.wide_num.specs.Range.{Divides, InRange};
 
-use lin_solve::quotients;
 use nearest_point::Nearest;
+use nearest_point::lin_solve::quotients;
+use nearest_point::wide_num::{div_exact, gcd};
 use std::alloc::{AllocError, Global};
-use wide_num::{div_exact, gcd};
 
 /// The same point and multipliers over the least denominator.
 pub(crate) fn reduced(alloc: Global, near: Nearest) -> Result<Nearest, AllocError>

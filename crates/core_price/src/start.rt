@@ -1,11 +1,11 @@
 // The rows of the first turn.
 ghost use Rattle.core_price.specs.Rows;
 ghost use Rattle.core_price.specs.Rows.{single_bits};
-ghost use Rattle.limits.specs.declared.TheConstants.{MOST_WINNERS};
+ghost use Rattle.blocking.specs.limits.specs.declared.TheConstants.{MOST_WINNERS};
 ghost use Rattle.std.specs.Prelude.{IfOk, length, map, ◌≡◌, ◌≤◌};
 
-use choices::{Choice, Single};
-use far_num::Row;
+use blocking::choices::{Choice, Single};
+use blocking::far_num::Row;
 use std::alloc::{AllocError, Global};
 
 /// The rows so far, each with the choice that gives it.

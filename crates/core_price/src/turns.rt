@@ -1,14 +1,14 @@
 // The turns of pricing.
-ghost use Rattle.auction_model.specs.Market.{value_of};
-ghost use Rattle.auction_model.specs.Prices.{AreVickreyPrices, IsUnblocked};
-ghost use Rattle.auction_model.specs.Lowered.{of_bidder};
+ghost use Rattle.nearest_point.specs.auction_model.specs.Market.{value_of};
+ghost use Rattle.nearest_point.specs.auction_model.specs.Prices.{AreVickreyPrices, IsUnblocked};
+ghost use Rattle.nearest_point.specs.auction_model.specs.Lowered.{of_bidder};
 ghost use Rattle.blocking.specs.Look.{IsFound};
 ghost use Rattle.core_price.specs.Answers.{CanSolve, IsAnswer};
 ghost use Rattle.core_price.specs.Lowest.{IsLowest};
 ghost use Rattle.core_price.specs.Rows.{block_choices, block_rows};
 ghost use Rattle.core_price.specs.SoFar.{CanTurn, HasEnded, IsSoFar};
-ghost use Rattle.row_laws.specs.Surplus.{surpluses_of};
-ghost use Rattle.row_laws.specs.Winners;
+ghost use Rattle.blocking.specs.row_laws.specs.Surplus.{surpluses_of};
+ghost use Rattle.blocking.specs.row_laws.specs.Winners;
 ghost use Rattle.std.specs.Prelude.{IfOk, [], ◌≡◌, ◌++◌};
 
 use crate::bidders::for_bidders;
@@ -16,12 +16,12 @@ use crate::reduce::reduced;
 use crate::start::Asked;
 use crate::weights::winner_weights;
 use crate::{Turn, TurnList};
+use blocking::choices::{Chooser, Found};
+use blocking::far_num::Row;
 use blocking::{Looked, find_block};
-use choices::{Chooser, Found};
-use far_num::Row;
+use nearest_point::wide_num::NumList;
 use nearest_point::{Nearest, nearest};
 use std::alloc::{AllocError, Global};
-use wide_num::NumList;
 
 /// Where the turns end: the last point, what the last search found, all rows and all turns.
 #[derive(Drop)]

@@ -4,15 +4,15 @@ use Rattle.std.specs.Prelude.{codes}
 use Rattle.std.specs.Fmt.{decimal}
 use Rattle.std.specs.List.{AllByRecursion}
 use Rattle.std.proofs.lemmas.List.{append-nil}
-use Rattle.auction_model.proofs.ListLaws.{each-push}
-use Rattle.auction_model.specs.Book.{Book}
-use Rattle.book_form.specs.BookForm.{IsName}
-use Rattle.book_form.proofs.NameLaws.{name_own}
-use Rattle.book_form.proofs.TextLaws.{numbers-push}
-use Rattle.text_lines.proofs.DecimalFields.{NoSpace, number_own, one_field}
-use Rattle.text_lines.specs.Decimals.{decimals_text}
-use Rattle.text_lines.specs.Fields.{FieldEnds}
-use Rattle.wide_num.proofs.Decimal.{decimal_one}
+use Rattle.review.specs.auction_model.proofs.ListLaws.{each-push}
+use Rattle.review.specs.auction_model.specs.Book.{Book}
+use Rattle.review.specs.book_form.specs.BookForm.{IsName}
+use Rattle.review.specs.book_form.proofs.NameLaws.{name_own}
+use Rattle.review.specs.book_form.proofs.TextLaws.{numbers-push}
+use Rattle.review.specs.text_lines.proofs.DecimalFields.{NoSpace, number_own, one_field}
+use Rattle.review.specs.text_lines.specs.Decimals.{decimals_text}
+use Rattle.review.specs.text_lines.specs.Fields.{FieldEnds}
+use Rattle.review.specs.wide_num.proofs.Decimal.{decimal_one}
 use Rattle.edits_file.specs.Stages.{BeginsWithCounts, BeginsWithNumber, IsHead, StatesBid, StatesPackage}
 
 -- counts that a line may state

@@ -3,18 +3,18 @@ use Rattle.std.proofs.Common.{◌≡◌, ◌≢◌, ℕ, List, [], ◌∷◌, �
 use Rattle.std.specs.Prelude.{codes}
 use Rattle.std.specs.Fmt.{decimal}
 use Rattle.std.proofs.lemmas.List.{append_cancel_left, append-nil}
-use Rattle.auction_model.specs.Book.{Book}
-use Rattle.bid_book.proofs.Numbers.{AreSmall}
-use Rattle.bid_book.proofs.Spelled.{name_line, numbers_line}
-use Rattle.line_text.specs.LineText.{IsLine}
-use Rattle.line_text.proofs.Lines.{line_append}
+use Rattle.review.specs.auction_model.specs.Book.{Book}
+use Rattle.review.specs.bid_book.proofs.Numbers.{AreSmall}
+use Rattle.review.specs.bid_book.proofs.Spelled.{name_line, numbers_line}
+use Rattle.review.specs.line_text.specs.LineText.{IsLine}
+use Rattle.review.specs.line_text.proofs.Lines.{line_append}
 use Rattle.review.specs.declared.edit.Edit.{Edit}
 use Rattle.review.specs.declared.edit.Edit.TheVariants.{Add, Raise, Remove}
-use Rattle.text_lines.specs.Decimals.{decimals_text}
-use Rattle.wide_num.proofs.Decimal.{decimal_one}
+use Rattle.review.specs.text_lines.specs.Decimals.{decimals_text}
+use Rattle.review.specs.wide_num.proofs.Decimal.{decimal_one}
 use Rattle.edits_file.specs.EditsForm.{NamedEdit, add, raise, remove, NamesPackage, IsNamedEdit, IsSpelledAmount, edit_text}
 use Rattle.edits_file.specs.Stages.{States, StatesBid, StatesPackage}
-use Rattle.book_form.proofs.TextLaws.{numbers-push}
+use Rattle.review.specs.book_form.proofs.TextLaws.{numbers-push}
 use Rattle.edits_file.proofs.FieldLaws.{AreLow, heads_one}
 
 -- the first line has no line feed

@@ -4,11 +4,11 @@ use Rattle.std.specs.Prelude.{codes}
 use Rattle.std.specs.List.{AllByRecursion}
 use Rattle.std.proofs.lemmas.Bool.Decides.{nat_tests}
 use Rattle.std.proofs.lemmas.List.{append-nil, length-map, take_at, take_all}
-use Rattle.auction_model.proofs.ListLaws.{each-push}
-use Rattle.auction_model.specs.Book.{Book}
-use Rattle.book_form.specs.BookLines.{Excess, Line}
-use Rattle.limits.specs.declared.LimitKind.TheVariants.{Records}
-use Rattle.line_text.proofs.Runs.{Runs, Reads, runs_append}
+use Rattle.review.specs.auction_model.proofs.ListLaws.{each-push}
+use Rattle.review.specs.auction_model.specs.Book.{Book}
+use Rattle.review.specs.book_form.specs.BookLines.{Excess, Line}
+use Rattle.review.specs.limits.specs.declared.LimitKind.TheVariants.{Records}
+use Rattle.review.specs.line_text.proofs.Runs.{Runs, Reads, runs_append}
 use Rattle.review.specs.Edits.{edit_lots}
 use Rattle.review.specs.declared.edit.Edit.{Edit}
 use Rattle.edits_file.specs.EditsForm.{NamedEdit, add, raise, remove, AreNamedEdits, IsNamedEdit, edit_excess, edit_lines, edit_of, edit_text, edits_of, lines}

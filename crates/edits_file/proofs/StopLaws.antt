@@ -1,7 +1,7 @@
 -- Which stop of the reader comes from which stop at a line.
 use Rattle.std.proofs.Common.{◌≡◌, ℕ, refl}
-use Rattle.limits.specs.declared.LimitKind.{LimitKind}
-use Rattle.limits.specs.declared.LimitKind.TheVariants.{Records}
+use Rattle.review.specs.limits.specs.declared.LimitKind.{LimitKind}
+use Rattle.review.specs.limits.specs.declared.LimitKind.TheVariants.{Records}
 use Rattle.edits_file.specs.declared.EditStop.TheVariants as edits
 use Rattle.edits_file.specs.declared.stop.LineStop.{LineStop}
 use Rattle.edits_file.specs.declared.stop.LineStop.TheVariants.{Form, Full, Memory}

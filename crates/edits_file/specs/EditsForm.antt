@@ -2,15 +2,15 @@
 use Rattle.std.specs.Prelude.{◌≡◌, ℕ, suc, ◌+◌, ◌≤◌, ◌^◌, Option, Some, None, List, [], ◌∷◌, ◌++◌, codes, length, map, nat_le, if◌then◌else◌}
 use Rattle.std.specs.List.{AllByRecursion}
 use Rattle.std.specs.Str.{bytes_eq}
-use Rattle.auction_model.specs.Book.{Bidder, Book}
-use Rattle.book_form.specs.BookForm.{IsName}
-use Rattle.book_form.specs.BookLines.{Excess, Line}
-use Rattle.limits.specs.declared.LimitKind.TheVariants.{Records}
-use Rattle.limits.specs.declared.TheConstants.{MOST_EDITS}
-use Rattle.line_text.specs.LineText.{Said, Says}
+use Rattle.review.specs.auction_model.specs.Book.{Bidder, Book}
+use Rattle.review.specs.book_form.specs.BookForm.{IsName}
+use Rattle.review.specs.book_form.specs.BookLines.{Excess, Line}
+use Rattle.review.specs.limits.specs.declared.LimitKind.TheVariants.{Records}
+use Rattle.review.specs.limits.specs.declared.TheConstants.{MOST_EDITS}
+use Rattle.review.specs.line_text.specs.LineText.{Said, Says}
 use Rattle.review.specs.declared.edit.Edit.{Edit}
 use Rattle.review.specs.declared.edit.Edit.TheVariants.{Add, Raise, Remove}
-use Rattle.text_lines.specs.Decimals.{decimals_text}
+use Rattle.review.specs.text_lines.specs.Decimals.{decimals_text}
 
 -- what a line says: an edit of the bidder of a name, whether or not a book has it
 pub data NamedEdit : Type 0 where

@@ -1,2 +1,3 @@
 pub mod EditsForm
 pub mod Stages
+pub use Rattle.review

@@ -3,13 +3,13 @@
 use Rattle.std.specs.Prelude.{◌≡◌, ◌⊎◌, ℕ, ◌+◌, ◌≤◌, Option, None, List, [], ◌∷◌, ◌++◌, codes, length}
 use Rattle.std.specs.Fmt.{decimal}
 use Rattle.std.specs.List.{AllByRecursion}
-use Rattle.auction_model.specs.Book.{Book}
-use Rattle.book_form.specs.BookLines.{Excess}
-use Rattle.limits.specs.declared.LimitKind.TheVariants.{Records}
-use Rattle.limits.specs.declared.TheConstants.{MOST_EDITS}
+use Rattle.review.specs.auction_model.specs.Book.{Book}
+use Rattle.review.specs.book_form.specs.BookLines.{Excess}
+use Rattle.review.specs.limits.specs.declared.LimitKind.TheVariants.{Records}
+use Rattle.review.specs.limits.specs.declared.TheConstants.{MOST_EDITS}
 use Rattle.review.specs.declared.edit.Edit.{Edit}
-use Rattle.text_lines.specs.Decimals.{decimals_text}
-use Rattle.text_lines.specs.Fields.{FieldEnds}
+use Rattle.review.specs.text_lines.specs.Decimals.{decimals_text}
+use Rattle.review.specs.text_lines.specs.Fields.{FieldEnds}
 use Rattle.edits_file.specs.EditsForm.{NamedEdit, NamesPackage, IsNamedEdit, IsSpelledAmount, edit_excess, edit_of, edit_text, number_among}
 use Rattle.edits_file.specs.declared.EditStop.{EditStop}
 use Rattle.edits_file.specs.declared.EditStop.TheVariants as edits

@@ -1,15 +1,15 @@
 // The fields of a line that states an edit.
 ghost use Rattle.std.specs.Prelude.{IfNone, IfOk, IfSome, List, [], length, ℕ, ◌++◌, ◌≡◌, ◌≢◌};
-ghost use Rattle.text_lines.specs.Fields.{FieldEnds};
-ghost use Rattle.book_form.specs.BookForm.{IsName};
+ghost use Rattle.review.specs.text_lines.specs.Fields.{FieldEnds};
+ghost use Rattle.review.specs.book_form.specs.BookForm.{IsName};
 ghost use Rattle.edits_file.specs.EditsForm.{number_among};
 ghost use Rattle.edits_file.specs.Stages.{BeginsWithCounts, BeginsWithNumber, IsHead, StatesBid, StatesPackage};
 
 use crate::stop::LineStop;
-use bid_book::{BidBook, is_name};
-use lots::Package;
+use review::bid_book::{BidBook, is_name};
+use review::lots::Package;
+use review::text_lines::{field_len, read_at_most};
 use std::alloc::{AllocError, Global};
-use text_lines::{field_len, read_at_most};
 
 /// The greatest count of lots that a line may state.
 const MOST_STATED_COUNT: u64 = 65_535;

@@ -13,8 +13,9 @@ mod stop;
 
 pub use edits::Edits;
 pub use laws::{edit_counts, one_edits};
-pub use limits::LimitKind;
 pub use read::read_edits;
+pub use review;
+pub use review::limits::LimitKind;
 use std::alloc::AllocError;
 
 /// Why bytes state no edits of a book.

@@ -5,8 +5,8 @@ ghost use Rattle.edits_file.specs.Stages.{States};
 
 use crate::fields::{read_bid, read_package};
 use crate::stop::LineStop;
-use bid_book::BidBook;
 use review::Edit;
+use review::bid_book::BidBook;
 use std::alloc::Global;
 
 /// The edit of the book that a line states.

@@ -1,9 +1,9 @@
 // The reader of a file of edits.
 ghost use Rattle.std.specs.Prelude.{Err, IfOk, IsTrue, List, None, Some, length, ℕ, ◌+◌, ◌↔◌, ◌≡◌, ◌≢◌, ◌≤◌};
 ghost use Rattle.std.specs.List.{AllByRecursion};
-ghost use Rattle.limits.specs.declared.LimitKind.TheVariants.{Records};
-ghost use Rattle.limits.specs.declared.TheConstants.{MOST_EDITS};
-ghost use Rattle.line_text.specs.LineText.{beyond, faulty, stated};
+ghost use Rattle.review.specs.limits.specs.declared.LimitKind.TheVariants.{Records};
+ghost use Rattle.review.specs.limits.specs.declared.TheConstants.{MOST_EDITS};
+ghost use Rattle.review.specs.line_text.specs.LineText.{beyond, faulty, stated};
 ghost use Rattle.review.specs.Edits.{edit_lots};
 ghost use Rattle.edits_file.specs.EditsForm.{EditsSay, NamedEdit, edits_of};
 ghost use Rattle.edits_file.specs.Stages.{Step, excess};
@@ -11,9 +11,9 @@ ghost use Rattle.edits_file.specs.Stages.{Step, excess};
 use crate::line::read_edit;
 use crate::stop::LineStop;
 use crate::{EditStop, Edits};
-use bid_book::BidBook;
-use limits::{LimitKind, MOST_EDITS};
-use line_text::line_len;
+use review::bid_book::BidBook;
+use review::limits::{LimitKind, MOST_EDITS};
+use review::line_text::line_len;
 use std::alloc::Global;
 
 /// What the lines so far say.

@@ -4,7 +4,7 @@ ghost use Rattle.edits_file.specs.Stages.{edit_stop};
 ghost use Rattle.edits_file.specs.declared.stop.LineStop.TheVariants.{Form, Memory};
 
 use crate::EditStop;
-use limits::{LimitKind, MOST_EDITS};
+use review::limits::{LimitKind, MOST_EDITS};
 use std::alloc::{AllocError, AllocFailed};
 
 /// Why a line is not taken.

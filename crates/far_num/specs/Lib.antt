@@ -1,2 +1,3 @@
 pub mod Members
 pub mod Pairs
+pub use Rattle.wide_num

@@ -3,9 +3,9 @@ use Rattle.std.proofs.Common.{◌≡◌, ◌≢◌, ℕ, zero, suc, ◌<◌, ◌
 use Rattle.std.proofs.lemmas.Int.{ints}
 use Rattle.std.proofs.lemmas.Bool.{cases_eq}
 use Rattle.std.proofs.Math.IntN.{*ℤ_comm, *ℤ-zero}
-use Rattle.wide_num.proofs.Ints.{lin, mul-zero_cases}
-use Rattle.wide_num.proofs.Sums.{dot-lin, dot-scale, dot-same, dot-zero}
-use Rattle.wide_num.specs.Sums.{dot}
+use Rattle.far_num.specs.wide_num.proofs.Ints.{lin, mul-zero_cases}
+use Rattle.far_num.specs.wide_num.proofs.Sums.{dot-lin, dot-scale, dot-same, dot-zero}
+use Rattle.far_num.specs.wide_num.specs.Sums.{dot}
 use Rattle.lin_solve.proofs.Siegel.{Solves}
 use Rattle.lin_solve.specs.Bounds.{nat_total}
 

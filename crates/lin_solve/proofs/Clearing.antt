@@ -2,13 +2,13 @@
 use Rattle.std.proofs.Math.Nat.{le_of_eq, le_trans}
 use Rattle.std.proofs.Common.{◌≡◌, ℕ, zero, suc, ◌<◌, ◌≤◌, ℤ, pos, ◌*ℤ◌, refl, sym, ap, ◌∙◌, subst, arith, unsigned_abs, List, [], inl, inr, length, slice_index_or}
 use Rattle.std.proofs.lemmas.Bool.{cases_eq}
-use Rattle.wide_num.proofs.Ints.{*ℤ-one}
+use Rattle.far_num.specs.wide_num.proofs.Ints.{*ℤ-one}
 use Rattle.lin_solve.specs.Matrix.{row, IsCleared, OnlyZero}
 use Rattle.lin_solve.specs.Bounds.{nat_total, size, AreLines, AreSized, HasSizedColumns, IsBounded}
 use Rattle.lin_solve.specs.Elimination.{IsKernelRow}
 use Rattle.lin_solve.specs.Clearing.{IsKeptColumn, IsClearing}
-use Rattle.wide_num.specs.Sums.{nth, dot}
-use Rattle.wide_num.proofs.Sums.{total-same, dot-zero, dot_comm}
+use Rattle.far_num.specs.wide_num.specs.Sums.{nth, dot}
+use Rattle.far_num.specs.wide_num.proofs.Sums.{total-same, dot-zero, dot_comm}
 use Rattle.lin_solve.proofs.Siegel.{nat_total-le}
 use Rattle.lin_solve.proofs.Inverse.{Solvable, solvable, unit, unit-same}
 

@@ -2,7 +2,7 @@
 use Rattle.std.proofs.Common.{◌≡◌, ℕ, zero, suc, ◌+◌, ◌*◌, ◌<◌, ◌≤◌, ◌^◌, ℤ, pos, ◌*ℤ◌, ◌≤ℤ◌, sym, ap, ◌∙◌, subst, arith, unsigned_abs, List, length, below_more}
 use Rattle.std.proofs.lemmas.Int.{ints, unsigned_abs-mul}
 use Rattle.std.proofs.Math.IntN.{*ℤ_comm}
-use Rattle.wide_num.proofs.Ints.{mul_assoc, *ℤ-one}
+use Rattle.far_num.specs.wide_num.proofs.Ints.{mul_assoc, *ℤ-one}
 use Rattle.lin_solve.specs.declared.pivots.Pivot.{Pivot}
 use Rattle.lin_solve.specs.Clearing.{IsWholeOver, IsGrown}
 use Rattle.lin_solve.specs.Pivots.{pivot, AreWhole, HaveCommon, IsCommonDen, AreValues}

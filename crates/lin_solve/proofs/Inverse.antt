@@ -4,9 +4,9 @@ use Rattle.std.proofs.lemmas.Int.{ints}
 use Rattle.std.proofs.lemmas.Bool.{cases_eq}
 use Rattle.std.proofs.Math.IntN.{*ℤ_comm, *ℤ-zero}
 use Rattle.std.proofs.Math.Nat.{pow-zero, pow-suc}
-use Rattle.wide_num.proofs.Ints.{lin, mul-neg, swap_mul, mul_cancel, mul-zero_cases}
-use Rattle.wide_num.proofs.Sums.{dot-scale, dot-same, dot-through, total-first, total-one}
-use Rattle.wide_num.specs.Sums.{dot}
+use Rattle.far_num.specs.wide_num.proofs.Ints.{lin, mul-neg, swap_mul, mul_cancel, mul-zero_cases}
+use Rattle.far_num.specs.wide_num.proofs.Sums.{dot-scale, dot-same, dot-through, total-first, total-one}
+use Rattle.far_num.specs.wide_num.specs.Sums.{dot}
 use Rattle.lin_solve.proofs.Siegel.{Solves, room, box, siegel, Solution}
 use Rattle.lin_solve.specs.Bounds.{nat_total, size}
 use Rattle.lin_solve.proofs.Small.{SizesWithin, room_below, crowd}

@@ -10,7 +10,7 @@ use Rattle.lin_solve.specs.Bounds.{size, bound, IsWithin}
 use Rattle.lin_solve.specs.Solved.{IsSmallSystem, IsSystem, IsWithinLimits, AreParts, IsSmallAnswer, most}
 use Rattle.far_num.specs.Pairs.{far_at, near_at}
 use Rattle.lin_solve.specs.Elimination.{IsKernelRow}
-use Rattle.wide_num.specs.Sums.{nth}
+use Rattle.far_num.specs.wide_num.specs.Sums.{nth}
 use Rattle.lin_solve.proofs.PivotFacts.{size_small}
 
 -- at most `count` lines with entries up to `top`, and parts up to the edge: the limit is their product

@@ -3,9 +3,9 @@ use Rattle.std.proofs.Common.{◌≡◌, ◌≢◌, ◌⊎◌, ℕ, zero, suc, �
 use Rattle.std.proofs.lemmas.Int.{ints, unsigned_abs-mul}
 use Rattle.std.proofs.lemmas.Bool.{cases_eq}
 use Rattle.std.proofs.Math.Nat.{div-add-mod, mod-lt, mul-le-mul, div-lt_iff_lt-mul}
-use Rattle.wide_num.proofs.Ints.{lin}
-use Rattle.wide_num.proofs.Sums.{total-same, total-add, dot-lin}
-use Rattle.wide_num.specs.Sums.{total, dot}
+use Rattle.far_num.specs.wide_num.proofs.Ints.{lin}
+use Rattle.far_num.specs.wide_num.proofs.Sums.{total-same, total-add, dot-lin}
+use Rattle.far_num.specs.wide_num.specs.Sums.{total, dot}
 use Rattle.lin_solve.specs.Bounds.{nat_total}
 use Rattle.lin_solve.proofs.Pigeon.{collide, Collision}
 

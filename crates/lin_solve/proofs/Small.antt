@@ -4,14 +4,14 @@ use Rattle.std.proofs.lemmas.Int.{unsigned_abs-mul}
 use Rattle.std.proofs.lemmas.Bool.{cases_eq}
 use Rattle.std.proofs.Math.IntN.{*ℤ_comm, *ℤ-zero}
 use Rattle.std.proofs.Math.Numerals.{one-add}
-use Rattle.wide_num.proofs.Ints.{*ℤ-one}
+use Rattle.far_num.specs.wide_num.proofs.Ints.{*ℤ-one}
 use Rattle.std.proofs.lemmas.Nat.{mul-pow}
 use Rattle.std.proofs.Common.{zero-add}
 use Rattle.std.proofs.Math.Nat.{pow-zero, pow-suc, pow-le-pow_left, pow-le-pow_right, one-le-pow, mul-le-mul, le_trans}
-use Rattle.wide_num.proofs.Ints.{lin, mul_assoc, mul_cancel, abs_pos, abs-zero}
+use Rattle.far_num.specs.wide_num.proofs.Ints.{lin, mul_assoc, mul_cancel, abs_pos, abs-zero}
 use Rattle.lin_solve.specs.Bounds.{size, nat_total}
-use Rattle.wide_num.proofs.Sums.{dot-scale, dot-same}
-use Rattle.wide_num.specs.Sums.{dot}
+use Rattle.far_num.specs.wide_num.proofs.Sums.{dot-scale, dot-same}
+use Rattle.far_num.specs.wide_num.specs.Sums.{dot}
 use Rattle.lin_solve.proofs.Siegel.{Solves, nat_total-le, weight, room, box, siegel, Solution}
 use Rattle.lin_solve.proofs.Basis.{Basis, Solves-lin, minus_same, minus_zero, held, taken, taken_one}
 

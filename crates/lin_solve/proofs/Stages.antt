@@ -6,11 +6,11 @@ use Rattle.std.proofs.Math.Nat.{pow-le-pow_right, le_trans}
 use Rattle.lin_solve.specs.Matrix.{row, IsCleared}
 use Rattle.lin_solve.specs.Bounds.{size, AreLines, AreSized, IsWithin, HasRoom, bound}
 use Rattle.lin_solve.specs.Elimination.{flag, IsPrimitive, Reduces, Ready, IsNext, product, IsUnit, IsKernelRow}
-use Rattle.wide_num.specs.Sums.{nth, dot}
+use Rattle.far_num.specs.wide_num.specs.Sums.{nth, dot}
 use Rattle.lin_solve.proofs.Siegel.{Solves}
 use Rattle.lin_solve.proofs.Basis.{Basis, Cleared, start, step, taken, held, taken_one, true_false, Solves-part, minus_same, minus_zero}
 use Rattle.lin_solve.proofs.Small.{SizesWithin, small}
-use Rattle.wide_num.proofs.Sums.{dot-lin, total-one}
+use Rattle.far_num.specs.wide_num.proofs.Sums.{dot-lin, total-one}
 use Rattle.std.proofs.Math.IntN.{*ℤ-zero}
 
 -- the state after the first k lines

@@ -2,11 +2,11 @@ ghost use Rattle.lin_solve.specs.Matrix.{OnlyZero};
 ghost use Rattle.lin_solve.specs.Bounds.{IsBounded};
 ghost use Rattle.lin_solve.specs.Clearing.{IsClearing, IsColumn, IsKeptColumn};
 ghost use Rattle.std.specs.Prelude.{IfOk, [], length, pos, slice_index_or, ℕ, ◌<◌, ◌≡◌};
-ghost use Rattle.wide_num.specs.Sums.{nth};
+ghost use Rattle.far_num.specs.wide_num.specs.Sums.{nth};
 
 use crate::kernel::kernel;
+use far_num::wide_num::NumList;
 use std::alloc::{AllocError, Global};
-use wide_num::NumList;
 
 /// Column `i`.
 pub fn column(alloc: Global, lines: &[NumList], i: usize) -> Result<NumList, AllocError>

@@ -3,14 +3,14 @@ ghost use Rattle.lin_solve.specs.Pivots.{ArePivots, AreValues, HaveCommon, IsCom
 ghost use Rattle.lin_solve.specs.Matrix.{OnlyZero};
 ghost use Rattle.lin_solve.specs.Solved.{IsSystem};
 ghost use Rattle.std.specs.Prelude.{IfOk, length, pos, unsigned_abs, ◌*ℤ◌, ◌*◌, ◌<◌, ◌^◌, ◌≡◌, ◌≢◌};
-ghost use Rattle.wide_num.specs.Range.{Divides};
-ghost use Rattle.wide_num.specs.Sums.{nth};
+ghost use Rattle.far_num.specs.wide_num.specs.Range.{Divides};
+ghost use Rattle.far_num.specs.wide_num.specs.Sums.{nth};
 
 use crate::pivots::{Pivot, grow, pivot_at};
 use crate::rows::times;
+use far_num::wide_num::{NumList, div_exact};
 use far_num::{Far, FarList};
 use std::alloc::{AllocError, Global};
-use wide_num::{NumList, div_exact};
 
 /// The pivots of all places.
 pub fn all_pivots(

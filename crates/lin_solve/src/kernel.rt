@@ -2,11 +2,11 @@ ghost use Rattle.lin_solve.specs.Matrix.{OnlyZero};
 ghost use Rattle.lin_solve.specs.Bounds.{AreLines};
 ghost use Rattle.lin_solve.specs.Elimination.{CanClear, CanCombine, IsKernelRow, IsNext, IsUnit, NoneCanClear, Ready, Reduces, flag, product};
 ghost use Rattle.std.specs.Prelude.{IfOk, MatchOption, [], false, length, pos, slice_index_or, true, ℕ, ◌<◌, ◌≡◌, ◌≢◌, ◌≤◌};
-ghost use Rattle.wide_num.specs.Sums.{nth};
+ghost use Rattle.far_num.specs.wide_num.specs.Sums.{nth};
 
 use crate::rows::{dot, reduced};
+use far_num::wide_num::NumList;
 use std::alloc::{AllocError, Global};
-use wide_num::NumList;
 
 /// The combination of the row `v` and the pivot's row `w` that `line` sends to 0, divided by what its numbers share.
 fn cleared_row(alloc: Global, line: &[i128], v: &[i128], w: &[i128]) -> Result<NumList, AllocError>

@@ -1,11 +1,11 @@
 ghost use Rattle.lin_solve.specs.Bounds.{reach};
 ghost use Rattle.lin_solve.specs.Elimination.{AreQuotients, ContentOf, IsMix, IsPrimitivePart, Reduces, product};
 ghost use Rattle.std.specs.Prelude.{IfOk, length, pos, unsigned_abs, ℕ, ◌*ℤ◌, ◌*◌, ◌+ℤ◌, ◌+◌, ◌-ℤ◌, ◌<◌, ◌^◌, ◌≡◌, ◌≢◌};
-ghost use Rattle.wide_num.specs.Range.{Divides};
-ghost use Rattle.wide_num.specs.Sums.{nth};
+ghost use Rattle.far_num.specs.wide_num.specs.Range.{Divides};
+ghost use Rattle.far_num.specs.wide_num.specs.Sums.{nth};
 
+use far_num::wide_num::{NumList, div_exact, gcd};
 use std::alloc::{AllocError, Global};
-use wide_num::{NumList, div_exact, gcd};
 
 /// A product that is known to stay in the range.
 pub fn times(a: i128, b: i128) -> i128

@@ -2,14 +2,14 @@ ghost use Rattle.far_num.specs.Pairs.{far_at, near_at};
 ghost use Rattle.lin_solve.specs.Solved.{AreParts, IsAnswer, IsSmallAnswer, IsSmallSystem, IsSystem, IsWithinLimits, most};
 ghost use Rattle.lin_solve.specs.Matrix.{OnlyZero};
 ghost use Rattle.std.specs.Prelude.{IfOk, length, ℕ, ◌+◌, ◌^◌, ◌≡◌, ◌⊎◌};
-ghost use Rattle.wide_num.specs.Sums.{nth};
+ghost use Rattle.far_num.specs.wide_num.specs.Sums.{nth};
 
 use crate::common::{all_pivots, common_den, values};
 use crate::kernel::kernel;
 use crate::square::Square;
+use far_num::wide_num::NumList;
 use far_num::{Far, FarList};
 use std::alloc::{AllocError, Global};
-use wide_num::NumList;
 
 /// What a linear system has: one solution, or a dependence.
 #[derive(Debug, Drop)]

@@ -1,14 +1,14 @@
 -- The records of a log, one after the other.
 use Rattle.std.proofs.Common.{◌≡◌, ℕ, suc, ◌<◌, List, [], ◌∷◌, ◌++◌, length, refl, sym, ap, subst, ◌∙◌, arith, append_assoc, length-append}
 use Rattle.std.proofs.lemmas.List.{append-nil}
-use Rattle.auction_rules.specs.Terms.{Terms}
-use Rattle.auction_rules.specs.declared.Event.{Event}
+use Rattle.award_file.specs.auction_rules.specs.Terms.{Terms}
+use Rattle.award_file.specs.auction_rules.specs.declared.Event.{Event}
 use Rattle.std.specs.Prelude.{Option, Some, None, Result, Err, IfErr}
 use Rattle.log_file.specs.declared.LogStop.{LogStop}
 use Rattle.log_file.specs.declared.LogStop.TheVariants.{Memory}
 use Rattle.log_file.specs.LogForm.{States, StatesNone, ReadsAs}
 use Rattle.log_file.specs.LogReading.{AllState, AreLog, AreTooMany, BeginWith, IsFirstFault, IsStop}
-use Rattle.limits.specs.declared.TheConstants.{MOST_RECORDS}
+use Rattle.award_file.specs.limits.specs.declared.TheConstants.{MOST_RECORDS}
 
 abbrev pub Rows : Type 0
 Rows = List (List (List ℕ))

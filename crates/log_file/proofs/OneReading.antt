@@ -1,7 +1,7 @@
 -- Records have one reading.
 use Rattle.std.proofs.Common.{◌≡◌, ℕ, suc, ◌<◌, List, [], ◌∷◌, ◌++◌, length, refl, sym, ap, subst, ◌∙◌, arith, length-append}
-use Rattle.auction_rules.specs.Terms.{Terms}
-use Rattle.auction_rules.specs.declared.Event.{Event}
+use Rattle.award_file.specs.auction_rules.specs.Terms.{Terms}
+use Rattle.award_file.specs.auction_rules.specs.declared.Event.{Event}
 use Rattle.log_file.specs.LogForm.{States, StatesNone}
 use Rattle.log_file.specs.LogReading.{AllState, AreLog, AreTooMany, IsFirstFault}
 use Rattle.log_file.proofs.OneEvent.{one_event}

@@ -2,11 +2,11 @@
 use Rattle.std.specs.Prelude.{◌≡◌, ℕ, ◌≤◌, ◌^◌, Option, Some, None, List, [], ◌∷◌, ◌++◌, codes, length}
 use Rattle.std.specs.List.{AllByRecursion}
 use Rattle.std.specs.Fmt.{decimal}
-use Rattle.book_form.specs.BookForm.{IsName}
-use Rattle.text_lines.specs.Decimals.{decimals_text}
-use Rattle.auction_rules.specs.Terms.{Terms}
-use Rattle.auction_rules.specs.declared.Event.{Event}
-use Rattle.auction_rules.specs.declared.Event.TheVariants.{Bid, Draft, Drop, Submit, Close}
+use Rattle.award_file.specs.book_form.specs.BookForm.{IsName}
+use Rattle.award_file.specs.text_lines.specs.Decimals.{decimals_text}
+use Rattle.award_file.specs.auction_rules.specs.Terms.{Terms}
+use Rattle.award_file.specs.auction_rules.specs.declared.Event.{Event}
+use Rattle.award_file.specs.auction_rules.specs.declared.Event.TheVariants.{Bid, Draft, Drop, Submit, Close}
 use Rattle.award_file.specs.Award.{number_of}
 
 -- counts, with one space between each two

@@ -1,10 +1,10 @@
 -- What the bytes of a log state, and which is the first faulty record.
 use Rattle.std.specs.Prelude.{◌≡◌, ℕ, suc, ◌<◌, ◌≤◌, List, [], ◌∷◌, ◌++◌, length}
-use Rattle.limits.specs.declared.TheConstants.{MOST_RECORDS}
+use Rattle.award_file.specs.limits.specs.declared.TheConstants.{MOST_RECORDS}
 use Rattle.csv.specs.Reading.{records, default_config, strip_bom}
-use Rattle.limits.specs.declared.LimitKind.TheVariants.{Records}
-use Rattle.auction_rules.specs.Terms.{Terms}
-use Rattle.auction_rules.specs.declared.Event.{Event}
+use Rattle.award_file.specs.limits.specs.declared.LimitKind.TheVariants.{Records}
+use Rattle.award_file.specs.auction_rules.specs.Terms.{Terms}
+use Rattle.award_file.specs.auction_rules.specs.declared.Event.{Event}
 use Rattle.log_file.specs.declared.LogStop.{LogStop}
 use Rattle.log_file.specs.declared.LogStop.TheVariants.{Form, Limit, Memory}
 use Rattle.log_file.specs.LogForm.{States, StatesNone}

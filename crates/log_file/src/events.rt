@@ -1,7 +1,7 @@
 // Lists of events.
 ghost use Rattle.std.specs.Prelude.{◌≡◌, ◌∷◌, ◌++◌, [], OnOk, OnErr};
 
-use auction_rules::Event;
+use award_file::auction_rules::Event;
 use std::alloc::{AllocError, Global};
 use std::marker::Model;
 
@@ -13,7 +13,7 @@ pub struct Events {
 
 impl Model for Events {
     ghost use Rattle.std.specs.Prelude.{List};
-    ghost use Rattle.auction_rules.specs.declared.Event.{Event};
+    ghost use Rattle.award_file.specs.auction_rules.specs.declared.Event.{Event};
 
     ghost Value = { List Event };
 

@@ -1,17 +1,17 @@
 // The fields of a record.
 ghost use Rattle.std.specs.Prelude.{◌≡◌, ◌≢◌, ℕ, ◌+◌, ◌≤◌, ◌<◌, ◌^◌, ◌++◌, List, true, false, length, take, drop, IfOk, IfNone, IfSome};
-ghost use Rattle.limits.specs.declared.TheConstants.{MOST_CATEGORIES};
+ghost use Rattle.award_file.specs.limits.specs.declared.TheConstants.{MOST_CATEGORIES};
 ghost use Rattle.std.specs.Fmt.{decimal};
-ghost use Rattle.book_form.specs.BookForm.{IsName};
+ghost use Rattle.award_file.specs.book_form.specs.BookForm.{IsName};
 ghost use Rattle.log_file.specs.LogForm.{AreCounts, IsNameOf, counts_text};
 
 use arrayvec::ArrayVec;
 use award_file::Award;
-use bid_book::name_text;
-use limits::MOST_CATEGORIES;
-use lots::Package;
+use award_file::bid_book::name_text;
+use award_file::limits::MOST_CATEGORIES;
+use award_file::lots::Package;
+use award_file::text_lines::{field_len, read_at_most};
 use std::alloc::{AllocError, Global};
-use text_lines::{field_len, read_at_most};
 
 /// The greatest amount in a text, 10^18.
 const MOST_AMOUNT: u64 = 1_000_000_000_000_000_000;

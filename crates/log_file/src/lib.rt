@@ -11,10 +11,12 @@ mod read;
 mod record;
 mod reply;
 
-pub use auction_rules::{Event, Reply};
+pub use award_file;
+pub use award_file::auction_rules::{Event, Reply};
+pub use award_file::limits::LimitKind;
+pub use award_file::{auction_rules, bid_book, limits, wide_num};
 pub use events::Events;
 pub use laws::{one_reading, packages_of_log};
-pub use limits::LimitKind;
 pub use read::read_log;
 pub use reply::reply_line;
 use std::alloc::{AllocError, AllocFailed};

@@ -8,8 +8,8 @@ ghost use Rattle.log_file.specs.RecordsLeft.{HasLeft, Takes};
 use crate::record::read_event;
 use crate::{Events, LimitKind, LogStop};
 use award_file::Award;
+use award_file::limits::MOST_RECORDS;
 use csv::{ByteRecord, Error, ErrorKind, Reader, ReaderBuilder};
-use limits::MOST_RECORDS;
 use std::alloc::Global;
 
 /// Reads a log: records of comma-separated fields, each of which states an event by the names and the categories of the award.

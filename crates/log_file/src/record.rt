@@ -4,8 +4,8 @@ ghost use Rattle.csv.specs.Records.{field_at, fields_of};
 ghost use Rattle.log_file.specs.LogForm.{ReadsAs, four};
 
 use crate::fields::{read_amount, read_bidder, read_package};
-use auction_rules::Event;
 use award_file::Award;
+use award_file::auction_rules::Event;
 use csv::ByteRecord;
 use std::alloc::{AllocError, Global};
 

@@ -3,18 +3,18 @@ use Rattle.std.proofs.Common.{◌≡◌, ℕ, zero, suc, ◌+◌, ◌<◌, ◌�
 use Rattle.std.specs.Prelude.{Ok}
 use Rattle.std.specs.List.{AllByRecursion}
 use Rattle.std.proofs.lemmas.List.{length-reverse, length-take, reverse-append, take_all, take_more}
-use Rattle.auction_model.specs.Book.{Book}
-use Rattle.auction_rules.specs.BookOfLog.{book_of_log, is_complete}
-use Rattle.auction_rules.specs.Lawful.{HasCategories}
-use Rattle.auction_rules.specs.Replies.{is_closed}
-use Rattle.auction_rules.specs.State.{DeskState, state_of}
-use Rattle.auction_rules.specs.Terms.{Terms}
-use Rattle.auction_rules.specs.declared.Event.{Event}
-use Rattle.auction_rules.specs.declared.Reply.{Reply}
-use Rattle.auction_rules.specs.declared.Reply.TheVariants as reply
-use Rattle.auction_rules.specs.declared.Stage.TheVariants as stage
+use Rattle.log_file.specs.auction_model.specs.Book.{Book}
+use Rattle.log_file.specs.auction_rules.specs.BookOfLog.{book_of_log, is_complete}
+use Rattle.log_file.specs.auction_rules.specs.Lawful.{HasCategories}
+use Rattle.log_file.specs.auction_rules.specs.Replies.{is_closed}
+use Rattle.log_file.specs.auction_rules.specs.State.{DeskState, state_of}
+use Rattle.log_file.specs.auction_rules.specs.Terms.{Terms}
+use Rattle.log_file.specs.auction_rules.specs.declared.Event.{Event}
+use Rattle.log_file.specs.auction_rules.specs.declared.Reply.{Reply}
+use Rattle.log_file.specs.auction_rules.specs.declared.Reply.TheVariants as reply
+use Rattle.log_file.specs.auction_rules.specs.declared.Stage.TheVariants as stage
 use Rattle.bid_desk.specs.Reached.{StandsNext}
-use Rattle.clock_stage.proofs.ClockLaws.{terms-state_of}
+use Rattle.bid_desk.specs.clock_stage.proofs.ClockLaws.{terms-state_of}
 use Rattle.log_replay.specs.Course.{Answers, IsAnswered, IsCourse, TakesLine}
 use Rattle.log_replay.specs.ReplyLines.{book_or_open}
 use Rattle.log_replay.specs.declared.lines.Course.{Course}

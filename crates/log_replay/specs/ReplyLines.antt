@@ -1,18 +1,18 @@
 -- What a log is answered by, line for line, and where it leads. A log has its newest line first.
 use Rattle.std.specs.Prelude.{ℕ, suc, Option, Some, None, Result, Ok, Err, List, [], ◌∷◌, ◌++◌, length, if◌then◌else◌}
 use Rattle.std.specs.Option.{option_or}
-use Rattle.limits.specs.declared.TheConstants.{MOST_ROUNDS}
-use Rattle.auction_model.specs.Book.{Book}
-use Rattle.auction_rules.specs.BookOfLog.{book_of_log, is_complete}
-use Rattle.auction_rules.specs.Replies.{reply_to}
-use Rattle.auction_rules.specs.State.{DeskState, state_of}
-use Rattle.auction_rules.specs.Terms.{Terms}
-use Rattle.auction_rules.specs.declared.Event.{Event}
-use Rattle.auction_rules.specs.declared.Event.TheVariants.{Close}
-use Rattle.auction_rules.specs.declared.Reply.{Reply}
-use Rattle.auction_rules.specs.declared.Reply.TheVariants as reply
-use Rattle.auction_rules.specs.declared.Stage.{Stage}
-use Rattle.auction_rules.specs.declared.Stage.TheVariants as stage
+use Rattle.log_file.specs.limits.specs.declared.TheConstants.{MOST_ROUNDS}
+use Rattle.log_file.specs.auction_model.specs.Book.{Book}
+use Rattle.log_file.specs.auction_rules.specs.BookOfLog.{book_of_log, is_complete}
+use Rattle.log_file.specs.auction_rules.specs.Replies.{reply_to}
+use Rattle.log_file.specs.auction_rules.specs.State.{DeskState, state_of}
+use Rattle.log_file.specs.auction_rules.specs.Terms.{Terms}
+use Rattle.log_file.specs.auction_rules.specs.declared.Event.{Event}
+use Rattle.log_file.specs.auction_rules.specs.declared.Event.TheVariants.{Close}
+use Rattle.log_file.specs.auction_rules.specs.declared.Reply.{Reply}
+use Rattle.log_file.specs.auction_rules.specs.declared.Reply.TheVariants as reply
+use Rattle.log_file.specs.auction_rules.specs.declared.Stage.{Stage}
+use Rattle.log_file.specs.auction_rules.specs.declared.Stage.TheVariants as stage
 use Rattle.bid_desk.specs.DeskValue.{round_in}
 use Rattle.log_file.specs.ReplyText.{reply_line}
 use Rattle.log_file.specs.declared.CloseDone.{CloseDone}

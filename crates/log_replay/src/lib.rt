@@ -5,7 +5,8 @@ mod lines;
 mod replaying;
 mod results;
 
-pub use auction_rules::Event;
+pub use bid_desk;
 pub use log_file::Events;
+pub use log_file::auction_rules::Event;
 pub use replaying::replay;
 pub use results::{Replay, ReplayStop};

@@ -1,18 +1,18 @@
 // One line of a log after the other.
 ghost use Rattle.std.specs.Prelude.{◌≡◌, [], IfOk, OnOk};
 ghost use Rattle.std.specs.Option.{option_or};
-ghost use Rattle.auction_rules.specs.Lawful.{HasCategories};
+ghost use Rattle.log_file.specs.auction_rules.specs.Lawful.{HasCategories};
 ghost use Rattle.log_replay.specs.Course.{Answers, IsCourse, TakesLine};
 ghost use Rattle.log_replay.specs.ReplyLines.{done_by, done_in, line_of, refusal_of};
 
 use crate::ReplayStop;
-use auction_rules::{Event, Reply, Stage};
-use award_file::Award;
 use bid_desk::Desk;
-use limits::MOST_ROUNDS;
+use log_file::auction_rules::{Event, Reply, Stage};
+use log_file::award_file::Award;
+use log_file::limits::MOST_ROUNDS;
+use log_file::wide_num::Text;
 use log_file::{CloseDone, reply_line};
 use std::alloc::{AllocError, Global};
-use wide_num::Text;
 
 /// How far a replay is: the desk, the lines of the replies, and the first limit for which a close was refused.
 #[derive(Drop)]

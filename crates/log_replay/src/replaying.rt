@@ -1,19 +1,19 @@
 // The whole log, line by line.
 ghost use Rattle.std.specs.Prelude.{◌≡◌, List, IfOk, reverse};
 ghost use Rattle.std.specs.List.{AllByRecursion};
-ghost use Rattle.auction_rules.specs.Lawful.{HasCategories};
-ghost use Rattle.auction_rules.specs.State.{state_of};
-ghost use Rattle.auction_rules.specs.Terms.{Terms};
-ghost use Rattle.auction_rules.specs.declared.Event.{Event};
+ghost use Rattle.log_file.specs.auction_rules.specs.Lawful.{HasCategories};
+ghost use Rattle.log_file.specs.auction_rules.specs.State.{state_of};
+ghost use Rattle.log_file.specs.auction_rules.specs.Terms.{Terms};
+ghost use Rattle.log_file.specs.auction_rules.specs.declared.Event.{Event};
 ghost use Rattle.log_replay.specs.Course.{IsCourse};
 ghost use Rattle.log_replay.specs.ReplyLines.{book_or_open, end_of, reply_lines};
 
 use crate::lines::{Course, start, take_line};
 use crate::{Replay, ReplayStop};
-use award_file::Award;
-use bid_book::BidBook;
 use bid_desk::{Desk, Stage};
 use log_file::Events;
+use log_file::award_file::Award;
+use log_file::bid_book::BidBook;
 use std::alloc::{AllocError, Global};
 
 /// Replays a log of this award, whose packages have the award's number of categories.

@@ -9,7 +9,9 @@ mod package;
 mod places;
 mod supply;
 
+pub use auction_model;
 pub use counts::used_categories;
+pub use limits;
 pub use package::{Bid, Package};
 use std::alloc::AllocError;
 pub use supply::Supply;

@@ -2,10 +2,10 @@
 use Rattle.std.proofs.Common.{◌≡◌, ℕ, zero, suc, ◌<◌, ◌≤◌, arith, refl, sym, ap, ◌∙◌, List, [], length, subst}
 use Rattle.std.specs.Prelude.{ℤ, pos, ◌*ℤ◌, ◌-ℤ◌, ◌≤ℤ◌, ◌<ℤ◌}
 use Rattle.std.proofs.lemmas.Int.{ints}
-use Rattle.wide_num.specs.Sums.{dot}
+use Rattle.point_laws.specs.wide_num.specs.Sums.{dot}
 use Rattle.nearest_point.specs.Search.{Near, ByParts}
 use Rattle.nearest_point.specs.Numbers.{place, at_t, pairs_used, spread}
-use Rattle.wide_num.proofs.Sums.{total-zero, total-same}
+use Rattle.point_laws.specs.wide_num.proofs.Sums.{total-zero, total-same}
 use Rattle.point_laws.proofs.Order.{mul_nonneg}
 use Rattle.point_laws.specs.Points.{MeetsRows}
 use Rattle.point_laws.specs.Multipliers.{AreFirst, AreSecond, SumsTo}

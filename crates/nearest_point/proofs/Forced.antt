@@ -5,9 +5,9 @@ use Rattle.std.proofs.lemmas.Int.{ints, by_lt_z}
 use Rattle.std.proofs.Math.IntN.{*ℤ_comm}
 use Rattle.point_laws.proofs.Order.{mul_nonneg, mul_positive, square_nonneg, square_positive, zero_or}
 use Rattle.point_laws.proofs.Ring.{var, con, add, sub, mul, ring}
-use Rattle.wide_num.specs.Sums.{total, dot}
+use Rattle.point_laws.specs.wide_num.specs.Sums.{total, dot}
 use Rattle.nearest_point.specs.Search.{Solved, Taken}
-use Rattle.wide_num.proofs.Sums.{total-same, total-zero, total-scale}
+use Rattle.point_laws.specs.wide_num.proofs.Sums.{total-same, total-zero, total-scale}
 use Rattle.point_laws.proofs.Sums.{total-sub, total-nonneg, total-le, term-le, dual}
 use Rattle.point_laws.proofs.PointLaws.{gap_of, dot-gap, times_zero}
 

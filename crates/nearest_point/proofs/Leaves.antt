@@ -6,9 +6,9 @@ use Rattle.std.specs.Int.Bits.{bit_and}
 use Rattle.std.proofs.lemmas.Int.{ints, fits_signed_from_abs, to_z_pos, unsigned_abs-mul}
 use Rattle.std.proofs.lemmas.Nat.{mul-le}
 use Rattle.std.proofs.lemmas.Nat.Bits.{bit_at_and, bit_at-lt}
-use Rattle.far_num.specs.Members.{holds}
-use Rattle.wide_num.specs.Sums.{total, dot, nth}
-use Rattle.wide_num.proofs.Sums.{total-zero, total-add}
+use Rattle.lin_solve.specs.far_num.specs.Members.{holds}
+use Rattle.point_laws.specs.wide_num.specs.Sums.{total, dot, nth}
+use Rattle.point_laws.specs.wide_num.proofs.Sums.{total-zero, total-add}
 use Rattle.point_laws.proofs.Ring.{var, con, add, sub, mul, ring}
 use Rattle.point_laws.proofs.Sums.{term-le}
 use Rattle.nearest_point.specs.Problem.{AreTargets}

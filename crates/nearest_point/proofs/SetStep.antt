@@ -4,7 +4,7 @@ use Rattle.std.specs.Prelude.{ℤ, pos, ◌+ℤ◌, slice_set, slice_index_or}
 use Rattle.std.proofs.lemmas.Int.{ints}
 use Rattle.std.proofs.lemmas.List.{get_or-set_same, get_or-set_other, length-set}
 use Rattle.std.proofs.lemmas.Bool.Decides.{eqb_tells}
-use Rattle.wide_num.specs.Sums.{nth}
+use Rattle.point_laws.specs.wide_num.specs.Sums.{nth}
 use Rattle.nearest_point.specs.Numbers.{when, spread}
 use Rattle.nearest_point.proofs.Sizes.{total_more}
 

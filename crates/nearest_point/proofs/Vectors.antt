@@ -4,11 +4,11 @@ use Rattle.std.specs.Prelude.{ℤ, pos, ◌+ℤ◌, ◌*ℤ◌, ◌-ℤ◌, ◌�
 use Rattle.std.proofs.lemmas.Int.{ints}
 use Rattle.std.proofs.Math.IntN.{*ℤ_comm}
 use Rattle.point_laws.proofs.Order.{mul_nonneg, square_nonneg, zero_or}
-use Rattle.wide_num.proofs.Ints.{mul-zero_cases}
+use Rattle.point_laws.specs.wide_num.proofs.Ints.{mul-zero_cases}
 use Rattle.point_laws.proofs.Ring.{var, con, add, sub, mul, ring}
-use Rattle.wide_num.specs.Sums.{total, dot}
+use Rattle.point_laws.specs.wide_num.specs.Sums.{total, dot}
 use Rattle.nearest_point.specs.Search.{Independent, gram}
-use Rattle.wide_num.proofs.Sums.{total-same, total-zero, total-add, total-scale}
+use Rattle.point_laws.specs.wide_num.proofs.Sums.{total-same, total-zero, total-add, total-scale}
 use Rattle.point_laws.proofs.Sums.{total-sub, term-le, dual}
 use Rattle.nearest_point.proofs.Places.{lt_or}
 use Rattle.point_laws.proofs.PointLaws.{times_zero}

@@ -2,9 +2,9 @@
 use Rattle.std.proofs.Common.{◌≡◌, ℕ, zero, suc, ◌*◌, ◌^◌, ◌<◌, ◌≤◌, arith, refl, ap, ◌∙◌, List, [], length, slice_index_or, unsigned_abs}
 use Rattle.std.specs.Prelude.{ℤ, pos, negsuc, ◌*ℤ◌, ◌≤ℤ◌, ◌<ℤ◌}
 use Rattle.std.proofs.lemmas.Int.{ints}
-use Rattle.far_num.specs.Members.{holds}
-use Rattle.far_num.specs.declared.Row.{Row}
-use Rattle.wide_num.specs.Sums.{nth, dot, total}
+use Rattle.lin_solve.specs.far_num.specs.Members.{holds}
+use Rattle.lin_solve.specs.far_num.specs.declared.Row.{Row}
+use Rattle.point_laws.specs.wide_num.specs.Sums.{nth, dot, total}
 use Rattle.std.proofs.lemmas.Nat.{mul-le}
 use Rattle.point_laws.proofs.Order.{mul_nonneg}
 use Rattle.point_laws.proofs.Sums.{term-le}

@@ -1,12 +1,12 @@
 -- What the search holds: a point and its multipliers by parts, the rows that made it, and their sizes.
-use Rattle.far_num.specs.declared.Row.{Row}
+use Rattle.lin_solve.specs.far_num.specs.declared.Row.{Row}
 use Rattle.nearest_point.specs.Numbers.{AreBelow, at_t, large, place}
 use Rattle.nearest_point.specs.Problem.{AreOnes, bounds, coefficients, weight_at}
 use Rattle.nearest_point.specs.Search.{ByParts, Near, Owed, gram}
 use Rattle.nearest_point.specs.declared.settle.Held.{Held}
 use Rattle.nearest_point.specs.declared.settle.Multipliers.{Multipliers}
 use Rattle.std.specs.Prelude.{List, length, pos, ℕ, ℤ, ◌*ℤ◌, ◌+ℤ◌, ◌-ℤ◌, ◌<ℤ◌, ◌<◌, ◌^◌, ◌≡◌, ◌≤ℤ◌}
-use Rattle.wide_num.specs.Sums.{dot, nth, total}
+use Rattle.point_laws.specs.wide_num.specs.Sums.{dot, nth, total}
 
 -- each place is one of a row
 abbrev pub AreWithin : List ℕ → List Row → Type 0

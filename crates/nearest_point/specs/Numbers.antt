@@ -1,6 +1,6 @@
 -- Numbers by far and near parts, numbers listed by place, and their sizes.
 use Rattle.std.specs.Prelude.{Bool, List, if◌then◌else◌, length, nat_eq, pos, slice_index_or, suc, unsigned_abs, zero, ℕ, ℤ, ◌*ℤ◌, ◌*◌, ◌+ℤ◌, ◌+◌, ◌-◌, ◌<◌, ◌^◌}
-use Rattle.wide_num.specs.Sums.{nth, total}
+use Rattle.point_laws.specs.wide_num.specs.Sums.{nth, total}
 
 -- each number is below the limit in size
 abbrev pub AreBelow : ℕ → List ℤ → Type 0

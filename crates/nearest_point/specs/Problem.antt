@@ -1,9 +1,9 @@
 -- What the search for the nearest point is given: targets, weights, and rows as sets of bits with bounds.
 use Rattle.auction_model.specs.Prices.{AreWeights, share}
-use Rattle.far_num.specs.Members.{holds}
-use Rattle.far_num.specs.declared.Row.{Row}
+use Rattle.lin_solve.specs.far_num.specs.Members.{holds}
+use Rattle.lin_solve.specs.far_num.specs.declared.Row.{Row}
 use Rattle.std.specs.Prelude.{List, length, pos, slice_index_or, ℕ, ℤ, ◌<◌, ◌^◌, ◌≡◌, ◌≤ℤ◌, ◌≤◌, ◌⊎◌}
-use Rattle.wide_num.specs.Sums.{nth, total}
+use Rattle.point_laws.specs.wide_num.specs.Sums.{nth, total}
 
 -- the weight of a coordinate
 abbrev pub weight_at : List ℕ → ℕ → ℤ

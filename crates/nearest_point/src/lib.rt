@@ -12,11 +12,11 @@ ghost use Rattle.nearest_point.specs.Numbers.{AreBelow, pairs_used};
 ghost use Rattle.point_laws.specs.Multipliers.{AreFirst, AreSecond, SumsTo};
 ghost use Rattle.point_laws.specs.Points.{HasLeastSum, IsNearestTo, MeetsRows};
 ghost use Rattle.std.specs.Prelude.{IfOk, [], length, pos, ◌<ℤ◌, ◌^◌, ◌≡◌, ◌≤ℤ◌, ◌≤◌, ◌⊎◌};
-ghost use Rattle.wide_num.specs.Sums.{nth};
+ghost use Rattle.point_laws.specs.wide_num.specs.Sums.{nth};
 
-use far_num::Row;
+use lin_solve::far_num::Row;
+use point_laws::wide_num::NumList;
 use std::alloc::{AllocError, Global};
-use wide_num::NumList;
 
 mod found;
 mod members;
@@ -28,6 +28,8 @@ mod system;
 mod tests;
 
 pub use found::Nearest;
+pub use lin_solve;
+pub use point_laws::wide_num;
 use search::search_from;
 use settle::Held;
 use spread::spread_out;

@@ -3,7 +3,7 @@ ghost use Rattle.nearest_point.specs.Problem.{IsProblem};
 ghost use Rattle.std.specs.Prelude.{IfOk, [], length, ◌++◌, ◌+◌, ◌<◌, ◌∷◌, ◌≤◌};
 
 use crate::settle::{Held, is_violated, settle};
-use far_num::Row;
+use lin_solve::far_num::Row;
 use std::alloc::{AllocError, Global};
 
 /// The nearest point with equality in the forced rows that meets the rows from `from` on.

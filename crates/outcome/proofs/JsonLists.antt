@@ -6,12 +6,12 @@ use Rattle.serde_json.specs.Data.{Data, Members, member, object, string}
 use Rattle.serde_json.specs.Find.{is_float, of_integer}
 use Rattle.serde_json.specs.View.{items_of}
 use Rattle.serde_json.specs.Written.{has_float, items_have_float, members_have_float}
-use Rattle.auction_model.specs.Book.{Book, BookBid, bidder_of, bid_of, market_of}
-use Rattle.auction_model.specs.Market.{value_of}
-use Rattle.auction_model.specs.Prices.{Point}
-use Rattle.auction_model.specs.PricingRun.{Turn as BidderTurn}
-use Rattle.choices.specs.declared.chooser.Single.{Single}
-use Rattle.choices.specs.Singles.{winners_after}
+use Rattle.core_price.specs.auction_model.specs.Book.{Book, BookBid, bidder_of, bid_of, market_of}
+use Rattle.core_price.specs.auction_model.specs.Market.{value_of}
+use Rattle.core_price.specs.auction_model.specs.Prices.{Point}
+use Rattle.core_price.specs.auction_model.specs.PricingRun.{Turn as BidderTurn}
+use Rattle.cert_facts.specs.choices.specs.declared.chooser.Single.{Single}
+use Rattle.cert_facts.specs.choices.specs.Singles.{winners_after}
 use Rattle.core_price.specs.Turns.{turn_of, turns_of}
 use Rattle.core_price.specs.declared.priced.Turn.{Turn}
 use Rattle.print_form.specs.Json.{AreLastMembers, AreRounds, AreWinners, IsOutcome, IsRound, amount_json, count_json, winner_json}

@@ -5,7 +5,7 @@ use Rattle.std.proofs.lemmas.Int.{to_z-of_z, to_z_pos}
 use Rattle.std.proofs.lemmas.Nat.Gcd.{le_of_dvd}
 use Rattle.std.proofs.Math.Nat.{div-add-mod, mod-lt, dvd-mul_right, mul-div_cancel'}
 use Rattle.std.proofs.Math.IntN.{*ℤ_comm}
-use Rattle.wide_num.proofs.Ints.{lin, mul-add, mul_assoc}
+use Rattle.core_price.specs.wide_num.proofs.Ints.{lin, mul-add, mul_assoc}
 use Rattle.print_form.specs.Fractions.{IsFraction}
 
 some-divisor : (g d b : ℕ) → 0 < d → d ≡ g * b → (0 < g) × (0 < b)

@@ -10,12 +10,12 @@ use Rattle.std.proofs.Math.Seq.{take-append_seam}
 use Rattle.std.proofs.lemmas.Bool.{and_from, and_parts, ltb-true, lt-ltb}
 use Rattle.std.proofs.lemmas.List.Elements.{All-from_recursion}
 use Rattle.std.proofs.lemmas.Str.Ascii.{IsAscii-from_all}
-use Rattle.auction_model.specs.Prices.{Point}
-use Rattle.auction_model.specs.PricingRun.{Block, Turn}
-use Rattle.text_lines.specs.Decimals.{decimals_text}
+use Rattle.core_price.specs.auction_model.specs.Prices.{Point}
+use Rattle.core_price.specs.auction_model.specs.PricingRun.{Block, Turn}
+use Rattle.print_form.specs.text_lines.specs.Decimals.{decimals_text}
 use Rattle.print_form.specs.Fractions.{IsFractionText, parts_text}
 use Rattle.print_form.specs.Turns.{ArePoints, IsTurnEnd, IsTurnLine}
-use Rattle.row_laws.specs.Winners.{members_of}
+use Rattle.print_form.specs.row_laws.specs.Winners.{members_of}
 use Rattle.outcome.specs.Json.{EndsLine}
 
 -- whether all bytes are plain

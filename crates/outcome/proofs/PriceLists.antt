@@ -3,14 +3,14 @@ use Rattle.std.proofs.Common.{◌≡◌, ℕ, zero, suc, ◌+◌, ◌-◌, ◌<�
 use Rattle.std.proofs.lemmas.Int.{ints}
 use Rattle.std.proofs.lemmas.List.{take_more, take_all}
 use Rattle.std.specs.List.{AllByRecursion}
-use Rattle.auction_model.specs.Book.{Book, bidder_of, bids_of, bid_of, menu_of}
-use Rattle.auction_model.specs.Package.{cost_of}
-use Rattle.auction_model.specs.Market.{number_of, sum_after}
-use Rattle.auction_model.specs.Menu.{is_known_after}
-use Rattle.auction_model.specs.Prices.{Point}
+use Rattle.core_price.specs.auction_model.specs.Book.{Book, bidder_of, bids_of, bid_of, menu_of}
+use Rattle.core_price.specs.auction_model.specs.Package.{cost_of}
+use Rattle.core_price.specs.auction_model.specs.Market.{number_of, sum_after}
+use Rattle.core_price.specs.auction_model.specs.Menu.{is_known_after}
+use Rattle.core_price.specs.auction_model.specs.Prices.{Point}
 use Rattle.cert_facts.proofs.Winners.{Wins}
-use Rattle.choices.specs.declared.chooser.Single.{Single}
-use Rattle.choices.specs.Singles.{winners_after}
+use Rattle.cert_facts.specs.choices.specs.declared.chooser.Single.{Single}
+use Rattle.cert_facts.specs.choices.specs.Singles.{winners_after}
 use Rattle.print_form.specs.Fractions.{IsFractionText}
 use Rattle.print_form.specs.Prices.{reserve_of, gross_of, priced_line, ArePricedLines}
 use Rattle.outcome.specs.declared.prices.WinnerPrice.{WinnerPrice}

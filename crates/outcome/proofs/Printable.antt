@@ -3,24 +3,24 @@ use Rattle.std.proofs.Common.{◌≡◌, ℕ, zero, suc, ◌-◌, ◌<◌, ◌�
 use Rattle.std.proofs.Math.IntN.{*ℤ-zero}
 use Rattle.std.proofs.lemmas.Int.{ints}
 use Rattle.std.proofs.lemmas.Bool.{eqb-true}
-use Rattle.auction_model.specs.Book.{Book, net_of, menu_of, market_of}
-use Rattle.auction_model.specs.Lowered.{of_bidder}
-use Rattle.auction_model.specs.Market.{number_of, uses, value_of}
-use Rattle.auction_model.specs.Menu.{is_known_after}
-use Rattle.auction_model.specs.Prices.{Point}
-use Rattle.bid_book.specs.Kept.{IsBidBook}
+use Rattle.core_price.specs.auction_model.specs.Book.{Book, net_of, menu_of, market_of}
+use Rattle.core_price.specs.auction_model.specs.Lowered.{of_bidder}
+use Rattle.core_price.specs.auction_model.specs.Market.{number_of, uses, value_of}
+use Rattle.core_price.specs.auction_model.specs.Menu.{is_known_after}
+use Rattle.core_price.specs.auction_model.specs.Prices.{Point}
+use Rattle.cert_facts.specs.bid_book.specs.Kept.{IsBidBook}
 use Rattle.cert_facts.specs.declared.shown.CertFacts.{CertFacts}
 use Rattle.cert_facts.specs.Facts.{AreFacts, HasFacts}
 use Rattle.cert_facts.proofs.FactLaws.{prices-are, prices-small, winners-are}
 use Rattle.cert_facts.proofs.Known.{choice-known, value-is}
-use Rattle.cert_form.specs.Certificate.{CertValue}
-use Rattle.cert_laws.specs.Sound.{cert_point, cert_prices}
-use Rattle.cert_laws.specs.Tests.{C5, won}
+use Rattle.cert_facts.specs.cert_form.specs.Certificate.{CertValue}
+use Rattle.cert_facts.specs.cert_laws.specs.Sound.{cert_point, cert_prices}
+use Rattle.cert_facts.specs.cert_laws.specs.Tests.{C5, won}
 use Rattle.outcome.specs.Printable.{HavePrices, IsPrintable, point_of}
-use Rattle.row_laws.proofs.Sums.{choice-is}
-use Rattle.wide_num.specs.Range.{InRange}
-use Rattle.wide_num.specs.Sums.{nth, total}
-use Rattle.wide_num.proofs.Ints.{lin, mul-add, *ℤ-one}
+use Rattle.print_form.specs.row_laws.proofs.Sums.{choice-is}
+use Rattle.core_price.specs.wide_num.specs.Range.{InRange}
+use Rattle.core_price.specs.wide_num.specs.Sums.{nth, total}
+use Rattle.core_price.specs.wide_num.proofs.Ints.{lin, mul-add, *ℤ-one}
 
 no-number : (n : ℕ) → not (n == 0) ≡ false → n ≡ 0
 no-number n h = elim (n == 0) as (λ (b : Bool). (n == 0) ≡ b → not b ≡ false → n ≡ 0) [ true ↦ λ e q. eqb-true n 0 e | false ↦ λ e q. absurd (lie q) ] refl h

@@ -2,13 +2,13 @@
 use Rattle.std.proofs.Common.{◌≡◌, ℕ, zero, suc, ◌+◌, ◌-◌, ◌<◌, ◌≤◌, List, [], ◌∷◌, ◌++◌, append_assoc, codes, length, get_or, drop, ℤ, pos, refl, sym, ap, subst, ◌∙◌, arith}
 use Rattle.std.specs.Fmt.{decimal}
 use Rattle.std.proofs.lemmas.List.{append-nil, drop_more}
-use Rattle.auction_model.specs.Lowered.{of_bidder}
-use Rattle.auction_model.specs.Prices.{Point}
+use Rattle.core_price.specs.auction_model.specs.Lowered.{of_bidder}
+use Rattle.core_price.specs.auction_model.specs.Prices.{Point}
 use Rattle.core_price.specs.declared.priced.Turn.{Turn}
 use Rattle.core_price.specs.Turns.{point_of, turn_of, turns_of}
 use Rattle.print_form.specs.Fractions.{IsFractionText}
 use Rattle.print_form.specs.Turns.{ArePoints, IsTurnEnd, IsTurnLine, AreTurnLines}
-use Rattle.row_laws.specs.Winners.{winners_in, for_bidders}
+use Rattle.print_form.specs.row_laws.specs.Winners.{winners_in, for_bidders}
 use Rattle.outcome.specs.Turns.{Grows, AreFractions}
 
 -- behind its end nothing is left of a list

@@ -3,17 +3,17 @@ use Rattle.std.proofs.Common.{◌≡◌, ℕ, zero, suc, ◌+◌, ◌-◌, ◌<�
 use Rattle.std.specs.Int.{w128}
 use Rattle.std.specs.List.{AllByRecursion}
 use Rattle.std.proofs.lemmas.Int.{ints, to_z_pos}
-use Rattle.auction_model.specs.Book.{Book, bids_of, menu_of}
-use Rattle.auction_model.specs.Lowered.{of_bidder}
-use Rattle.auction_model.specs.Market.{number_of, uses}
-use Rattle.auction_model.specs.Menu.{is_known_after}
-use Rattle.auction_model.proofs.ChoiceLaws.{known-length, known-of}
-use Rattle.bid_book.proofs.Within.{each_at}
+use Rattle.core_price.specs.auction_model.specs.Book.{Book, bids_of, menu_of}
+use Rattle.core_price.specs.auction_model.specs.Lowered.{of_bidder}
+use Rattle.core_price.specs.auction_model.specs.Market.{number_of, uses}
+use Rattle.core_price.specs.auction_model.specs.Menu.{is_known_after}
+use Rattle.core_price.specs.auction_model.proofs.ChoiceLaws.{known-length, known-of}
+use Rattle.cert_facts.specs.bid_book.proofs.Within.{each_at}
 use Rattle.cert_facts.specs.declared.shown.CertFacts.{CertFacts}
 use Rattle.cert_facts.proofs.Winners.{Wins, all-win, each-of_map}
-use Rattle.choices.specs.declared.chooser.Single.{Single}
-use Rattle.choices.specs.Singles.{winners_after}
-use Rattle.limits.specs.declared.TheConstants.{MOST_AMOUNT}
+use Rattle.cert_facts.specs.choices.specs.declared.chooser.Single.{Single}
+use Rattle.cert_facts.specs.choices.specs.Singles.{winners_after}
+use Rattle.print_form.specs.limits.specs.declared.TheConstants.{MOST_AMOUNT}
 use Rattle.print_form.specs.Prices.{reserve_of}
 use Rattle.outcome.specs.declared.prices.WinnerPrice.{WinnerPrice}
 use Rattle.outcome.specs.Fractions.{IsFractionOf}

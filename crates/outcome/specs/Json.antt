@@ -2,7 +2,7 @@
 use Rattle.std.specs.Prelude.{◌≡◌, ℕ, List, ◌++◌, codes}
 use Rattle.std.specs.Str.{IsAscii}
 use Rattle.serde_json.specs.Data.{Data}
-use Rattle.auction_model.specs.Book.{Book, bidder_of, bid_of}
+use Rattle.core_price.specs.auction_model.specs.Book.{Book, bidder_of, bid_of}
 use Rattle.print_form.specs.Json.{winner_json}
 use Rattle.outcome.specs.declared.prices.WinnerPrice.{WinnerPrice}
 use Rattle.outcome.specs.Fractions.{fraction_text}

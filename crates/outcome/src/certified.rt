@@ -1,9 +1,9 @@
 // The text of the outcome that a certificate shows.
 ghost use Rattle.std.specs.Prelude.{ℕ, ℤ, IfOk};
 ghost use Rattle.cert_facts.specs.Facts.{AreFacts};
-ghost use Rattle.cert_form.specs.Certificate.{CertValue};
-ghost use Rattle.cert_laws.specs.Sound.{cert_point, cert_prices};
-ghost use Rattle.cert_laws.specs.Tests.{bidders_of};
+ghost use Rattle.cert_facts.specs.cert_form.specs.Certificate.{CertValue};
+ghost use Rattle.cert_facts.specs.cert_laws.specs.Sound.{cert_point, cert_prices};
+ghost use Rattle.cert_facts.specs.cert_laws.specs.Tests.{bidders_of};
 ghost use Rattle.outcome.specs.Fractions.{IsFractionOf};
 ghost use Rattle.outcome.specs.Prices.{AreWinnerPrices};
 ghost use Rattle.outcome.specs.Printable.{HavePrices, IsPrintable, point_of};
@@ -12,10 +12,10 @@ ghost use Rattle.print_form.specs.Prices.{IsPriceText, revenue_of};
 use crate::lines::{add_prices, add_revenue, revenue};
 use crate::prices::{WinnerPrice, winner_prices};
 use crate::{Fraction, add_net};
-use bid_book::BidBook;
 use cert_facts::CertFacts;
+use cert_facts::bid_book::BidBook;
+use core_price::wide_num::Text;
 use std::alloc::{AllocError, Global};
-use wide_num::Text;
 
 /// The text of the outcome that a certificate of a book shows, from its facts: a line for each winner in order, with its bid, its
 /// Vickrey price and what it pays, then the net value, then the revenue. What is printed is gross.

@@ -1,11 +1,11 @@
 // Fractions as they are printed.
 ghost use Rattle.std.specs.Prelude.{◌≡◌, ℤ, ◌+◌, ◌<◌, ◌^◌, ◌++◌, ◌+ℤ◌, ◌*ℤ◌, ◌≤ℤ◌, pos, OnOk};
-ghost use Rattle.wide_num.specs.Range.{InRange};
+ghost use Rattle.core_price.specs.wide_num.specs.Range.{InRange};
 ghost use Rattle.outcome.specs.Fractions.{IsFractionOf, fraction_text};
 
+use core_price::wide_num::{Text, gcd};
+use print_form::text_lines::add_decimal;
 use std::alloc::AllocError;
-use text_lines::add_decimal;
-use wide_num::{Text, gcd};
 
 /// A fraction that isn't negative: its whole part, and a rest over its least denominator.
 #[derive(Clone, Copy, Debug, Drop, PartialEq, Eq)]

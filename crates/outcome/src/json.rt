@@ -3,8 +3,8 @@ ghost use Rattle.std.specs.Prelude.{◌≡◌, ℕ, ◌<◌, ◌^◌, ◌++◌, 
 ghost use Rattle.std.specs.List.{AllByRecursion};
 ghost use Rattle.std.specs.Option.{option_map};
 ghost use Rattle.cert_facts.specs.Facts.{AreFacts};
-ghost use Rattle.cert_form.specs.Certificate.{CertValue};
-ghost use Rattle.cert_laws.specs.Sound.{cert_point, cert_prices};
+ghost use Rattle.cert_facts.specs.cert_form.specs.Certificate.{CertValue};
+ghost use Rattle.cert_facts.specs.cert_laws.specs.Sound.{cert_point, cert_prices};
 ghost use Rattle.core_price.specs.Turns.{turns_of};
 ghost use Rattle.print_form.specs.Json.{AreLastMembers, IsOutcome, IsOutcomeJson};
 ghost use Rattle.serde_json.specs.Data.{Data, Members, array, member, no_members, object};
@@ -16,13 +16,13 @@ ghost use Rattle.outcome.specs.Turns.{CanPrintTurn};
 use crate::certified::paid_in_all;
 use crate::json_values::{amount_value, fraction_value, round_values, winner_values};
 use crate::prices::winner_prices;
-use bid_book::BidBook;
 use cert_facts::CertFacts;
-use choices::Choice;
+use cert_facts::bid_book::BidBook;
+use cert_facts::choices::Choice;
 use core_price::Turn;
+use core_price::wide_num::Text;
 use serde_json::{Value, json};
 use std::alloc::{AllocError, Global};
-use wide_num::Text;
 
 /// The JSON of the outcome that a certificate of a book shows, from its facts: one object on one line, with a line feed. Its keys are
 /// `net`, `revenue`, `rounds` where turns are given, with the line of each turn, and `winners`, and those of a winner `bid`, `name`,

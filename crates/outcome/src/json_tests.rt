@@ -3,9 +3,9 @@ ghost use Rattle.std.specs.Prelude.{◌≡◌, pos, IfOk, [], ◌∷◌};
 
 use crate::json::json_line;
 use crate::tests::{choice_of, list_of, one_winner};
-use bid_book::read_book;
+use cert_facts::bid_book::read_book;
+use cert_facts::choices::{Single, known, value};
 use cert_facts::{CertFacts, Singles};
-use choices::{Single, known, value};
 use core_price::Turn;
 use std::alloc::{AllocError, Global};
 use std::test::Fail;

@@ -15,12 +15,12 @@ ghost use Rattle.outcome.specs.Turns.{CanPrintTurn};
 use crate::prices::WinnerPrice;
 use crate::turns::add_turn;
 use crate::{Fraction, add_fraction};
-use bid_book::BidBook;
-use choices::Choice;
+use cert_facts::bid_book::BidBook;
+use cert_facts::choices::Choice;
 use core_price::Turn;
+use core_price::wide_num::Text;
 use serde_json::{Value, json};
 use std::alloc::{AllocError, Global};
-use wide_num::Text;
 
 /// An amount as a number.
 pub(crate) fn amount_value(amount: i128) -> Value

@@ -14,9 +14,13 @@ mod turns;
 mod win;
 
 pub use certified::outcome_text;
+pub use core_price;
+pub use core_price::{blocking, wide_num};
 pub use fraction::{Fraction, add_fraction};
 pub use json::outcome_json;
 pub use numbers::{add_net, add_numbers};
+pub use print_form;
+pub use print_form::text_lines;
 pub use turns::rounds_text;
 pub use win::win_text;
 

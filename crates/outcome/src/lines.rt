@@ -1,17 +1,17 @@
 // The lines of the winners, and the revenue.
 ghost use Rattle.std.specs.Prelude.{◌≡◌, ℕ, ◌≤◌, ◌<◌, ◌^◌, ◌++◌, ◌+ℤ◌, ◌*ℤ◌, ◌<ℤ◌, ◌≤ℤ◌, pos, length, codes, OnOk};
 ghost use Rattle.std.specs.List.{AllByRecursion};
-ghost use Rattle.wide_num.specs.Sums.{nth, total};
-ghost use Rattle.wide_num.specs.Range.{InRange};
+ghost use Rattle.core_price.specs.wide_num.specs.Sums.{nth, total};
+ghost use Rattle.core_price.specs.wide_num.specs.Range.{InRange};
 ghost use Rattle.outcome.specs.Fractions.{IsFractionOf, fraction_text};
 ghost use Rattle.outcome.specs.Prices.{line_of, lines_of, reserves_of, CanPrintPrice};
 
 use crate::prices::WinnerPrice;
 use crate::{Fraction, add_fraction, add_numbers};
-use bid_book::BidBook;
+use cert_facts::bid_book::BidBook;
+use core_price::wide_num::Text;
+use print_form::text_lines::{add_decimal, add_signed};
 use std::alloc::AllocError;
-use text_lines::{add_decimal, add_signed};
-use wide_num::Text;
 
 /// Adds the line of each winner.
 pub(crate) fn add_prices(

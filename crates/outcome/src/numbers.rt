@@ -1,11 +1,11 @@
 // Numbers in a text.
 ghost use Rattle.std.specs.Prelude.{◌≡◌, ◌++◌, OnOk};
-ghost use Rattle.text_lines.specs.Decimals.{decimals_text};
+ghost use Rattle.print_form.specs.text_lines.specs.Decimals.{decimals_text};
 ghost use Rattle.print_form.specs.WinText.{net_line};
 
+use core_price::wide_num::Text;
+use print_form::text_lines::{add_number, add_signed};
 use std::alloc::AllocError;
-use text_lines::{add_number, add_signed};
-use wide_num::Text;
 
 /// Adds numbers, each behind one space. The only error is want of memory.
 pub fn add_numbers(text: &mut Text, numbers: &[u16]) -> Result<(), AllocError>

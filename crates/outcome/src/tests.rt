@@ -1,18 +1,18 @@
 // Fractions, the lines of turns and the outcome of facts, worked by hand.
 ghost use Rattle.std.specs.Prelude.{◌≡◌, ◌≤ℤ◌, pos, IfOk, [], ◌∷◌};
-ghost use Rattle.wide_num.specs.Range.{InRange};
+ghost use Rattle.core_price.specs.wide_num.specs.Range.{InRange};
 
 use crate::certified::printed;
 use crate::{Fraction, add_fraction, rounds_text};
-use bid_book::read_book;
-use blocking::Block;
+use cert_facts::bid_book::read_book;
+use cert_facts::choices::{Choice, Numbers, Single, known, value};
 use cert_facts::{CertFacts, Singles};
-use choices::{Choice, Numbers, Single, known, value};
 use core_price::Turn;
-use far_num::Row;
+use core_price::blocking::Block;
+use core_price::wide_num::{NumList, Text};
+use print_form::far_num::Row;
 use std::alloc::{AllocError, Global};
 use std::test::Fail;
-use wide_num::{NumList, Text};
 
 pub fn choice_of(alloc: Global, numbers: &[u16]) -> Result<Choice, AllocError>
     ensures { IfOk result (λ choice. choice ≡ numbers.now) }

@@ -2,20 +2,20 @@
 ghost use Rattle.std.specs.Prelude.{ℕ, ◌<◌, ◌^◌, ◌≤ℤ◌, pos, length, IfOk, OnOk};
 ghost use Rattle.std.specs.List.{AllByRecursion};
 ghost use Rattle.std.specs.declared.option.Option.TheVariants.{Some};
-ghost use Rattle.blocking.specs.Look.{block_of};
+ghost use Rattle.core_price.specs.blocking.specs.Look.{block_of};
 ghost use Rattle.core_price.specs.Turns.{turn_of, turns_of};
 ghost use Rattle.print_form.specs.Turns.{AreTurnLines, IsTurnEnd, IsTurnLine};
-ghost use Rattle.wide_num.specs.Range.{InRange};
-ghost use Rattle.wide_num.specs.Sums.{nth};
+ghost use Rattle.core_price.specs.wide_num.specs.Range.{InRange};
+ghost use Rattle.core_price.specs.wide_num.specs.Sums.{nth};
 ghost use Rattle.outcome.specs.Turns.{AreFractions, CanPrintTurn, Grows};
 
 use crate::{Fraction, add_fraction, add_numbers};
-use blocking::Block;
-use choices::Choice;
+use cert_facts::choices::Choice;
+use core_price::blocking::Block;
+use core_price::wide_num::Text;
 use core_price::{Turn, members_of};
+use print_form::text_lines::add_number;
 use std::alloc::{AllocError, Global};
-use text_lines::add_number;
-use wide_num::Text;
 
 /// The lines of the turns of a pricing run: for each its point, and what blocks it.
 ///

@@ -1,17 +1,17 @@
 // The text of a winning choice.
 ghost use Rattle.std.specs.Prelude.{◌≡◌, ◌∷◌, ◌++◌, IfOk, OnOk, IsTrue};
-ghost use Rattle.auction_model.specs.Menu.{is_known_after};
-ghost use Rattle.auction_model.specs.Book.{menu_of};
+ghost use Rattle.core_price.specs.auction_model.specs.Menu.{is_known_after};
+ghost use Rattle.core_price.specs.auction_model.specs.Book.{menu_of};
 ghost use Rattle.print_form.specs.WinText;
 ghost use Rattle.print_form.specs.WinText.{winner_line, winner_lines};
 
 use crate::{add_net, add_numbers};
-use bid_book::BidBook;
-use choices::{Choice, value};
-use lots::Bid;
+use cert_facts::bid_book::BidBook;
+use cert_facts::choices::{Choice, value};
+use cert_facts::lots::Bid;
+use core_price::wide_num::Text;
+use print_form::text_lines::add_number;
 use std::alloc::{AllocError, Global};
-use text_lines::add_number;
-use wide_num::Text;
 
 /// The lines of the winners of a choice, in order, and the line of their net value. The book knows the choice. The only error is
 /// want of memory.

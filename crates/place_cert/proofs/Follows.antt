@@ -1,13 +1,13 @@
 -- The lines of a placement certificate follow the plan.
 use Rattle.std.proofs.Common.{ℕ, suc, zero, ◌<◌, ◌^◌, List, [], ◌∷◌, ◌++◌, length, refl, ap, arith}
 use Rattle.std.specs.Prelude.{ℤ, pos, codes}
-use Rattle.cert_form.specs.Certificate.{WithoutValue, RowValue}
-use Rattle.cert_form.specs.Plan.{Follows}
-use Rattle.cert_form.specs.Lines.{Line, Kind, kind, these, signed, ordered_count, Fits, after, set_table_plan, ordered_part_plan, ordered_parts_plan, ordered_rows_plan, IsPlacesText}
-use Rattle.cert_form.specs.CertText.{line, as_numbers, choice_line, table_lines}
-use Rattle.cert_form.proofs.PlanReads.{follows_both}
-use Rattle.cert_form.proofs.Written.{long_numbers, choice_fits, table_follows, rise, some_member}
-use Rattle.cert_form.specs.PlaceCert.{PlaceCertValue}
+use Rattle.cert_text.specs.cert_form.specs.Certificate.{WithoutValue, RowValue}
+use Rattle.cert_text.specs.cert_form.specs.Plan.{Follows}
+use Rattle.cert_text.specs.cert_form.specs.Lines.{Line, Kind, kind, these, signed, ordered_count, Fits, after, set_table_plan, ordered_part_plan, ordered_parts_plan, ordered_rows_plan, IsPlacesText}
+use Rattle.cert_text.specs.cert_form.specs.CertText.{line, as_numbers, choice_line, table_lines}
+use Rattle.cert_text.specs.cert_form.proofs.PlanReads.{follows_both}
+use Rattle.cert_text.specs.cert_form.proofs.Written.{long_numbers, choice_fits, table_follows, rise, some_member}
+use Rattle.cert_text.specs.cert_form.specs.PlaceCert.{PlaceCertValue}
 use Rattle.place_cert.specs.PlaceText.{HasSets, IsPlaceCertificate, AreOrderedRows, AreOrderedWithouts, order_line, ordered_part_lines, ordered_row_lines, place_lines}
 
 -- the lines of a table over sets

@@ -1,11 +1,11 @@
 -- Two placement certificates for as many bidders with the same lines are the same.
 use Rattle.std.proofs.Common.{◌≡◌, ℕ, suc, zero, ◌*◌, List, [], ◌∷◌, ◌++◌, length, refl, sym, ap, subst, ◌∙◌, arith, length-append}
 use Rattle.std.specs.Prelude.{ℤ, pos, codes}
-use Rattle.cert_form.specs.Certificate.{CertValue, WithoutValue, RowValue}
-use Rattle.cert_form.specs.Lines.{Line}
-use Rattle.cert_form.specs.CertText.{line, as_numbers, choice_line, table_lines}
-use Rattle.cert_form.proofs.OneCertificate.{cut, numbers_same, numbers_of, table_same, table_long, same_cert, same_row, same_without}
-use Rattle.cert_form.specs.PlaceCert.{PlaceCertValue}
+use Rattle.cert_text.specs.cert_form.specs.Certificate.{CertValue, WithoutValue, RowValue}
+use Rattle.cert_text.specs.cert_form.specs.Lines.{Line}
+use Rattle.cert_text.specs.cert_form.specs.CertText.{line, as_numbers, choice_line, table_lines}
+use Rattle.cert_text.specs.cert_form.proofs.OneCertificate.{cut, numbers_same, numbers_of, table_same, table_long, same_cert, same_row, same_without}
+use Rattle.cert_text.specs.cert_form.specs.PlaceCert.{PlaceCertValue}
 use Rattle.place_cert.specs.PlaceText.{IsPlaceCertificate, AreOrderedRows, AreOrderedWithouts, order_line, ordered_part_lines, ordered_row_lines, place_lines}
 
 -- parts and their orders are the same

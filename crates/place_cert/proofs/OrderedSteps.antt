@@ -1,8 +1,8 @@
 -- An order and a choice, and what comes behind a choice of the head.
 use Rattle.std.specs.Prelude.{◌≡◌, ℕ, List, [], ◌∷◌, ◌++◌, codes, length, pos, ℤ}
 use Rattle.std.proofs.Common.{sym, subst}
-use Rattle.cert_form.specs.Lines.{Line, Kind, kind, these, signed, chosen, counted, ordered_head, ordered_count, set_table_plan, ordered_parts_plan, ordered_rows_plan, after_numbers}
-use Rattle.cert_form.specs.CertText.{line, as_numbers, choice_line, table_lines}
+use Rattle.cert_text.specs.cert_form.specs.Lines.{Line, Kind, kind, these, signed, chosen, counted, ordered_head, ordered_count, set_table_plan, ordered_parts_plan, ordered_rows_plan, after_numbers}
+use Rattle.cert_text.specs.cert_form.specs.CertText.{line, as_numbers, choice_line, table_lines}
 use Rattle.cert_text.specs.Readers.{AreChosen, AreLike, Leads, Halts, LeadsChosen, HaltsChosen, LeadsCounted, HaltsCounted, LeadsLike, HaltsLike}
 use Rattle.cert_text.specs.declared.stop.CertStop.{CertStop}
 use Rattle.cert_text.proofs.PlanSteps.{leads_on, leads_before, leads_then, halts_before, halts_later, halts_then, same_kind}

@@ -2,8 +2,8 @@
 use Rattle.std.proofs.Common.{◌≡◌, ℕ, suc, zero, ◌+◌, ◌≤◌, ◌<◌, List, [], ◌∷◌, ◌++◌, length, get_or, drop, refl, sym, ap, subst, ◌∙◌, arith, append_assoc}
 use Rattle.std.specs.Prelude.{pos}
 use Rattle.std.proofs.lemmas.List.{append-nil, drop_more}
-use Rattle.cert_form.specs.Lines.{Line, Kind, ordered_part_plan, ordered_parts_plan, unless_zero}
-use Rattle.cert_form.specs.CertText.{as_numbers}
+use Rattle.cert_text.specs.cert_form.specs.Lines.{Line, Kind, ordered_part_plan, ordered_parts_plan, unless_zero}
+use Rattle.cert_text.specs.cert_form.specs.CertText.{as_numbers}
 use Rattle.cert_text.specs.Readers.{Leads, Halts}
 use Rattle.cert_text.specs.declared.stop.CertStop.{CertStop}
 use Rattle.cert_text.proofs.PlanSteps.{leads_none, leads_on, leads_before, halts_before, halts_later}

@@ -1,7 +1,7 @@
 -- The rows of a placement certificate, one by one.
 use Rattle.std.proofs.Common.{◌≡◌, ℕ, suc, ◌+◌, ◌-◌, ◌≤◌, ◌<◌, List, [], ◌∷◌, ◌++◌, length, refl, sym, ap, subst, ◌∙◌, arith, length-append}
-use Rattle.cert_form.specs.Lines.{Line, Kind, ordered_rows_plan}
-use Rattle.cert_form.specs.CertText.{IsChoice, IsRow}
+use Rattle.cert_text.specs.cert_form.specs.Lines.{Line, Kind, ordered_rows_plan}
+use Rattle.cert_text.specs.cert_form.specs.CertText.{IsChoice, IsRow}
 use Rattle.cert_text.specs.Readers.{Leads, Halts}
 use Rattle.cert_text.specs.declared.stop.CertStop.{CertStop}
 use Rattle.cert_text.proofs.PlanSteps.{leads_none, leads_on, leads_before, halts_before, halts_later}

@@ -1,9 +1,9 @@
 -- What bytes say of a placement certificate is one thing, and its text states it.
 use Rattle.std.proofs.Common.{◌≡◌, ℕ, ◌<◌, ◌^◌, List, ap}
-use Rattle.line_text.specs.LineText.{Said, stated, faulty, beyond}
-use Rattle.cert_form.specs.Lines.{Line}
-use Rattle.cert_form.proofs.CertReads.{one_places}
-use Rattle.cert_form.specs.PlaceCert.{PlaceCertValue}
+use Rattle.cert_text.specs.line_text.specs.LineText.{Said, stated, faulty, beyond}
+use Rattle.cert_text.specs.cert_form.specs.Lines.{Line}
+use Rattle.cert_text.specs.cert_form.proofs.CertReads.{one_places}
+use Rattle.cert_text.specs.cert_form.specs.PlaceCert.{PlaceCertValue}
 use Rattle.place_cert.specs.PlaceText.{IsPlaceCertificate, place_lines}
 use Rattle.place_cert.specs.PlaceSays.{place_text, PlaceCertSays}
 use Rattle.place_cert.proofs.OneCertificate.{one_place_certificate}

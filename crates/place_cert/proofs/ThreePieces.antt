@@ -1,6 +1,6 @@
 -- Three pieces of a text, one behind the other.
 use Rattle.std.specs.Prelude.{ℕ, List, [], ◌++◌}
-use Rattle.cert_form.specs.Lines.{Line, Kind}
+use Rattle.cert_text.specs.cert_form.specs.Lines.{Line, Kind}
 use Rattle.cert_text.specs.Readers.{Leads, Halts}
 use Rattle.cert_text.specs.declared.stop.CertStop.{CertStop}
 use Rattle.cert_text.proofs.PlanSteps.{leads_then, halts_before, halts_then}

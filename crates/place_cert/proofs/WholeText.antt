@@ -2,21 +2,21 @@
 use Rattle.std.proofs.Common.{◌≡◌, ℕ, ◌^◌, ◌≤◌, List, [], ◌∷◌, ◌++◌, length, drop, sym, ap, subst, map}
 use Rattle.std.specs.Prelude.{ℤ, pos, codes}
 use Rattle.std.proofs.lemmas.List.{append-nil, length-map}
-use Rattle.line_text.specs.LineText.{IsTextOf}
-use Rattle.cert_form.specs.Lines.{Line, Kind, kind, these, places_plan, IsPlacesText, lines}
-use Rattle.cert_form.specs.CertText.{line, IsChoice}
-use Rattle.cert_form.specs.Reading.{ReachedBy}
-use Rattle.cert_form.proofs.CertReads.{fine_places}
-use Rattle.cert_form.proofs.Reading.{reached-first, reached-end}
-use Rattle.text_lines.specs.Range.{AllInRange}
-use Rattle.wide_num.specs.Range.{InRange}
+use Rattle.cert_text.specs.line_text.specs.LineText.{IsTextOf}
+use Rattle.cert_text.specs.cert_form.specs.Lines.{Line, Kind, kind, these, places_plan, IsPlacesText, lines}
+use Rattle.cert_text.specs.cert_form.specs.CertText.{line, IsChoice}
+use Rattle.cert_text.specs.cert_form.specs.Reading.{ReachedBy}
+use Rattle.cert_text.specs.cert_form.proofs.CertReads.{fine_places}
+use Rattle.cert_text.specs.cert_form.proofs.Reading.{reached-first, reached-end}
+use Rattle.cert_text.specs.text_lines.specs.Range.{AllInRange}
+use Rattle.cert_text.specs.wide_num.specs.Range.{InRange}
 use Rattle.cert_text.specs.declared.stop.CertStop.{CertStop}
 use Rattle.cert_text.specs.declared.stop.CertStop.TheVariants.{Form, Range, Memory}
 use Rattle.cert_text.specs.StagePlans.{opening_plan, opening_lines, closing_plan, closing_lines}
 use Rattle.cert_text.specs.Stops.{StopsBy}
 use Rattle.cert_text.specs.Readers.{Leads, Halts, HaltsAtEnd}
 use Rattle.cert_text.proofs.PlanSteps.{leads_then, halts_before, halts_then}
-use Rattle.cert_form.specs.PlaceCert.{PlaceCertValue}
+use Rattle.cert_text.specs.cert_form.specs.PlaceCert.{PlaceCertValue}
 use Rattle.place_cert.specs.PlaceText.{HasSets, IsPlaceCertificate, place_lines, ordered_row_lines}
 use Rattle.place_cert.specs.Parts.{row_value, row_order, place_cert_from, AreParts, AreRows}
 use Rattle.place_cert.specs.CertValues.{PlaceStopsAt}

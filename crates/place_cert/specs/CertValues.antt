@@ -1,9 +1,9 @@
 -- Placement certificates of the program as values, and why bytes are none.
 use Rattle.std.specs.Prelude.{ℕ, List}
-use Rattle.line_text.specs.LineText.{faulty, beyond}
+use Rattle.cert_text.specs.line_text.specs.LineText.{faulty, beyond}
 use Rattle.cert_text.specs.declared.stop.CertStop.{CertStop}
 use Rattle.cert_text.specs.declared.stop.CertStop.TheVariants.{Form, Range, Memory}
-use Rattle.cert_form.specs.PlaceCert.{PlaceCertValue}
+use Rattle.cert_text.specs.cert_form.specs.PlaceCert.{PlaceCertValue}
 use Rattle.place_cert.specs.PlaceSays.{PlaceCertSays}
 use Rattle.place_cert.specs.Parts.{place_cert_from}
 use Rattle.place_cert.specs.declared.certificate.PlaceCertificate.{PlaceCertificate}

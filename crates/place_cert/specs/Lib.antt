@@ -5,3 +5,6 @@ pub mod Parts
 pub mod CertValues
 pub mod PlaceReads
 pub mod Written
+pub use Rattle.cert_text.specs.cert_form
+pub use Rattle.cert_text
+pub use Rattle.cert_text.specs.line_text

@@ -1,9 +1,9 @@
 -- What a placement certificate keeps has at most one proof, so a struct may hold it.
 use Rattle.std.specs.Prelude.{ℕ, zero, suc, List, [], ◌∷◌}
 use denote.Struct.Props as logic
-use Rattle.cert_form.specs.Certificate.{WithoutValue, RowValue}
-use Rattle.cert_form.specs.OneProof.{AllInRange-prop, AtMost-prop, AreTableLines-prop, AreMembers-prop}
-use Rattle.cert_form.specs.PlaceCert.{PlaceCertValue}
+use Rattle.cert_text.specs.cert_form.specs.Certificate.{WithoutValue, RowValue}
+use Rattle.cert_text.specs.cert_form.specs.OneProof.{AllInRange-prop, AtMost-prop, AreTableLines-prop, AreMembers-prop}
+use Rattle.cert_text.specs.cert_form.specs.PlaceCert.{PlaceCertValue}
 use Rattle.place_cert.specs.PlaceText.{AreOrderedRows, AreOrderedWithouts, IsPlaceCertificate}
 
 AreOrderedWithouts-prop : (bidders j : ℕ) (choice : List ℕ) (ws : List WithoutValue) (orders : List (List ℕ))

@@ -1,7 +1,7 @@
 -- The value of a placement certificate of the program, from its fields.
 use Rattle.std.specs.Prelude.{ℕ, ℤ, List, map}
-use Rattle.cert_form.specs.Certificate.{RowValue, WithoutValue}
-use Rattle.cert_form.specs.PlaceCert.{PlaceCertValue}
+use Rattle.cert_text.specs.cert_form.specs.Certificate.{RowValue, WithoutValue}
+use Rattle.cert_text.specs.cert_form.specs.PlaceCert.{PlaceCertValue}
 use Rattle.place_cert.specs.PlaceText.{AreOrderedRows, AreOrderedWithouts}
 use Rattle.place_cert.specs.declared.certificate.PlaceRow.{PlaceRow}
 use Rattle.place_cert.specs.declared.certificate.PlaceWithout.{PlaceWithout}

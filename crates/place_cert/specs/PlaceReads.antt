@@ -1,7 +1,7 @@
 -- What is read of a placement certificate, piece by piece.
 use Rattle.std.specs.Prelude.{◌≡◌, ℕ, suc, List, [], ◌∷◌, ◌++◌, length, map, codes, ℤ, pos}
-use Rattle.cert_form.specs.Lines.{Line, Kind, Numbers, kind, signed, chosen, members, ordered_head, ordered_count, ordered_part_plan, unless_zero, after_numbers}
-use Rattle.cert_form.specs.CertText.{line, as_numbers, choice_line, table_lines}
+use Rattle.cert_text.specs.cert_form.specs.Lines.{Line, Kind, Numbers, kind, signed, chosen, members, ordered_head, ordered_count, ordered_part_plan, unless_zero, after_numbers}
+use Rattle.cert_text.specs.cert_form.specs.CertText.{line, as_numbers, choice_line, table_lines}
 use Rattle.cert_text.specs.PartReads.{without_line}
 use Rattle.cert_text.specs.Readers.{AreChosen, Leads, Halts}
 use Rattle.cert_text.specs.declared.stop.CertStop.{CertStop}

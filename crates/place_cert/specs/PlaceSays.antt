@@ -1,8 +1,8 @@
 -- What bytes say of a placement certificate.
 use Rattle.std.specs.Prelude.{ℕ, List}
-use Rattle.line_text.specs.LineText.{text_of, IsTextOf, FaultAt, Exceeds, Said, stated, faulty, beyond}
-use Rattle.cert_form.specs.Lines.{IsPlacesText, lines}
-use Rattle.cert_form.specs.PlaceCert.{PlaceCertValue}
+use Rattle.cert_text.specs.line_text.specs.LineText.{text_of, IsTextOf, FaultAt, Exceeds, Said, stated, faulty, beyond}
+use Rattle.cert_text.specs.cert_form.specs.Lines.{IsPlacesText, lines}
+use Rattle.cert_text.specs.cert_form.specs.PlaceCert.{PlaceCertValue}
 use Rattle.place_cert.specs.PlaceText.{IsPlaceCertificate, place_lines}
 
 -- the one text of a placement certificate

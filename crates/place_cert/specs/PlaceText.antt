@@ -1,12 +1,12 @@
 -- The lines of a placement certificate, and which certificates have a text. They are those of a certificate with another first line,
 -- an order before each choice, and tables of one line with an entry for each set of bidders.
 use Rattle.std.specs.Prelude.{◌≡◌, ℕ, zero, suc, ◌^◌, ◌≤◌, List, [], ◌∷◌, ◌++◌, length, codes, ℤ, pos}
-use Rattle.wide_num.specs.Range.{InRange}
-use Rattle.text_lines.specs.Range.{AllInRange}
-use Rattle.cert_form.specs.Certificate.{WithoutValue, RowValue}
-use Rattle.cert_form.specs.Lines.{Line}
-use Rattle.cert_form.specs.CertText.{line, as_numbers, choice_line, table_lines, IsChoice, IsTable, IsRow}
-use Rattle.cert_form.specs.PlaceCert.{PlaceCertValue}
+use Rattle.cert_text.specs.wide_num.specs.Range.{InRange}
+use Rattle.cert_text.specs.text_lines.specs.Range.{AllInRange}
+use Rattle.cert_text.specs.cert_form.specs.Certificate.{WithoutValue, RowValue}
+use Rattle.cert_text.specs.cert_form.specs.Lines.{Line}
+use Rattle.cert_text.specs.cert_form.specs.CertText.{line, as_numbers, choice_line, table_lines, IsChoice, IsTable, IsRow}
+use Rattle.cert_text.specs.cert_form.specs.PlaceCert.{PlaceCertValue}
 
 abbrev pub order_line : List ℕ → Line
 order_line order = line (codes "order") (as_numbers order)

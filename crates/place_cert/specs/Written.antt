@@ -1,10 +1,10 @@
 -- Lines of a placement certificate that are written together.
 use Rattle.std.specs.Prelude.{List, [], ◌∷◌, length, codes, pos}
 use Rattle.std.specs.List.{AllByRecursion}
-use Rattle.cert_form.specs.CertText.{line, choice_line}
-use Rattle.cert_form.specs.Lines.{Line}
+use Rattle.cert_text.specs.cert_form.specs.CertText.{line, choice_line}
+use Rattle.cert_text.specs.cert_form.specs.Lines.{Line}
 use Rattle.cert_text.specs.Written.{IsTableInRange}
-use Rattle.wide_num.specs.Range.{InRange}
+use Rattle.cert_text.specs.wide_num.specs.Range.{InRange}
 use Rattle.place_cert.specs.PlaceText.{order_line}
 use Rattle.place_cert.specs.PlaceReads.{row_lines}
 use Rattle.place_cert.specs.declared.certificate.PlaceCertificate.{PlaceCertificate}

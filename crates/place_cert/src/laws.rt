@@ -1,7 +1,7 @@
 // Laws of the text of placement certificates. No code stands here.
 ghost use Rattle.std.specs.Prelude.{◌≡◌, ℕ, ◌<◌, ◌^◌, List};
-ghost use Rattle.line_text.specs.LineText.{Said, stated};
-ghost use Rattle.cert_form.specs.PlaceCert.{PlaceCertValue};
+ghost use Rattle.cert_text.specs.line_text.specs.LineText.{Said, stated};
+ghost use Rattle.cert_text.specs.cert_form.specs.PlaceCert.{PlaceCertValue};
 ghost use Rattle.place_cert.specs.PlaceText.{IsPlaceCertificate};
 ghost use Rattle.place_cert.specs.PlaceSays.{place_text, PlaceCertSays};
 

@@ -1,7 +1,7 @@
 // From bytes to a placement certificate.
 ghost use Rattle.std.specs.Prelude.{◌≡◌, ◌≤◌, IfErr, IfOk, length};
-ghost use Rattle.line_text.specs.LineText.{stated};
-ghost use Rattle.limits.specs.declared.TheConstants.{MOST_PLACED};
+ghost use Rattle.cert_text.specs.line_text.specs.LineText.{stated};
+ghost use Rattle.cert_text.specs.limits.specs.declared.TheConstants.{MOST_PLACED};
 ghost use Rattle.place_cert.specs.CertValues.{place_cert_value, PlaceStopsAt};
 ghost use Rattle.place_cert.specs.Parts.{place_cert_from};
 ghost use Rattle.place_cert.specs.PlaceSays.{PlaceCertSays};
@@ -15,8 +15,8 @@ pub(crate) mod stages;
 use crate::PlaceCertificate;
 use crate::read::pieces::take_lowered;
 use crate::read::stages::{Payments, Placing, take_payments, take_placing};
+use cert_text::choices::Grid;
 use cert_text::{CertStop, Opening, end_at, take_opening, take_these};
-use choices::Grid;
 use std::alloc::Global;
 
 /// The placement certificate that the bytes are the text of, for so many bidders.

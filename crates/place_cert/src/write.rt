@@ -1,8 +1,8 @@
 // From a placement certificate to its text.
 ghost use Rattle.std.specs.Prelude.{◌≡◌, ◌≤◌, ◌∷◌, [], length, codes, IfOk, OnOk};
 ghost use Rattle.std.specs.List.{AllByRecursion};
-ghost use Rattle.wide_num.specs.Range.{InRange};
-ghost use Rattle.cert_form.specs.CertText.{choice_line};
+ghost use Rattle.cert_text.specs.wide_num.specs.Range.{InRange};
+ghost use Rattle.cert_text.specs.cert_form.specs.CertText.{choice_line};
 ghost use Rattle.cert_text.specs.Written.{Adds, IsTableInRange};
 ghost use Rattle.place_cert.specs.CertValues.{place_cert_value};
 ghost use Rattle.place_cert.specs.PlaceReads.{own_part, own_row, ordered_lines, part_lines};
@@ -10,10 +10,10 @@ ghost use Rattle.place_cert.specs.PlaceSays.{place_text};
 ghost use Rattle.place_cert.specs.Written.{lines_of_head, lines_of_rows, ArePartsInRange, IsRowInRange};
 
 use crate::{PlaceCertificate, PlaceRow, PlaceWithout};
+use cert_text::choices::{Choice, Numbers};
+use cert_text::wide_num::Text;
 use cert_text::{add_choice, add_number_line, add_signed_line, add_table};
-use choices::{Choice, Numbers};
 use std::alloc::{AllocError, Global};
-use wide_num::Text;
 
 /// The one text of a placement certificate. The only error is want of memory.
 pub fn write_places(alloc: Global, cert: &PlaceCertificate) -> Result<Text, AllocError>

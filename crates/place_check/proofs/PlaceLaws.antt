@@ -3,16 +3,16 @@ use Rattle.std.specs.Prelude.{◌≡◌, ℕ, ◌+◌, ◌≤◌, ◌<◌, ◌�
 use Rattle.std.proofs.Common.{sym, ◌∙◌, subst, arith}
 use Rattle.std.proofs.lemmas.Bool.{both_ways}
 use Rattle.std.proofs.lemmas.Int.{ints}
-use Rattle.auction_model.specs.Lowered.{of_bidder}
-use Rattle.auction_model.specs.Market.{Market, number_of, uses, value_of}
-use Rattle.auction_model.specs.Prices.{sum_over}
-use Rattle.cert_form.specs.Certificate.{CertValue, RowValue, part_of, row_of, is_member}
-use Rattle.cert_laws.specs.MarketTests.{PaysWithinBids, IsTight, ShowsLeastSum, ShowsNearest, won_in, vickrey_in, sum_holding}
-use Rattle.slot_places.specs.Board.{market_of}
-use Rattle.slot_places.specs.Orders.{allows}
-use Rattle.slot_places.specs.Slots.{SlotList, bids_of}
-use Rattle.slot_places.proofs.OrderLaws.{allowed-by_order}
-use Rattle.cert_form.specs.PlaceCert.{PlaceCertValue, order_without, order_in_row}
+use Rattle.cert_check.specs.auction_model.specs.Lowered.{of_bidder}
+use Rattle.cert_check.specs.auction_model.specs.Market.{Market, number_of, uses, value_of}
+use Rattle.cert_check.specs.auction_model.specs.Prices.{sum_over}
+use Rattle.cert_check.specs.cert_form.specs.Certificate.{CertValue, RowValue, part_of, row_of, is_member}
+use Rattle.cert_check.specs.cert_laws.specs.MarketTests.{PaysWithinBids, IsTight, ShowsLeastSum, ShowsNearest, won_in, vickrey_in, sum_holding}
+use Rattle.place_laws.specs.slot_places.specs.Board.{market_of}
+use Rattle.place_laws.specs.slot_places.specs.Orders.{allows}
+use Rattle.place_laws.specs.slot_places.specs.Slots.{SlotList, bids_of}
+use Rattle.place_laws.specs.slot_places.proofs.OrderLaws.{allowed-by_order}
+use Rattle.cert_check.specs.cert_form.specs.PlaceCert.{PlaceCertValue, order_without, order_in_row}
 use Rattle.place_laws.specs.PlaceTests.{P2, P4, P6, IsPlacedPart}
 use Rattle.place_check.specs.Shown.{IsTightPlaced}
 

@@ -2,11 +2,11 @@
 use Rattle.std.specs.Prelude.{◌≡◌, ℕ, zero, suc, ◌+◌, ◌-◌, ◌^◌, ◌≤◌, ◌<◌, List, [], ◌∷◌, length, map, get_or, ℤ, pos, unsigned_abs}
 use Rattle.std.proofs.Common.{sym, ◌∙◌, ap, subst, arith}
 use Rattle.std.proofs.lemmas.List.{get_or-map, length-map}
-use Rattle.cert_form.specs.Certificate.{RowValue, row_of}
-use Rattle.cert_form.specs.CertText.{IsRow}
+use Rattle.cert_check.specs.cert_form.specs.Certificate.{RowValue, row_of}
+use Rattle.cert_check.specs.cert_form.specs.CertText.{IsRow}
 use Rattle.place_cert.specs.Parts.{row_value, AreRows}
 use Rattle.place_cert.specs.declared.certificate.PlaceRow.{PlaceRow}
-use Rattle.cert_laws.specs.MarketTests.{sum_holding}
+use Rattle.cert_check.specs.cert_laws.specs.MarketTests.{sum_holding}
 use Rattle.cert_check.specs.declared.sums.Multiplier.{Multiplier}
 use Rattle.cert_check.specs.declared.sums.Multiplier.TheVariants.{First, Second}
 use Rattle.cert_check.specs.Multipliers.{multiplier_of}

@@ -1,3 +1,6 @@
 pub mod Verdicts
 pub mod OfferRules
 pub mod Shown
+pub use Rattle.place_cert
+pub use Rattle.place_laws
+pub use Rattle.place_laws.specs.slot_places

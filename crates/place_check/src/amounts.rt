@@ -1,11 +1,11 @@
 // What bids and choices are worth.
 ghost use Rattle.std.specs.Prelude.{◌≡◌, ◌*◌, ◌≤◌, ◌<◌, ◌≤ℤ◌, length, pos};
-ghost use Rattle.auction_model.specs.Market.{value_of};
-ghost use Rattle.limits.specs.declared.TheConstants.{MOST_AMOUNT, MOST_PLACED};
-ghost use Rattle.slot_places.specs.Board.{market_of};
-ghost use Rattle.slot_places.specs.Slots.{amount_of};
+ghost use Rattle.cert_check.specs.auction_model.specs.Market.{value_of};
+ghost use Rattle.cert_check.specs.limits.specs.declared.TheConstants.{MOST_AMOUNT, MOST_PLACED};
+ghost use Rattle.place_laws.specs.slot_places.specs.Board.{market_of};
+ghost use Rattle.place_laws.specs.slot_places.specs.Slots.{amount_of};
 
-use slot_places::Slots;
+use place_laws::slot_places::Slots;
 
 /// The amount of bid `i` of bidder `j`, and 0 where it has no such bid.
 pub(crate) fn amount(slots: &Slots, j: u16, i: u16) -> i128

@@ -14,8 +14,8 @@ use crate::heads::{amounts_hold, choice_holds, lowered_holds, sizes_hold};
 use crate::parts::part_holds;
 use cert_check::Verdict;
 use place_cert::PlaceCertificate;
+use place_laws::slot_places::Slots;
 use place_laws::{one_place_verdict, sound_places};
-use slot_places::Slots;
 
 /// Tests a placement certificate of slots.
 ///

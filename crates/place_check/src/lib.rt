@@ -14,4 +14,7 @@ mod tables;
 pub use cert_check::Verdict;
 pub use checking::check_places;
 pub use claims::vickrey;
+pub use place_cert;
+pub use place_laws;
+pub use place_laws::slot_places;
 pub use sums::total_of;

@@ -1,24 +1,24 @@
 // Sums over bidders and over rows.
 ghost use Rattle.std.specs.Prelude.{length, map, not, pos, unsigned_abs, ℕ, ◌*◌, ◌<◌, ◌^◌, ◌≡◌, ◌≤ℤ◌, ◌≤◌};
-ghost use Rattle.auction_model.specs.Lowered.{of_bidder};
-ghost use Rattle.auction_model.specs.Market.{worth_in};
-ghost use Rattle.auction_model.specs.Prices.{sum_over, everyone};
+ghost use Rattle.cert_check.specs.auction_model.specs.Lowered.{of_bidder};
+ghost use Rattle.cert_check.specs.auction_model.specs.Market.{worth_in};
+ghost use Rattle.cert_check.specs.auction_model.specs.Prices.{sum_over, everyone};
 ghost use Rattle.cert_check.specs.Multipliers.{multiplier_of};
-ghost use Rattle.cert_form.specs.CertText.{AllInRange};
-ghost use Rattle.cert_form.specs.Certificate.{is_member};
-ghost use Rattle.cert_laws.specs.MarketTests.{sum_holding};
-ghost use Rattle.limits.specs.declared.TheConstants.{MOST_AMOUNT, MOST_PLACED};
+ghost use Rattle.cert_check.specs.cert_form.specs.CertText.{AllInRange};
+ghost use Rattle.cert_check.specs.cert_form.specs.Certificate.{is_member};
+ghost use Rattle.cert_check.specs.cert_laws.specs.MarketTests.{sum_holding};
+ghost use Rattle.cert_check.specs.limits.specs.declared.TheConstants.{MOST_AMOUNT, MOST_PLACED};
 ghost use Rattle.place_cert.specs.Parts.{row_value, AreRows};
-ghost use Rattle.slot_places.specs.Board.{market_of};
+ghost use Rattle.place_laws.specs.slot_places.specs.Board.{market_of};
 
 use crate::amounts::amount;
+use cert_check::choices::Choice;
 use cert_check::sum_paid;
 use cert_check::sums::Multiplier;
 use cert_check::sums::amounts::counted;
 use cert_check::sums::members::is_among;
-use choices::Choice;
 use place_cert::PlaceRow;
-use slot_places::Slots;
+use place_laws::slot_places::Slots;
 
 /// What all pay together, times the denominator.
 pub fn total_of(payments: &[i128]) -> i128

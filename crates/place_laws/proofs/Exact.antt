@@ -1,8 +1,8 @@
 -- Exact tables of the amounts, without the bids of a bidder, and of the lowered worths obey the rules.
 use Rattle.std.specs.Prelude.{◌≡◌, ℕ, List, length, ℤ, refl}
-use Rattle.auction_model.specs.Lowered.{lowered}
-use Rattle.row_laws.specs.Surplus.{surpluses_of}
-use Rattle.cert_form.specs.Certificate.{CertValue}
+use Rattle.cert_laws.specs.auction_model.specs.Lowered.{lowered}
+use Rattle.cert_laws.specs.row_laws.specs.Surplus.{surpluses_of}
+use Rattle.cert_laws.specs.cert_form.specs.Certificate.{CertValue}
 use Rattle.cert_laws.specs.MarketTests.{PaysWithinBids}
 use Rattle.slot_places.specs.Board.{board_of, board_without, market_of}
 use Rattle.slot_places.specs.SetTable.{IsSetTable}

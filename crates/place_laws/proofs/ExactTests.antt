@@ -3,12 +3,12 @@ use Rattle.std.specs.Prelude.{◌≡◌, ℕ, ◌<◌, not, IsTrue, List, length
 use Rattle.std.proofs.Common.{arith}
 use Rattle.std.proofs.lemmas.Bool.{and_parts}
 use Rattle.std.proofs.lemmas.Int.{ints}
-use Rattle.auction_model.specs.Greatest.{IsGreatest}
-use Rattle.auction_model.specs.Lowered.{lowered}
-use Rattle.auction_model.specs.Market.{value_of, uses}
-use Rattle.auction_model.specs.Prices.{paid}
-use Rattle.row_laws.specs.Surplus.{surpluses_of, lowered_sum}
-use Rattle.cert_form.specs.Certificate.{WithoutValue}
+use Rattle.cert_laws.specs.auction_model.specs.Greatest.{IsGreatest}
+use Rattle.cert_laws.specs.auction_model.specs.Lowered.{lowered}
+use Rattle.cert_laws.specs.auction_model.specs.Market.{value_of, uses}
+use Rattle.cert_laws.specs.auction_model.specs.Prices.{paid}
+use Rattle.cert_laws.specs.row_laws.specs.Surplus.{surpluses_of, lowered_sum}
+use Rattle.cert_laws.specs.cert_form.specs.Certificate.{WithoutValue}
 use Rattle.cert_laws.specs.Sound.{cert_point}
 use Rattle.cert_laws.proofs.Winning.{unused_from}
 use Rattle.slot_places.specs.Board.{board_of, market_of}
@@ -17,7 +17,7 @@ use Rattle.slot_places.specs.SetTable.{IsSetTable}
 use Rattle.slot_places.specs.Slots.{SlotList, amount_of}
 use Rattle.slot_places.proofs.FirstOrders.{allowed-says}
 use Rattle.slot_places.proofs.MarketLaws.{placed-number, slots-idle}
-use Rattle.cert_form.specs.PlaceCert.{PlaceCertValue}
+use Rattle.cert_laws.specs.cert_form.specs.PlaceCert.{PlaceCertValue}
 use Rattle.place_laws.specs.PlacePriced.{IsBestPlacedPart}
 use Rattle.place_laws.specs.PlaceTests.{P2, P3, IsPlacedPart, P5, P9}
 use Rattle.place_laws.proofs.Exact.{plain-obeys, without-obeys, lowered-obeys}

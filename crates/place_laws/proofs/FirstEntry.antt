@@ -2,11 +2,11 @@
 use Rattle.std.specs.Prelude.{ℕ, suc, ◌+◌, ◌<◌, IsTrue, List, ℤ, ◌≤ℤ◌}
 use Rattle.std.proofs.Common.{sym, ◌∙◌, subst}
 use Rattle.std.proofs.lemmas.Bool.{false≢true, and_parts, and_from}
-use Rattle.auction_model.specs.Greatest.{IsGreatestValue}
-use Rattle.auction_model.specs.Market.{sum_after}
-use Rattle.auction_model.specs.Prices.{allowed_without}
-use Rattle.auction_model.specs.Table.{entry_at}
-use Rattle.auction_model.proofs.TableLaws.{IsGreatestValue-same}
+use Rattle.cert_laws.specs.auction_model.specs.Greatest.{IsGreatestValue}
+use Rattle.cert_laws.specs.auction_model.specs.Market.{sum_after}
+use Rattle.cert_laws.specs.auction_model.specs.Prices.{allowed_without}
+use Rattle.cert_laws.specs.auction_model.specs.Table.{entry_at}
+use Rattle.cert_laws.specs.auction_model.proofs.TableLaws.{IsGreatestValue-same}
 use Rattle.slot_places.specs.Board.{Board, nobody, is_known, can_place, is_placed, board_of, board_without, market_of}
 use Rattle.slot_places.specs.SetTable.{holds, fits_behind, IsSetTable}
 use Rattle.slot_places.specs.Slots.{SlotList}

@@ -4,16 +4,16 @@ use Rattle.std.specs.Prelude.{◌≡◌, ℕ, zero, suc, ◌+◌, ◌≤◌, ◌
 use Rattle.std.proofs.Common.{inl, inr, sym, ◌∙◌, ap, arith}
 use Rattle.std.proofs.lemmas.Bool.{false≢true, cases_Bool, false_from_ne_true}
 use Rattle.std.proofs.lemmas.Int.{ints}
-use Rattle.auction_model.specs.Market.{Market, uses}
-use Rattle.auction_model.specs.Lowered.{of_bidder}
-use Rattle.auction_model.specs.Prices.{Point, IsCorePoint, IsLeastSum, IsNearest, share, square_distance}
-use Rattle.wide_num.specs.Sums.{total, dot}
-use Rattle.wide_num.proofs.Sums.{total-zero}
-use Rattle.point_laws.specs.Points.{SamePoint, square_distance as distance_to}
-use Rattle.point_laws.specs.Multipliers.{AreFirst, AreSecond, AreShares, SumsToOrStands}
-use Rattle.point_laws.proofs.PointLaws.{least, nearest, times_zero}
-use Rattle.row_laws.proofs.Excess.{everyone-is}
-use Rattle.cert_form.specs.Certificate.{CertValue, is_member, row_of}
+use Rattle.cert_laws.specs.auction_model.specs.Market.{Market, uses}
+use Rattle.cert_laws.specs.auction_model.specs.Lowered.{of_bidder}
+use Rattle.cert_laws.specs.auction_model.specs.Prices.{Point, IsCorePoint, IsLeastSum, IsNearest, share, square_distance}
+use Rattle.cert_laws.specs.wide_num.specs.Sums.{total, dot}
+use Rattle.cert_laws.specs.wide_num.proofs.Sums.{total-zero}
+use Rattle.cert_laws.specs.point_laws.specs.Points.{SamePoint, square_distance as distance_to}
+use Rattle.cert_laws.specs.point_laws.specs.Multipliers.{AreFirst, AreSecond, AreShares, SumsToOrStands}
+use Rattle.cert_laws.specs.point_laws.proofs.PointLaws.{least, nearest, times_zero}
+use Rattle.cert_laws.specs.row_laws.proofs.Excess.{everyone-is}
+use Rattle.cert_laws.specs.cert_form.specs.Certificate.{CertValue, is_member, row_of}
 use Rattle.cert_laws.specs.MarketTests.{PaysWithinBids, HasTightRow, ShowsLeastSum, ShowsNearest, vickrey_in}
 use Rattle.cert_laws.specs.Sound.{cert_point}
 use Rattle.cert_laws.proofs.Aims.{from_zero, first, second, weight_from, share_from}

@@ -4,15 +4,15 @@ use Rattle.std.specs.Prelude.{◌≡◌, ℕ, zero, suc, ◌≤◌, ◌<◌, Boo
 use Rattle.std.proofs.Common.{inl, inr, ◌∙◌, ap, arith}
 use Rattle.std.proofs.lemmas.Bool.{cases_Bool, eqb-true, not-false}
 use Rattle.std.proofs.lemmas.Int.{ints}
-use Rattle.auction_model.specs.Market.{Market, sum_after, value_of, number_of, uses}
-use Rattle.auction_model.specs.Lowered.{of_bidder}
-use Rattle.auction_model.specs.Prices.{sum_over, everyone, IsUnblocked}
-use Rattle.wide_num.specs.Sums.{total}
-use Rattle.wide_num.proofs.Sums.{total-scale}
-use Rattle.point_laws.proofs.Sums.{total-sub, total-le}
-use Rattle.point_laws.proofs.PointLaws.{times_zero}
-use Rattle.row_laws.proofs.Sums.{over-is, choice-is}
-use Rattle.cert_form.specs.Certificate.{CertValue}
+use Rattle.cert_laws.specs.auction_model.specs.Market.{Market, sum_after, value_of, number_of, uses}
+use Rattle.cert_laws.specs.auction_model.specs.Lowered.{of_bidder}
+use Rattle.cert_laws.specs.auction_model.specs.Prices.{sum_over, everyone, IsUnblocked}
+use Rattle.cert_laws.specs.wide_num.specs.Sums.{total}
+use Rattle.cert_laws.specs.wide_num.proofs.Sums.{total-scale}
+use Rattle.cert_laws.specs.point_laws.proofs.Sums.{total-sub, total-le}
+use Rattle.cert_laws.specs.point_laws.proofs.PointLaws.{times_zero}
+use Rattle.cert_laws.specs.row_laws.proofs.Sums.{over-is, choice-is}
+use Rattle.cert_laws.specs.cert_form.specs.Certificate.{CertValue}
 use Rattle.cert_laws.specs.MarketTests.{won_in, PaysWithinBids}
 use Rattle.cert_laws.specs.Sound.{cert_point}
 use Rattle.cert_laws.proofs.Bounds.{counted}

@@ -4,11 +4,11 @@ use Rattle.std.proofs.Common.{inl, inr, sym, ◌∙◌, ap, arith}
 use Rattle.std.proofs.lemmas.Bool.{cases_Bool, cases_lt}
 use Rattle.std.proofs.lemmas.List.{get_or_past}
 use Rattle.std.proofs.lemmas.Int.{ints}
-use Rattle.auction_model.specs.Market.{Market, uses}
-use Rattle.auction_model.specs.Lowered.{of_bidder, lowered}
-use Rattle.row_laws.specs.Surplus.{surpluses_of, AsksWinnersOnly}
-use Rattle.row_laws.proofs.Surplus.{surpluses-are, surpluses-length}
-use Rattle.cert_form.specs.Certificate.{CertValue}
+use Rattle.cert_laws.specs.auction_model.specs.Market.{Market, uses}
+use Rattle.cert_laws.specs.auction_model.specs.Lowered.{of_bidder, lowered}
+use Rattle.cert_laws.specs.row_laws.specs.Surplus.{surpluses_of, AsksWinnersOnly}
+use Rattle.cert_laws.specs.row_laws.proofs.Surplus.{surpluses-are, surpluses-length}
+use Rattle.cert_laws.specs.cert_form.specs.Certificate.{CertValue}
 use Rattle.cert_laws.specs.MarketTests.{PaysWithinBids}
 use Rattle.cert_laws.specs.Sound.{cert_point}
 use Rattle.cert_laws.proofs.Exact.{idle-none}

@@ -2,10 +2,10 @@
 use Rattle.std.specs.Prelude.{◌≡◌, ℕ, ◌≤◌, ◌<◌, Bool, IsTrue, ℤ, pos, ◌+ℤ◌, ◌-ℤ◌, ◌≤ℤ◌, if◌then◌else◌}
 use Rattle.std.proofs.Common.{sym, ap, subst, arith}
 use Rattle.std.proofs.lemmas.Int.{ints}
-use Rattle.auction_model.specs.Greatest.{IsGreatest, IsGreatestValue}
-use Rattle.auction_model.specs.Market.{Market, value_of, worth_in, uses}
-use Rattle.auction_model.specs.Prices.{allowed_without, AreVickreyPrices}
-use Rattle.cert_form.specs.Certificate.{CertValue, part_of}
+use Rattle.cert_laws.specs.auction_model.specs.Greatest.{IsGreatest, IsGreatestValue}
+use Rattle.cert_laws.specs.auction_model.specs.Market.{Market, value_of, worth_in, uses}
+use Rattle.cert_laws.specs.auction_model.specs.Prices.{allowed_without, AreVickreyPrices}
+use Rattle.cert_laws.specs.cert_form.specs.Certificate.{CertValue, part_of}
 use Rattle.cert_laws.specs.MarketTests.{vickrey_in}
 use Rattle.place_laws.specs.PlaceSound.{prices_in}
 

@@ -2,13 +2,13 @@
 use Rattle.std.specs.Prelude.{ℕ, suc, ◌<◌, not, length, ℤ, ◌≤ℤ◌}
 use Rattle.std.proofs.Common.{◌∙◌, arith}
 use Rattle.std.proofs.lemmas.Int.{ints}
-use Rattle.auction_model.specs.Market.{Market}
-use Rattle.auction_model.specs.Lowered.{of_bidder}
-use Rattle.auction_model.specs.Prices.{Point, paid, offer, IsCorePoint}
-use Rattle.auction_model.specs.Blocks.{row_bound}
-use Rattle.point_laws.specs.Points.{MeetsRows, IsTight}
-use Rattle.row_laws.proofs.Rows.{excess-bound}
-use Rattle.cert_form.specs.Certificate.{CertValue, is_member, row_of}
+use Rattle.cert_laws.specs.auction_model.specs.Market.{Market}
+use Rattle.cert_laws.specs.auction_model.specs.Lowered.{of_bidder}
+use Rattle.cert_laws.specs.auction_model.specs.Prices.{Point, paid, offer, IsCorePoint}
+use Rattle.cert_laws.specs.auction_model.specs.Blocks.{row_bound}
+use Rattle.cert_laws.specs.point_laws.specs.Points.{MeetsRows, IsTight}
+use Rattle.cert_laws.specs.row_laws.proofs.Rows.{excess-bound}
+use Rattle.cert_laws.specs.cert_form.specs.Certificate.{CertValue, is_member, row_of}
 use Rattle.cert_laws.specs.MarketTests.{HasTightRow, IsTight as IsTightRow}
 use Rattle.cert_laws.proofs.Rows.{coefficient, members-pay, offer-outside, unused-one}
 

@@ -1,7 +1,7 @@
 -- The set of no bits is that of nobody: all bidders are outside, and all count.
 use Rattle.std.specs.Prelude.{◌≡◌, ℕ, Bool, cond, List, ℤ, pos}
 use Rattle.std.proofs.Common.{◌∙◌, ap}
-use Rattle.auction_model.specs.Market.{sum_after}
+use Rattle.cert_laws.specs.auction_model.specs.Market.{sum_after}
 use Rattle.slot_places.specs.Board.{Board, nobody, outside, can_place}
 use Rattle.slot_places.specs.SetTable.{holds, counts_outside, sum_outside}
 use Rattle.slot_places.proofs.SameLaws.{IsSame, AsksBidders, outside-same, place-same}

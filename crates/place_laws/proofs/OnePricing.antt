@@ -4,13 +4,13 @@ use Rattle.std.proofs.Common.{inl, inr, sym, ◌∙◌, ap, subst, arith}
 use Rattle.std.proofs.lemmas.Bool.{and_parts, and_from, or_left, or_right, eq-eqb, lt-ltb, cases_order}
 use Rattle.std.proofs.lemmas.Int.{ints}
 use Rattle.std.proofs.lemmas.List.{ext_get_or}
-use Rattle.auction_model.specs.Greatest.{IsGreatestValue}
-use Rattle.auction_model.specs.Lawful.{IsMarket}
-use Rattle.auction_model.specs.Market.{value_of, uses}
-use Rattle.auction_model.specs.Prices.{IsCoreOutcome, allowed_without, alike}
-use Rattle.auction_model.proofs.OrderLaws.{one-first}
-use Rattle.auction_model.proofs.PriceLaws.{winning-one, outcome-one}
-use Rattle.cert_form.specs.Certificate.{WithoutValue, part_of}
+use Rattle.cert_laws.specs.auction_model.specs.Greatest.{IsGreatestValue}
+use Rattle.cert_laws.specs.auction_model.specs.Lawful.{IsMarket}
+use Rattle.cert_laws.specs.auction_model.specs.Market.{value_of, uses}
+use Rattle.cert_laws.specs.auction_model.specs.Prices.{IsCoreOutcome, allowed_without, alike}
+use Rattle.cert_laws.specs.auction_model.proofs.OrderLaws.{one-first}
+use Rattle.cert_laws.specs.auction_model.proofs.PriceLaws.{winning-one, outcome-one}
+use Rattle.cert_laws.specs.cert_form.specs.Certificate.{WithoutValue, part_of}
 use Rattle.cert_laws.specs.Sound.{cert_point}
 use Rattle.slot_places.specs.Board.{Board, board_of, board_without, market_of}
 use Rattle.slot_places.specs.Orders.{is_order_before, IsPlacement}
@@ -18,7 +18,7 @@ use Rattle.slot_places.specs.SetTable.{holds, fits_behind, sum_outside, IsSetTab
 use Rattle.slot_places.specs.Slots.{SlotList, amount_of}
 use Rattle.slot_places.proofs.FirstOrders.{allowed-says}
 use Rattle.slot_places.proofs.MarketLaws.{market-of_slots}
-use Rattle.cert_form.specs.PlaceCert.{PlaceCertValue, order_without}
+use Rattle.cert_laws.specs.cert_form.specs.PlaceCert.{PlaceCertValue, order_without}
 use Rattle.place_laws.specs.PlacePriced.{IsBestPlacedPart, IsPricedPlaceCert, IsSamePlacedPart, IsSamePricing}
 
 -- of two orders of one length one comes first where they differ

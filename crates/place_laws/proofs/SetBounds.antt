@@ -4,9 +4,9 @@ use Rattle.std.proofs.Common.{inl, inr, sym, ◌∙◌, ap, subst, arith}
 use Rattle.std.proofs.lemmas.Bool.{and_parts, cases_lt}
 use Rattle.std.proofs.lemmas.Int.{ints}
 use Rattle.std.proofs.lemmas.List.{set-get_or}
-use Rattle.auction_model.specs.Market.{sum_after, number_of}
-use Rattle.auction_model.specs.Table.{entry_at}
-use Rattle.auction_model.proofs.ChoiceLaws.{known-length}
+use Rattle.cert_laws.specs.auction_model.specs.Market.{sum_after, number_of}
+use Rattle.cert_laws.specs.auction_model.specs.Table.{entry_at}
+use Rattle.cert_laws.specs.auction_model.proofs.ChoiceLaws.{known-length}
 use Rattle.cert_laws.proofs.Bounds.{counted}
 use Rattle.slot_places.specs.Board.{Board, nobody, joined, outside, menu_of, is_known, can_place, is_placed}
 use Rattle.slot_places.specs.SetTable.{holds, counts_outside, sum_outside}

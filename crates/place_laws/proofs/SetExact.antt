@@ -2,7 +2,7 @@
 use Rattle.std.specs.Prelude.{◌≡◌, ℕ, ◌+◌, ◌-◌, ◌^◌, ◌≤◌, ◌<◌, Bool, true, false, IsTrue, List, replicate, set, ℤ, pos, ◌+ℤ◌, ◌≤ℤ◌}
 use Rattle.std.proofs.Common.{sym, ◌∙◌, subst, arith}
 use Rattle.std.proofs.lemmas.Int.{ints}
-use Rattle.auction_model.specs.Table.{entry_at}
+use Rattle.cert_laws.specs.auction_model.specs.Table.{entry_at}
 use Rattle.slot_places.specs.Board.{Board, joined}
 use Rattle.slot_places.specs.SetTable.{holds, fits_behind, IsSetTable}
 use Rattle.slot_places.proofs.SameLaws.{IsSame, AsksBidders, fits-same, sum_outside-same}

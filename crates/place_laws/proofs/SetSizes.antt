@@ -4,7 +4,7 @@ use Rattle.std.proofs.Common.{inl, inr, sym, subst, arith}
 use Rattle.std.proofs.lemmas.Bool.{cases_lt}
 use Rattle.std.proofs.lemmas.Int.{ints}
 use native.Mathlib.Nat.{pow-suc}
-use Rattle.auction_model.specs.Table.{entry_at}
+use Rattle.cert_laws.specs.auction_model.specs.Table.{entry_at}
 use Rattle.slot_places.specs.Board.{Board, joined, outside}
 use Rattle.slot_places.specs.SetTable.{holds}
 use Rattle.slot_places.proofs.SameLaws.{IsSame, outside-same}

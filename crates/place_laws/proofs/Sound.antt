@@ -3,16 +3,16 @@ use Rattle.std.specs.Prelude.{◌≡◌, ℕ, ◌+◌, ◌^◌, ◌<◌, not, Is
 use Rattle.std.proofs.Common.{◌∙◌, ap, arith}
 use Rattle.std.proofs.lemmas.Bool.{and_parts, and_from}
 use Rattle.std.proofs.lemmas.Int.{ints}
-use Rattle.auction_model.specs.Greatest.{IsGreatest}
-use Rattle.auction_model.specs.Lowered.{of_bidder}
-use Rattle.auction_model.specs.Market.{sum_after, value_of, uses}
-use Rattle.auction_model.specs.Prices.{sum_over, everyone, alike, allowed_without, AreVickreyPrices, IsCorePoint, IsNearest}
-use Rattle.auction_model.specs.Table.{entry_at}
-use Rattle.auction_model.proofs.ChoiceLaws.{known-length}
-use Rattle.auction_model.proofs.PriceLaws.{vickrey-one}
-use Rattle.auction_model.proofs.Shares.{share-positive, share-whole}
-use Rattle.point_laws.specs.Multipliers.{AreShares}
-use Rattle.cert_form.specs.Certificate.{CertValue, part_of}
+use Rattle.cert_laws.specs.auction_model.specs.Greatest.{IsGreatest}
+use Rattle.cert_laws.specs.auction_model.specs.Lowered.{of_bidder}
+use Rattle.cert_laws.specs.auction_model.specs.Market.{sum_after, value_of, uses}
+use Rattle.cert_laws.specs.auction_model.specs.Prices.{sum_over, everyone, alike, allowed_without, AreVickreyPrices, IsCorePoint, IsNearest}
+use Rattle.cert_laws.specs.auction_model.specs.Table.{entry_at}
+use Rattle.cert_laws.specs.auction_model.proofs.ChoiceLaws.{known-length}
+use Rattle.cert_laws.specs.auction_model.proofs.PriceLaws.{vickrey-one}
+use Rattle.cert_laws.specs.auction_model.proofs.Shares.{share-positive, share-whole}
+use Rattle.cert_laws.specs.point_laws.specs.Multipliers.{AreShares}
+use Rattle.cert_laws.specs.cert_form.specs.Certificate.{CertValue, part_of}
 use Rattle.cert_laws.specs.MarketTests.{vickrey_in, HasTightRow}
 use Rattle.cert_laws.specs.Sound.{cert_point}
 use Rattle.cert_laws.proofs.Aims.{share_from, weight_from}
@@ -26,7 +26,7 @@ use Rattle.slot_places.proofs.NumberLaws.{idle-always}
 use Rattle.slot_places.proofs.OrderLaws.{allowed-by_order}
 use Rattle.slot_places.proofs.PlainSearch.{placed-without}
 use Rattle.slot_places.proofs.SameLaws.{slots-ask}
-use Rattle.cert_form.specs.PlaceCert.{PlaceCertValue, order_without}
+use Rattle.cert_laws.specs.cert_form.specs.PlaceCert.{PlaceCertValue, order_without}
 use Rattle.place_laws.specs.PlaceSound.{prices_in, IsPlaceSound}
 use Rattle.place_laws.specs.PlaceTests.{ObeysSets, lowered_in, IsPlacedPart, Holds}
 use Rattle.place_laws.proofs.MarketAims.{least_sum, nearest_point}

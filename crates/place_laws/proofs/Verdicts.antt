@@ -3,7 +3,7 @@ use Rattle.std.specs.Prelude.{◌≡◌, ℕ}
 use Rattle.std.proofs.Common.{inl, inr, sym}
 use Rattle.std.proofs.lemmas.Bool.{cases_order}
 use Rattle.slot_places.specs.Slots.{SlotList}
-use Rattle.cert_form.specs.PlaceCert.{PlaceCertValue}
+use Rattle.cert_laws.specs.cert_form.specs.PlaceCert.{PlaceCertValue}
 use Rattle.place_laws.specs.PlaceTests.{Asks, Holds, FailsFirst}
 
 all_asked : (slots : SlotList) (p : PlaceCertValue) → Holds slots p → (t place : ℕ) → Asks slots p t place

@@ -6,7 +6,7 @@ use Rattle.std.proofs.lemmas.Bool.{false≢true}
 use Rattle.std.proofs.lemmas.Int.{ints}
 use Rattle.slot_places.specs.Orders.{allows}
 use Rattle.slot_places.specs.Slots.{SlotBidder, SlotList}
-use Rattle.cert_form.specs.PlaceCert.{PlaceCertValue}
+use Rattle.cert_laws.specs.cert_form.specs.PlaceCert.{PlaceCertValue}
 use Rattle.place_laws.specs.PlaceTests.{P2, P6, P8}
 
 abbrev pub bidder : ℕ → ℕ → ℕ → SlotBidder

@@ -3,16 +3,16 @@ use Rattle.std.specs.Prelude.{◌≡◌, ℕ, zero, suc, ◌+◌, ◌-◌, ◌^�
 use Rattle.std.proofs.Common.{inl, inr, sym, subst, arith}
 use Rattle.std.proofs.lemmas.Bool.{false≢true, and_parts, or_cases, cases_eq, eq-eqb, eqb-true, leb-true}
 use Rattle.std.proofs.lemmas.Int.{ints}
-use Rattle.auction_model.specs.Lowered.{of_bidder}
-use Rattle.auction_model.specs.Market.{number_of, uses}
-use Rattle.auction_model.specs.Table.{entry_at}
-use Rattle.cert_form.specs.Certificate.{is_member, part_of, row_of}
+use Rattle.cert_laws.specs.auction_model.specs.Lowered.{of_bidder}
+use Rattle.cert_laws.specs.auction_model.specs.Market.{number_of, uses}
+use Rattle.cert_laws.specs.auction_model.specs.Table.{entry_at}
+use Rattle.cert_laws.specs.cert_form.specs.Certificate.{is_member, part_of, row_of}
 use Rattle.cert_laws.specs.MarketTests.{IsTight, won_in, sum_holding, vickrey_in}
 use Rattle.slot_places.specs.Board.{Board, board_of, board_without, market_of}
 use Rattle.slot_places.specs.Orders.{allows}
 use Rattle.slot_places.specs.SetTable.{holds}
 use Rattle.slot_places.specs.Slots.{bids_of, amount_of}
-use Rattle.cert_form.specs.PlaceCert.{order_without, order_in_row}
+use Rattle.cert_laws.specs.cert_form.specs.PlaceCert.{order_without, order_in_row}
 use Rattle.place_laws.specs.PlaceTests.{ObeysSets, IsPlacedPart, lowered_in, Holds}
 use Rattle.place_laws.proofs.WorkedCases.{band, certificate}
 

@@ -1,3 +1,4 @@
 pub mod PlaceTests
 pub mod PlaceSound
 pub mod PlacePriced
+pub use Rattle.slot_places

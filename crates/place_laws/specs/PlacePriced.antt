@@ -1,17 +1,17 @@
 -- What a placement certificate that pricing writes is.
 use Rattle.std.specs.Prelude.{◌≡◌, ℕ, ◌<◌, ◌≤◌, IsTrue, List, length}
-use Rattle.auction_model.specs.Greatest.{IsFirstGreatest, IsWinning}
-use Rattle.auction_model.specs.Lowered.{lowered}
-use Rattle.auction_model.specs.Market.{value_of, uses}
-use Rattle.auction_model.specs.Prices.{IsCoreOutcome, SamePoint, allowed_without, alike}
-use Rattle.row_laws.specs.Surplus.{surpluses_of}
-use Rattle.cert_form.specs.Certificate.{WithoutValue, part_of, row_of}
+use Rattle.cert_laws.specs.auction_model.specs.Greatest.{IsFirstGreatest, IsWinning}
+use Rattle.cert_laws.specs.auction_model.specs.Lowered.{lowered}
+use Rattle.cert_laws.specs.auction_model.specs.Market.{value_of, uses}
+use Rattle.cert_laws.specs.auction_model.specs.Prices.{IsCoreOutcome, SamePoint, allowed_without, alike}
+use Rattle.cert_laws.specs.row_laws.specs.Surplus.{surpluses_of}
+use Rattle.cert_laws.specs.cert_form.specs.Certificate.{WithoutValue, part_of, row_of}
 use Rattle.cert_laws.specs.Sound.{cert_point}
 use Rattle.slot_places.specs.Board.{board_of, board_without, market_of}
 use Rattle.slot_places.specs.Orders.{IsPlacement}
 use Rattle.slot_places.specs.SetTable.{IsSetTable}
 use Rattle.slot_places.specs.Slots.{SlotList, amount_of}
-use Rattle.cert_form.specs.PlaceCert.{PlaceCertValue, order_without, order_in_row}
+use Rattle.cert_laws.specs.cert_form.specs.PlaceCert.{PlaceCertValue, order_without, order_in_row}
 use Rattle.place_laws.specs.PlaceTests.{Holds}
 
 -- the first of the greatest choices that don't use winner j, its placement, and the exact table in which j has no bids

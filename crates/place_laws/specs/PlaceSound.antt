@@ -1,15 +1,15 @@
 -- What a yes of the checker says of slots and a placement certificate.
 use Rattle.std.specs.Prelude.{◌≡◌, ℕ, IsTrue, ℤ, pos, if◌then◌else◌}
-use Rattle.auction_model.specs.Greatest.{IsGreatest}
-use Rattle.auction_model.specs.Market.{Market, value_of, uses}
-use Rattle.auction_model.specs.Prices.{AreVickreyPrices, IsCoreOutcome, alike}
-use Rattle.cert_form.specs.Certificate.{CertValue}
+use Rattle.cert_laws.specs.auction_model.specs.Greatest.{IsGreatest}
+use Rattle.cert_laws.specs.auction_model.specs.Market.{Market, value_of, uses}
+use Rattle.cert_laws.specs.auction_model.specs.Prices.{AreVickreyPrices, IsCoreOutcome, alike}
+use Rattle.cert_laws.specs.cert_form.specs.Certificate.{CertValue}
 use Rattle.cert_laws.specs.MarketTests.{vickrey_in}
 use Rattle.cert_laws.specs.Sound.{cert_point}
 use Rattle.slot_places.specs.Board.{market_of}
 use Rattle.slot_places.specs.Orders.{allows}
 use Rattle.slot_places.specs.Slots.{SlotList}
-use Rattle.cert_form.specs.PlaceCert.{PlaceCertValue}
+use Rattle.cert_laws.specs.cert_form.specs.PlaceCert.{PlaceCertValue}
 
 -- the Vickrey prices by the parts, and 0 for losers
 abbrev pub prices_in : Market → CertValue → ℕ → ℤ

@@ -1,18 +1,18 @@
 -- The tests P1 to P9 of a placement certificate of slots. A test asks something at each of its places, in the order of the places, and
 -- nothing at any other number. A table is one line with an entry for each set of bidders; bit j - 1 of a set stands for bidder j.
 use Rattle.std.specs.Prelude.{◌≡◌, ℕ, ◌+◌, ◌-◌, ◌^◌, ◌<◌, ◌≤◌, IsTrue, IsFalse, List, length, ℤ, pos, ◌+ℤ◌, ◌-ℤ◌, ◌*ℤ◌, ◌≤ℤ◌, ◌⊎◌, if◌then◌else◌}
-use Rattle.auction_model.specs.Market.{Market, value_of, number_of, uses}
-use Rattle.auction_model.specs.Lowered.{of_bidder}
-use Rattle.auction_model.specs.Prices.{sum_over, everyone, alike}
-use Rattle.auction_model.specs.Table.{entry_at}
-use Rattle.cert_form.specs.Certificate.{CertValue, WithoutValue, part_of, row_of}
+use Rattle.cert_laws.specs.auction_model.specs.Market.{Market, value_of, number_of, uses}
+use Rattle.cert_laws.specs.auction_model.specs.Lowered.{of_bidder}
+use Rattle.cert_laws.specs.auction_model.specs.Prices.{sum_over, everyone, alike}
+use Rattle.cert_laws.specs.auction_model.specs.Table.{entry_at}
+use Rattle.cert_laws.specs.cert_form.specs.Certificate.{CertValue, WithoutValue, part_of, row_of}
 use Rattle.cert_laws.specs.MarketTests.{won_in, PaysWithinBids, HasTightRow, ShowsLeastSum, ShowsNearest}
 use Rattle.cert_laws.specs.Tests.{C1}
 use Rattle.slot_places.specs.Board.{Board, board_of, board_without, market_of}
 use Rattle.slot_places.specs.Orders.{allows}
 use Rattle.slot_places.specs.SetTable.{holds}
 use Rattle.slot_places.specs.Slots.{SlotList, bids_of, amount_of}
-use Rattle.cert_form.specs.PlaceCert.{PlaceCertValue, order_without, order_in_row}
+use Rattle.cert_laws.specs.cert_form.specs.PlaceCert.{PlaceCertValue, order_without, order_in_row}
 
 -- The rules at the entry of a set, whose bidders are placed first. That of all bidders is not below 0. For each bidder outside the
 -- set the entry is at least that of the set with this bidder, and at least that entry plus the worth of each bid of the bidder that

@@ -8,23 +8,25 @@
 #![tactic(auto)]
 
 ghost use Rattle.std.specs.Prelude.{◌≡◌, ◌<◌, ◌≤◌, ◌^◌, ℕ, IsTrue, IsFalse, List, ℤ, pos, ◌≤ℤ◌, length};
-ghost use Rattle.auction_model.specs.Greatest.{IsGreatest, IsGreatestValue};
-ghost use Rattle.auction_model.specs.Lowered.{lowered};
-ghost use Rattle.auction_model.specs.Market.{sum_after, value_of};
-ghost use Rattle.auction_model.specs.Prices.{allowed_without, paid};
-ghost use Rattle.auction_model.specs.Table.{entry_at};
-ghost use Rattle.row_laws.specs.Surplus.{surpluses_of, lowered_sum};
-ghost use Rattle.cert_form.specs.Certificate.{CertValue, WithoutValue};
+ghost use Rattle.cert_laws.specs.auction_model.specs.Greatest.{IsGreatest, IsGreatestValue};
+ghost use Rattle.cert_laws.specs.auction_model.specs.Lowered.{lowered};
+ghost use Rattle.cert_laws.specs.auction_model.specs.Market.{sum_after, value_of};
+ghost use Rattle.cert_laws.specs.auction_model.specs.Prices.{allowed_without, paid};
+ghost use Rattle.cert_laws.specs.auction_model.specs.Table.{entry_at};
+ghost use Rattle.cert_laws.specs.row_laws.specs.Surplus.{surpluses_of, lowered_sum};
+ghost use Rattle.cert_laws.specs.cert_form.specs.Certificate.{CertValue, WithoutValue};
 ghost use Rattle.cert_laws.specs.MarketTests.{PaysWithinBids};
 ghost use Rattle.cert_laws.specs.Sound.{cert_point};
 ghost use Rattle.slot_places.specs.Board.{Board, board_of, board_without, market_of};
 ghost use Rattle.slot_places.specs.Orders.{allows};
 ghost use Rattle.slot_places.specs.SetTable.{holds, IsSetTable};
 ghost use Rattle.slot_places.specs.Slots.{SlotList, amount_of};
-ghost use Rattle.cert_form.specs.PlaceCert.{PlaceCertValue};
+ghost use Rattle.cert_laws.specs.cert_form.specs.PlaceCert.{PlaceCertValue};
 ghost use Rattle.place_laws.specs.PlacePriced.{IsBestPlacedPart, IsPricedPlaceCert, IsSamePricing};
 ghost use Rattle.place_laws.specs.PlaceSound.{IsPlaceSound};
 ghost use Rattle.place_laws.specs.PlaceTests.{ObeysSets, P2, P3, IsPlacedPart, P5, lowered_in, P9, Holds, FailsFirst};
+
+pub use slot_places;
 
 /// A placement certificate that passes all tests is sound: its order places its choice, which is one of the greatest, its value is
 /// the value of that choice, its parts give the Vickrey prices, and its choice and payments are the core outcome.

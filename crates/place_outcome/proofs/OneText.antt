@@ -1,13 +1,13 @@
 -- A placement has one text.
 use Rattle.std.proofs.Common.{◌≡◌, ◌∙◌, ℕ, zero, suc, ◌+◌, ◌<◌, ◌≤◌, List, [], ◌∷◌, ◌++◌, length, codes, ℤ, pos, ◌*ℤ◌, ◌≤ℤ◌, sym, ap, arith}
 use Rattle.std.proofs.Math.IntN.{*ℤ_comm}
-use Rattle.auction_model.specs.Lowered.{of_bidder}
-use Rattle.auction_model.specs.Market.{value_of}
-use Rattle.auction_model.specs.Prices.{Point, SamePoint, everyone}
-use Rattle.print_form.specs.Fractions.{IsFractionText}
-use Rattle.print_form.proofs.Sums.{sums}
-use Rattle.slot_places.specs.Board.{market_of}
-use Rattle.slot_places.specs.Slots.{SlotList, bid_of, bidder_of}
+use Rattle.outcome.specs.auction_model.specs.Lowered.{of_bidder}
+use Rattle.outcome.specs.auction_model.specs.Market.{value_of}
+use Rattle.outcome.specs.auction_model.specs.Prices.{Point, SamePoint, everyone}
+use Rattle.outcome.specs.print_form.specs.Fractions.{IsFractionText}
+use Rattle.outcome.specs.print_form.proofs.Sums.{sums}
+use Rattle.place_check.specs.slot_places.specs.Board.{market_of}
+use Rattle.place_check.specs.slot_places.specs.Slots.{SlotList, bid_of, bidder_of}
 use Rattle.place_outcome.specs.PlaceText.{ArePricedLines, IsPlaceText, placed_lines, priced_line, value_line}
 
 -- a fraction has one text

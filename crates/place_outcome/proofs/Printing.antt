@@ -5,20 +5,20 @@ use Rattle.std.specs.List.{AllByRecursion}
 use Rattle.std.proofs.lemmas.Bool.{and_parts, cases_Bool, eqb-true}
 use Rattle.std.proofs.lemmas.Int.{ints}
 use Rattle.std.proofs.lemmas.List.{drop_more, take_all}
-use Rattle.auction_model.specs.Lowered.{of_bidder}
-use Rattle.auction_model.specs.Market.{Market, number_of, uses}
-use Rattle.cert_form.specs.Certificate.{CertValue}
-use Rattle.cert_laws.specs.MarketTests.{vickrey_in}
-use Rattle.place_laws.specs.PlaceSound.{prices_in}
-use Rattle.print_form.specs.Fractions.{IsFractionText}
-use Rattle.auction_model.specs.Prices.{Point, everyone, sum_over}
-use Rattle.place_cert.specs.CertValues.{place_cert_value}
-use Rattle.place_cert.specs.declared.certificate.PlaceCertificate.{PlaceCertificate}
-use Rattle.place_laws.specs.PlaceTests.{Holds}
-use Rattle.slot_places.specs.Board.{board_of, is_known, joined, nobody}
-use Rattle.slot_places.specs.Orders.{are_new, gives, is_order}
-use Rattle.slot_places.specs.Slots.{SlotList, bid_of, bidder_of}
-use Rattle.slot_places.proofs.OrderLaws.{new-parts}
+use Rattle.outcome.specs.auction_model.specs.Lowered.{of_bidder}
+use Rattle.outcome.specs.auction_model.specs.Market.{Market, number_of, uses}
+use Rattle.outcome.specs.cert_form.specs.Certificate.{CertValue}
+use Rattle.outcome.specs.cert_laws.specs.MarketTests.{vickrey_in}
+use Rattle.place_check.specs.place_laws.specs.PlaceSound.{prices_in}
+use Rattle.outcome.specs.print_form.specs.Fractions.{IsFractionText}
+use Rattle.outcome.specs.auction_model.specs.Prices.{Point, everyone, sum_over}
+use Rattle.place_check.specs.place_cert.specs.CertValues.{place_cert_value}
+use Rattle.place_check.specs.place_cert.specs.declared.certificate.PlaceCertificate.{PlaceCertificate}
+use Rattle.place_check.specs.place_laws.specs.PlaceTests.{Holds}
+use Rattle.place_check.specs.slot_places.specs.Board.{board_of, is_known, joined, nobody}
+use Rattle.place_check.specs.slot_places.specs.Orders.{are_new, gives, is_order}
+use Rattle.place_check.specs.slot_places.specs.Slots.{SlotList, bid_of, bidder_of}
+use Rattle.place_check.specs.slot_places.proofs.OrderLaws.{new-parts}
 use Rattle.place_outcome.specs.PlaceText.{ArePricedLines, priced_line}
 use Rattle.place_outcome.specs.Printable.{CanPrint, IsBidder, IsLineOf, IsRestOf}
 

@@ -1,13 +1,13 @@
 -- The certificates of a placement whose outcome can be printed: words of private contracts.
 use Rattle.std.specs.Prelude.{◌≡◌, ℕ, zero, suc, ◌+◌, ◌<◌, ◌≤◌, List, [], length, drop, ℤ, pos, ◌≤ℤ◌}
 use Rattle.std.specs.List.{AllByRecursion}
-use Rattle.auction_model.specs.Lowered.{of_bidder}
-use Rattle.auction_model.specs.Market.{number_of, value_of}
-use Rattle.auction_model.specs.Prices.{Point}
-use Rattle.place_cert.specs.declared.certificate.PlaceCertificate.{PlaceCertificate}
-use Rattle.slot_places.specs.Board.{market_of}
-use Rattle.print_form.specs.Fractions.{IsFractionText}
-use Rattle.slot_places.specs.Slots.{SlotList, bid_of, bidder_of, bids_of}
+use Rattle.outcome.specs.auction_model.specs.Lowered.{of_bidder}
+use Rattle.outcome.specs.auction_model.specs.Market.{number_of, value_of}
+use Rattle.outcome.specs.auction_model.specs.Prices.{Point}
+use Rattle.place_check.specs.place_cert.specs.declared.certificate.PlaceCertificate.{PlaceCertificate}
+use Rattle.place_check.specs.slot_places.specs.Board.{market_of}
+use Rattle.outcome.specs.print_form.specs.Fractions.{IsFractionText}
+use Rattle.place_check.specs.slot_places.specs.Slots.{SlotList, bid_of, bidder_of, bids_of}
 use Rattle.place_outcome.specs.PlaceText.{priced_line}
 
 -- the number of a bidder

@@ -1,11 +1,11 @@
 // What holds of the text of placements. No code stands here.
 ghost use Rattle.std.specs.Prelude.{◌≡◌, ℕ, ◌<◌, ◌≤◌, ◌≤ℤ◌, List, ℤ, length, pos};
-ghost use Rattle.auction_model.specs.Prices.{Point, SamePoint};
-ghost use Rattle.slot_places.specs.Board.{market_of};
-ghost use Rattle.slot_places.specs.Slots.{SlotList};
+ghost use Rattle.outcome.specs.auction_model.specs.Prices.{Point, SamePoint};
+ghost use Rattle.place_check.specs.slot_places.specs.Board.{market_of};
+ghost use Rattle.place_check.specs.slot_places.specs.Slots.{SlotList};
 ghost use Rattle.place_outcome.specs.PlaceText.{IsPlaceText};
 
-use print_form::one_fraction;
+use outcome::print_form::one_fraction;
 
 /// The text of a placement depends on the order, the choice, the points and the Vickrey prices alone. The choice has a number for each
 /// bidder.

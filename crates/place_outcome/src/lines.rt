@@ -1,23 +1,23 @@
 // The lines of the bidders and of the winners.
 ghost use Rattle.std.specs.Prelude.{◌≡◌, ◌<◌, ◌+◌, ◌*◌, ◌^◌, ◌++◌, OnOk, List, ℕ, length};
 ghost use Rattle.std.specs.List.{AllByRecursion};
-ghost use Rattle.auction_model.specs.Lowered.{of_bidder};
-ghost use Rattle.auction_model.specs.Market.{number_of};
-ghost use Rattle.cert_laws.specs.Sound.{cert_point};
+ghost use Rattle.outcome.specs.auction_model.specs.Lowered.{of_bidder};
+ghost use Rattle.outcome.specs.auction_model.specs.Market.{number_of};
+ghost use Rattle.outcome.specs.cert_laws.specs.Sound.{cert_point};
 ghost use Rattle.outcome.specs.Fractions.{IsFractionOf};
-ghost use Rattle.place_cert.specs.CertValues.{place_cert_value};
-ghost use Rattle.place_laws.specs.PlaceSound.{prices_in};
-ghost use Rattle.slot_places.specs.Board.{market_of};
+ghost use Rattle.place_check.specs.place_cert.specs.CertValues.{place_cert_value};
+ghost use Rattle.place_check.specs.place_laws.specs.PlaceSound.{prices_in};
+ghost use Rattle.place_check.specs.slot_places.specs.Board.{market_of};
 ghost use Rattle.place_outcome.specs.PlaceText.{ArePricedLines, placed_line, placed_lines};
 ghost use Rattle.place_outcome.specs.Printable.{CanPrint, IsBidder, IsLineOf, IsRestOf};
 
+use outcome::text_lines::{add_decimal, add_number, add_signed};
+use outcome::wide_num::Text;
 use outcome::{Fraction, add_fraction};
-use place_cert::PlaceCertificate;
+use place_check::place_cert::PlaceCertificate;
+use place_check::slot_places::Slots;
 use place_check::vickrey;
-use slot_places::Slots;
 use std::alloc::AllocError;
-use text_lines::{add_decimal, add_number, add_signed};
-use wide_num::Text;
 
 /// Adds the lines of bidders that are laid side by side in this order, the first from this slot on.
 pub(crate) fn add_placed(

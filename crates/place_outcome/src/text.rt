@@ -1,23 +1,23 @@
 // The whole text of a placement.
 ghost use Rattle.std.specs.Prelude.{◌≡◌, ◌++◌, codes, IfOk, OnOk, length, List, ℕ};
-ghost use Rattle.auction_model.specs.Prices.{paid};
-ghost use Rattle.cert_laws.specs.Sound.{cert_point};
-ghost use Rattle.place_cert.specs.CertValues.{place_cert_value};
-ghost use Rattle.place_laws.specs.PlaceSound.{prices_in};
-ghost use Rattle.place_laws.specs.PlaceTests.{Holds};
-ghost use Rattle.print_form.specs.Fractions.{IsFractionText};
-ghost use Rattle.slot_places.specs.Board.{market_of};
+ghost use Rattle.outcome.specs.auction_model.specs.Prices.{paid};
+ghost use Rattle.outcome.specs.cert_laws.specs.Sound.{cert_point};
+ghost use Rattle.place_check.specs.place_cert.specs.CertValues.{place_cert_value};
+ghost use Rattle.place_check.specs.place_laws.specs.PlaceSound.{prices_in};
+ghost use Rattle.place_check.specs.place_laws.specs.PlaceTests.{Holds};
+ghost use Rattle.outcome.specs.print_form.specs.Fractions.{IsFractionText};
+ghost use Rattle.place_check.specs.slot_places.specs.Board.{market_of};
 ghost use Rattle.place_outcome.specs.PlaceText.{IsPlaceText, value_line};
 ghost use Rattle.place_outcome.specs.Printable.{CanPrint};
 
 use crate::lines::{add_placed, add_winners};
+use outcome::text_lines::add_signed;
+use outcome::wide_num::Text;
 use outcome::{Fraction, add_fraction};
-use place_cert::PlaceCertificate;
+use place_check::place_cert::PlaceCertificate;
+use place_check::slot_places::Slots;
 use place_check::total_of;
-use slot_places::Slots;
 use std::alloc::{AllocError, Global};
-use text_lines::add_signed;
-use wide_num::Text;
 
 /// The text of the placement and of the prices that a certificate shows for which all nine tests hold: a line for each bidder in the order
 /// of the certificate's choice, with its first slot and its width, then one for each winner in the order of the bidders, with its bid, its

@@ -4,20 +4,20 @@ use Rattle.std.proofs.Common.{inl, inr, sym, ◌∙◌, ap, subst, arith}
 use Rattle.std.proofs.lemmas.Bool.{and_parts, cases_lt, false≢true}
 use Rattle.std.proofs.lemmas.Int.{ints}
 use Rattle.std.proofs.lemmas.List.{get_or_past}
-use Rattle.auction_model.specs.Lawful.{IsMarket}
-use Rattle.auction_model.specs.Greatest.{IsFirstGreatest}
-use Rattle.auction_model.specs.Market.{Market, number_of, uses, value_of, worth_in}
-use Rattle.auction_model.specs.Prices.{IsVickreyPrice, allowed_without}
+use Rattle.book_price.specs.auction_model.specs.Lawful.{IsMarket}
+use Rattle.book_price.specs.auction_model.specs.Greatest.{IsFirstGreatest}
+use Rattle.book_price.specs.auction_model.specs.Market.{Market, number_of, uses, value_of, worth_in}
+use Rattle.book_price.specs.auction_model.specs.Prices.{IsVickreyPrice, allowed_without}
 use Rattle.book_price.proofs.Worths.{sum-most}
-use Rattle.cert_form.specs.CertText.{AtMost, IsChoice}
-use Rattle.row_laws.specs.Winners.{winners_in}
-use Rattle.slot_places.specs.Board.{joined, menu_of, nobody, is_known, can_place, board_of, market_of}
-use Rattle.slot_places.specs.Kept.{AreSlots}
-use Rattle.slot_places.specs.Orders.{IsPlacement, are_new}
-use Rattle.slot_places.specs.Slots.{SlotBidder, SlotList, amount_of, bidder_of, bids_of, no_bidder}
-use Rattle.slot_places.proofs.FirstOrders.{allowed-says}
-use Rattle.slot_places.proofs.MarketLaws.{market-of_slots}
-use Rattle.slot_places.proofs.OrderLaws.{new-parts}
+use Rattle.book_price.specs.cert_form.specs.CertText.{AtMost, IsChoice}
+use Rattle.book_price.specs.row_laws.specs.Winners.{winners_in}
+use Rattle.place_check.specs.slot_places.specs.Board.{joined, menu_of, nobody, is_known, can_place, board_of, market_of}
+use Rattle.place_check.specs.slot_places.specs.Kept.{AreSlots}
+use Rattle.place_check.specs.slot_places.specs.Orders.{IsPlacement, are_new}
+use Rattle.place_check.specs.slot_places.specs.Slots.{SlotBidder, SlotList, amount_of, bidder_of, bids_of, no_bidder}
+use Rattle.place_check.specs.slot_places.proofs.FirstOrders.{allowed-says}
+use Rattle.place_check.specs.slot_places.proofs.MarketLaws.{market-of_slots}
+use Rattle.place_check.specs.slot_places.proofs.OrderLaws.{new-parts}
 
 -- an allowed choice is known
 pub allowed-known : (slots : SlotList) (c : List ℕ) → IsTrue ((market_of slots).allowed c) → IsTrue (is_known (board_of slots) c)

@@ -1,31 +1,31 @@
 -- What pricing slots by their chooser finds is what it finds of the slots, and why it doesn't stop for too many winners.
 use Rattle.std.specs.Prelude.{◌≡◌, ℕ, List, ℤ, refl}
-use Rattle.auction_model.specs.Greatest.{IsWinning}
-use Rattle.auction_model.specs.Lowered.{lowered}
-use Rattle.auction_model.specs.Market.{value_of}
-use Rattle.auction_model.specs.Prices.{alike}
-use Rattle.auction_model.specs.PricingRun.{IsPricingRun}
-use Rattle.choices.specs.Singles.{AreSingles}
-use Rattle.choices.specs.declared.chooser.Found.{Found}
-use Rattle.choices.specs.declared.chooser.Single.{Single}
-use Rattle.core_price.specs.Priced.{IsPriced}
-use Rattle.core_price.specs.Stops.{IsStop}
-use Rattle.core_price.specs.Turns.{turns_of}
-use Rattle.core_price.specs.Weights.{ManyWin}
-use Rattle.core_price.specs.declared.priced.PriceStop.{PriceStop}
-use Rattle.core_price.specs.declared.priced.PriceStop.TheVariants.{Winners, Memory}
-use Rattle.core_price.specs.declared.priced.Priced.{Priced}
-use Rattle.core_price.specs.declared.priced.Turn.{Turn}
-use Rattle.place_cert.specs.declared.certificate.PlaceWithout.{PlaceWithout}
+use Rattle.book_price.specs.auction_model.specs.Greatest.{IsWinning}
+use Rattle.book_price.specs.auction_model.specs.Lowered.{lowered}
+use Rattle.book_price.specs.auction_model.specs.Market.{value_of}
+use Rattle.book_price.specs.auction_model.specs.Prices.{alike}
+use Rattle.book_price.specs.auction_model.specs.PricingRun.{IsPricingRun}
+use Rattle.book_price.specs.choices.specs.Singles.{AreSingles}
+use Rattle.book_price.specs.choices.specs.declared.chooser.Found.{Found}
+use Rattle.book_price.specs.choices.specs.declared.chooser.Single.{Single}
+use Rattle.book_price.specs.core_price.specs.Priced.{IsPriced}
+use Rattle.book_price.specs.core_price.specs.Stops.{IsStop}
+use Rattle.book_price.specs.core_price.specs.Turns.{turns_of}
+use Rattle.book_price.specs.core_price.specs.Weights.{ManyWin}
+use Rattle.book_price.specs.core_price.specs.declared.priced.PriceStop.{PriceStop}
+use Rattle.book_price.specs.core_price.specs.declared.priced.PriceStop.TheVariants.{Winners, Memory}
+use Rattle.book_price.specs.core_price.specs.declared.priced.Priced.{Priced}
+use Rattle.book_price.specs.core_price.specs.declared.priced.Turn.{Turn}
+use Rattle.place_check.specs.place_cert.specs.declared.certificate.PlaceWithout.{PlaceWithout}
 use Rattle.place_price.proofs.Alike.{run-alike}
 use Rattle.place_price.specs.Found.{AreFound}
 use Rattle.place_price.specs.Ones.{ones}
 use Rattle.place_price.specs.PlacedParts.{ArePartsOf}
-use Rattle.row_laws.specs.Surplus.{surpluses_of}
-use Rattle.row_laws.specs.Winners.{for_bidders}
-use Rattle.slot_places.specs.Board.{board_of, market_of}
-use Rattle.slot_places.specs.SetTable.{IsSetTable}
-use Rattle.slot_places.specs.Slots.{SlotList, amount_of}
+use Rattle.book_price.specs.row_laws.specs.Surplus.{surpluses_of}
+use Rattle.book_price.specs.row_laws.specs.Winners.{for_bidders}
+use Rattle.place_check.specs.slot_places.specs.Board.{board_of, market_of}
+use Rattle.place_check.specs.slot_places.specs.SetTable.{IsSetTable}
+use Rattle.place_check.specs.slot_places.specs.Slots.{SlotList, amount_of}
 
 -- where never too many win, only memory can be wanting
 pub stop-memory : (z weights : List ℕ) (stop : PriceStop) → (ManyWin z weights → ⊥) → IsStop z weights stop → stop ≡ Memory

@@ -4,20 +4,20 @@ use Rattle.std.specs.List.{AllByRecursion}
 use Rattle.std.proofs.Common.{inl, inr, sym, ◌∙◌, ap, subst, arith, length-append}
 use Rattle.std.proofs.lemmas.Bool.{cases_eq, eq-eqb, ne_eqb}
 use Rattle.std.proofs.lemmas.List.{get_or-map, length-map, map-append}
-use Rattle.auction_model.specs.Market.{uses}
-use Rattle.auction_model.proofs.ListLaws.{each-push}
+use Rattle.book_price.specs.auction_model.specs.Market.{uses}
+use Rattle.book_price.specs.auction_model.proofs.ListLaws.{each-push}
 use Rattle.book_price.specs.Made.{parts_from}
 use Rattle.book_price.proofs.Places.{part-of_winner, rank}
-use Rattle.cert_form.specs.Certificate.{WithoutValue, part_of}
-use Rattle.cert_form.specs.PlaceCert.{order_without}
-use Rattle.choices.specs.Singles.{AreSingles}
-use Rattle.choices.specs.declared.chooser.Single.{Single}
-use Rattle.place_cert.specs.Parts.{part_order, part_value}
-use Rattle.place_cert.specs.declared.certificate.PlaceWithout.{PlaceWithout}
-use Rattle.place_laws.specs.PlacePriced.{IsBestPlacedPart}
+use Rattle.book_price.specs.cert_form.specs.Certificate.{WithoutValue, part_of}
+use Rattle.book_price.specs.cert_form.specs.PlaceCert.{order_without}
+use Rattle.book_price.specs.choices.specs.Singles.{AreSingles}
+use Rattle.book_price.specs.choices.specs.declared.chooser.Single.{Single}
+use Rattle.place_check.specs.place_cert.specs.Parts.{part_order, part_value}
+use Rattle.place_check.specs.place_cert.specs.declared.certificate.PlaceWithout.{PlaceWithout}
+use Rattle.place_check.specs.place_laws.specs.PlacePriced.{IsBestPlacedPart}
 use Rattle.place_price.specs.PlacedParts.{ArePartsOf, IsBest, IsPartOf, tables_of}
-use Rattle.slot_places.specs.Board.{market_of}
-use Rattle.slot_places.specs.Slots.{SlotList}
+use Rattle.place_check.specs.slot_places.specs.Board.{market_of}
+use Rattle.place_check.specs.slot_places.specs.Slots.{SlotList}
 
 parts-push : (singles : List Single) (s : Single) (tables : List (List (List ℤ))) (t : List (List ℤ)) → length tables ≡ length singles
     → parts_from (singles ++ s ∷ []) (tables ++ t ∷ []) ≡ parts_from singles tables ++ record { winner = s.winner; choice = s.choice; table = t } ∷ []

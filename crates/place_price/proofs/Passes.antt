@@ -3,28 +3,28 @@ use Rattle.std.specs.Prelude.{◌≡◌, ℕ, ◌<◌, ◌≤◌, IsTrue, List, 
 use Rattle.std.specs.List.{AllByRecursion}
 use Rattle.std.proofs.Common.{◌∙◌, subst, arith}
 use Rattle.std.proofs.lemmas.Int.{ints}
-use Rattle.auction_model.specs.Market.{uses, value_of}
-use Rattle.auction_model.specs.Greatest.{IsGreatest}
-use Rattle.auction_model.specs.Prices.{IsCorePoint, paid}
+use Rattle.book_price.specs.auction_model.specs.Market.{uses, value_of}
+use Rattle.book_price.specs.auction_model.specs.Greatest.{IsGreatest}
+use Rattle.book_price.specs.auction_model.specs.Prices.{IsCorePoint, paid}
 use Rattle.book_price.specs.Made.{cert_made, parts_from, row_from}
 use Rattle.book_price.proofs.Multipliers.{kept_firsts, kept_seconds}
 use Rattle.book_price.proofs.Payments.{kept_payments}
 use Rattle.book_price.proofs.Rows.{kept_rows}
-use Rattle.cert_form.specs.Certificate.{CertValue, RowValue, part_of, row_of}
-use Rattle.cert_form.specs.PlaceCert.{PlaceCertValue, order_in_row, order_without}
-use Rattle.cert_laws.specs.MarketTests.{PaysWithinBids}
-use Rattle.cert_laws.specs.Sound.{cert_point}
-use Rattle.choices.specs.declared.chooser.Found.{Found}
-use Rattle.choices.specs.declared.chooser.Single.{Single}
-use Rattle.core_price.specs.Priced.{IsPriced}
-use Rattle.core_price.specs.declared.priced.Priced.{Priced}
-use Rattle.place_cert.specs.Parts.{part_order, row_order, row_value}
-use Rattle.place_cert.specs.declared.certificate.PlaceRow.{PlaceRow}
-use Rattle.place_cert.specs.declared.certificate.PlaceWithout.{PlaceWithout}
-use Rattle.place_laws.specs.PlacePriced.{IsBestPlacedPart, IsPricedPlaceCert}
-use Rattle.place_laws.specs.PlaceTests.{Holds, P1, P4, P6, P8, P9}
-use Rattle.place_laws.proofs.ExactTests.{head-choice, head-table, lowered-table, part-passes}
-use Rattle.place_laws.proofs.Sound.{sound}
+use Rattle.book_price.specs.cert_form.specs.Certificate.{CertValue, RowValue, part_of, row_of}
+use Rattle.book_price.specs.cert_form.specs.PlaceCert.{PlaceCertValue, order_in_row, order_without}
+use Rattle.book_price.specs.cert_laws.specs.MarketTests.{PaysWithinBids}
+use Rattle.book_price.specs.cert_laws.specs.Sound.{cert_point}
+use Rattle.book_price.specs.choices.specs.declared.chooser.Found.{Found}
+use Rattle.book_price.specs.choices.specs.declared.chooser.Single.{Single}
+use Rattle.book_price.specs.core_price.specs.Priced.{IsPriced}
+use Rattle.book_price.specs.core_price.specs.declared.priced.Priced.{Priced}
+use Rattle.place_check.specs.place_cert.specs.Parts.{part_order, row_order, row_value}
+use Rattle.place_check.specs.place_cert.specs.declared.certificate.PlaceRow.{PlaceRow}
+use Rattle.place_check.specs.place_cert.specs.declared.certificate.PlaceWithout.{PlaceWithout}
+use Rattle.place_check.specs.place_laws.specs.PlacePriced.{IsBestPlacedPart, IsPricedPlaceCert}
+use Rattle.place_check.specs.place_laws.specs.PlaceTests.{Holds, P1, P4, P6, P8, P9}
+use Rattle.place_check.specs.place_laws.proofs.ExactTests.{head-choice, head-table, lowered-table, part-passes}
+use Rattle.place_check.specs.place_laws.proofs.Sound.{sound}
 use Rattle.place_price.specs.Found.{AreFound}
 use Rattle.place_price.specs.Ones.{ones}
 use Rattle.place_price.specs.PlacedParts.{tables_of}
@@ -33,14 +33,14 @@ use Rattle.place_price.proofs.Alike.{nearest-alike}
 use Rattle.place_price.proofs.Allowed.{lawful}
 use Rattle.place_price.proofs.Parts.{best-parts, tables-count}
 use Rattle.place_price.proofs.RowOrders.{row-placed}
-use Rattle.row_laws.specs.Surplus.{AsksWinnersOnly, lowered_sum, surpluses_of}
-use Rattle.row_laws.proofs.Excess.{unblocked-free}
-use Rattle.row_laws.proofs.Sizes.{worth-nonneg}
-use Rattle.row_laws.proofs.Surplus.{surpluses-are}
-use Rattle.slot_places.specs.Board.{market_of}
-use Rattle.slot_places.specs.Kept.{AreSlots}
-use Rattle.slot_places.specs.Orders.{IsPlacement}
-use Rattle.slot_places.specs.Slots.{SlotList}
+use Rattle.book_price.specs.row_laws.specs.Surplus.{AsksWinnersOnly, lowered_sum, surpluses_of}
+use Rattle.book_price.specs.row_laws.proofs.Excess.{unblocked-free}
+use Rattle.book_price.specs.row_laws.proofs.Sizes.{worth-nonneg}
+use Rattle.book_price.specs.row_laws.proofs.Surplus.{surpluses-are}
+use Rattle.place_check.specs.slot_places.specs.Board.{market_of}
+use Rattle.place_check.specs.slot_places.specs.Kept.{AreSlots}
+use Rattle.place_check.specs.slot_places.specs.Orders.{IsPlacement}
+use Rattle.place_check.specs.slot_places.specs.Slots.{SlotList}
 
 -- the certificate of what was found, with an order of its choice and rows with their orders
 abbrev pub cert_found : SlotList → Found (List (List ℤ)) → List Single → List PlaceWithout → Priced (List (List ℤ)) → CertValue

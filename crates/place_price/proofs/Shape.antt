@@ -5,29 +5,29 @@ use Rattle.std.proofs.Common.{inl, inr, sym, ◌∙◌, ap, subst, arith}
 use Rattle.std.proofs.lemmas.Bool.{and_parts, cases_Bool}
 use Rattle.std.proofs.lemmas.Int.{ints}
 use Rattle.std.proofs.Math.IntN.{*ℤ-zero}
-use Rattle.auction_model.specs.Lawful.{IsMarket}
-use Rattle.auction_model.specs.Lowered.{of_bidder}
-use Rattle.auction_model.specs.Market.{Market, uses, value_of, worth_in}
-use Rattle.auction_model.specs.Prices.{IsCorePoint, Point, paid}
-use Rattle.auction_model.specs.Table.{entry_at}
+use Rattle.book_price.specs.auction_model.specs.Lawful.{IsMarket}
+use Rattle.book_price.specs.auction_model.specs.Lowered.{of_bidder}
+use Rattle.book_price.specs.auction_model.specs.Market.{Market, uses, value_of, worth_in}
+use Rattle.book_price.specs.auction_model.specs.Prices.{IsCorePoint, Point, paid}
+use Rattle.book_price.specs.auction_model.specs.Table.{entry_at}
 use Rattle.book_price.specs.Made.{parts_from, row_from}
 use Rattle.book_price.proofs.Ones.{winners-few}
 use Rattle.book_price.proofs.Places.{front_of, rest}
 use Rattle.book_price.proofs.Shapes.{choice_shape, numbers_shape, pay_shape, rows_few, rows_shape}
-use Rattle.cert_form.specs.Certificate.{RowValue, WithoutValue}
-use Rattle.cert_laws.specs.Sound.{cert_point}
-use Rattle.cert_form.specs.CertText.{AreRows, InRange, IsChoice}
-use Rattle.choices.specs.Singles.{winners_after}
-use Rattle.choices.specs.declared.chooser.Found.{Found}
-use Rattle.choices.specs.declared.chooser.Single.{Single}
-use Rattle.core_price.specs.declared.priced.Priced.{Priced}
-use Rattle.place_cert.specs.Parts.{part_order, part_value, place_cert_from, row_order, row_value}
-use Rattle.place_cert.specs.PlaceText.{AreOrderedRows, AreOrderedWithouts, HasSets, IsOrderedWithout, IsPlaceCertificate}
-use Rattle.place_cert.specs.declared.certificate.PlaceRow.{PlaceRow}
-use Rattle.place_cert.specs.declared.certificate.PlaceWithout.{PlaceWithout}
-use Rattle.place_laws.specs.PlaceTests.{lowered_in}
-use Rattle.place_laws.proofs.Exact.{lowered-obeys, plain-obeys}
-use Rattle.place_laws.proofs.FirstEntry.{whole-entry}
+use Rattle.book_price.specs.cert_form.specs.Certificate.{RowValue, WithoutValue}
+use Rattle.book_price.specs.cert_laws.specs.Sound.{cert_point}
+use Rattle.book_price.specs.cert_form.specs.CertText.{AreRows, InRange, IsChoice}
+use Rattle.book_price.specs.choices.specs.Singles.{winners_after}
+use Rattle.book_price.specs.choices.specs.declared.chooser.Found.{Found}
+use Rattle.book_price.specs.choices.specs.declared.chooser.Single.{Single}
+use Rattle.book_price.specs.core_price.specs.declared.priced.Priced.{Priced}
+use Rattle.place_check.specs.place_cert.specs.Parts.{part_order, part_value, place_cert_from, row_order, row_value}
+use Rattle.place_check.specs.place_cert.specs.PlaceText.{AreOrderedRows, AreOrderedWithouts, HasSets, IsOrderedWithout, IsPlaceCertificate}
+use Rattle.place_check.specs.place_cert.specs.declared.certificate.PlaceRow.{PlaceRow}
+use Rattle.place_check.specs.place_cert.specs.declared.certificate.PlaceWithout.{PlaceWithout}
+use Rattle.place_check.specs.place_laws.specs.PlaceTests.{lowered_in}
+use Rattle.place_check.specs.place_laws.proofs.Exact.{lowered-obeys, plain-obeys}
+use Rattle.place_check.specs.place_laws.proofs.FirstEntry.{whole-entry}
 use Rattle.place_price.specs.Found.{AreFound}
 use Rattle.place_price.specs.PlacedParts.{IsBest, tables_of}
 use Rattle.place_price.specs.PlacedRows.{IsPlacedRow}
@@ -35,18 +35,18 @@ use Rattle.place_price.proofs.Allowed.{lawful, order-shape}
 use Rattle.place_price.proofs.Passes.{cert_found, core, least, long, passes-5, passes-9, places_found}
 use Rattle.place_price.proofs.RowOrders.{ordered-rows}
 use Rattle.place_price.proofs.Tables.{below-range, part-sets, sets-shape}
-use Rattle.point_laws.proofs.Sums.{total-le}
-use Rattle.row_laws.proofs.Excess.{everyone-is}
-use Rattle.row_laws.proofs.Sizes.{unused-worth}
-use Rattle.row_laws.proofs.Sums.{choice-is}
-use Rattle.row_laws.specs.Winners.{for_bidders}
-use Rattle.slot_places.specs.Board.{board_of, market_of}
-use Rattle.slot_places.specs.Kept.{AreSlots}
-use Rattle.slot_places.specs.Orders.{IsPlacement}
-use Rattle.slot_places.specs.Slots.{SlotList, amount_of}
-use Rattle.wide_num.specs.Sums.{total}
-use Rattle.wide_num.proofs.Ints.{*ℤ-one, mul-add}
-use Rattle.wide_num.proofs.Sums.{total-scale}
+use Rattle.book_price.specs.point_laws.proofs.Sums.{total-le}
+use Rattle.book_price.specs.row_laws.proofs.Excess.{everyone-is}
+use Rattle.book_price.specs.row_laws.proofs.Sizes.{unused-worth}
+use Rattle.book_price.specs.row_laws.proofs.Sums.{choice-is}
+use Rattle.book_price.specs.row_laws.specs.Winners.{for_bidders}
+use Rattle.place_check.specs.slot_places.specs.Board.{board_of, market_of}
+use Rattle.place_check.specs.slot_places.specs.Kept.{AreSlots}
+use Rattle.place_check.specs.slot_places.specs.Orders.{IsPlacement}
+use Rattle.place_check.specs.slot_places.specs.Slots.{SlotList, amount_of}
+use Rattle.book_price.specs.wide_num.specs.Sums.{total}
+use Rattle.book_price.specs.wide_num.proofs.Ints.{*ℤ-one, mul-add}
+use Rattle.book_price.specs.wide_num.proofs.Sums.{total-scale}
 
 -- at a core point no more is paid than the choice is worth
 paid-most : (m : Market) → IsMarket m → (z : List ℕ) (p : Point) → IsTrue (m.allowed z) → ((j : ℕ) → 0 < j → j ≤ m.bidders → of_bidder p.at j ≤ℤ (p.den *ℤ worth_in m z j)) → paid m p ≤ℤ (p.den *ℤ value_of m z)

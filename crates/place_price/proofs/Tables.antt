@@ -3,22 +3,22 @@ use Rattle.std.specs.Prelude.{ℕ, suc, ◌^◌, ◌<◌, not, List, [], ◌∷�
 use Rattle.std.proofs.Common.{arith}
 use Rattle.std.proofs.lemmas.Bool.{and_parts}
 use Rattle.std.proofs.lemmas.Int.{ints}
-use Rattle.auction_model.specs.Market.{uses, value_of}
-use Rattle.auction_model.specs.Table.{entry_at}
+use Rattle.book_price.specs.auction_model.specs.Market.{uses, value_of}
+use Rattle.book_price.specs.auction_model.specs.Table.{entry_at}
 use Rattle.book_price.proofs.Shapes.{not_negative-small}
-use Rattle.cert_form.specs.Certificate.{WithoutValue}
-use Rattle.cert_form.specs.CertText.{AllInRange, InRange}
-use Rattle.place_cert.specs.PlaceText.{HasSets}
-use Rattle.place_laws.specs.PlacePriced.{IsBestPlacedPart}
-use Rattle.place_laws.specs.PlaceTests.{ObeysSets}
-use Rattle.place_laws.proofs.Exact.{without-obeys}
-use Rattle.place_laws.proofs.FirstEntry.{without-entry}
-use Rattle.place_laws.proofs.SetSizes.{entry-least, entry-most}
-use Rattle.slot_places.specs.Board.{Board, board_without, market_of}
-use Rattle.slot_places.specs.Kept.{AreSlots}
-use Rattle.slot_places.specs.SetTable.{IsSetTable}
-use Rattle.slot_places.specs.Slots.{SlotList, amount_of}
-use Rattle.slot_places.proofs.PlainSearch.{value-small}
+use Rattle.book_price.specs.cert_form.specs.Certificate.{WithoutValue}
+use Rattle.book_price.specs.cert_form.specs.CertText.{AllInRange, InRange}
+use Rattle.place_check.specs.place_cert.specs.PlaceText.{HasSets}
+use Rattle.place_check.specs.place_laws.specs.PlacePriced.{IsBestPlacedPart}
+use Rattle.place_check.specs.place_laws.specs.PlaceTests.{ObeysSets}
+use Rattle.place_check.specs.place_laws.proofs.Exact.{without-obeys}
+use Rattle.place_check.specs.place_laws.proofs.FirstEntry.{without-entry}
+use Rattle.place_check.specs.place_laws.proofs.SetSizes.{entry-least, entry-most}
+use Rattle.place_check.specs.slot_places.specs.Board.{Board, board_without, market_of}
+use Rattle.place_check.specs.slot_places.specs.Kept.{AreSlots}
+use Rattle.place_check.specs.slot_places.specs.SetTable.{IsSetTable}
+use Rattle.place_check.specs.slot_places.specs.Slots.{SlotList, amount_of}
+use Rattle.place_check.specs.slot_places.proofs.PlainSearch.{value-small}
 
 all-in_range : (line : List ℤ) → ((i : ℕ) → i < length line → InRange (slice_index_or line i (pos 0))) → AllInRange line
 all-in_range [] small = tt

@@ -1,10 +1,10 @@
 -- The rows of pricing, and those of a placement certificate: words of private contracts.
 use Rattle.std.specs.Prelude.{IsTrue}
-use Rattle.core_price.specs.declared.priced.PricedRow.{PricedRow}
-use Rattle.place_cert.specs.declared.certificate.PlaceRow.{PlaceRow}
-use Rattle.slot_places.specs.Board.{market_of}
-use Rattle.slot_places.specs.Orders.{IsPlacement}
-use Rattle.slot_places.specs.Slots.{SlotList}
+use Rattle.book_price.specs.core_price.specs.declared.priced.PricedRow.{PricedRow}
+use Rattle.place_check.specs.place_cert.specs.declared.certificate.PlaceRow.{PlaceRow}
+use Rattle.place_check.specs.slot_places.specs.Board.{market_of}
+use Rattle.place_check.specs.slot_places.specs.Orders.{IsPlacement}
+use Rattle.place_check.specs.slot_places.specs.Slots.{SlotList}
 
 abbrev pub HasAllowedChoice : SlotList → PricedRow → Type 0
 HasAllowedChoice slots r = IsTrue ((market_of slots).allowed r.choice)

@@ -1,14 +1,14 @@
 // The winners, each alone.
 ghost use Rattle.std.specs.Prelude.{◌≡◌, ◌≤◌, ◌<◌, IfOk, IsTrue, length};
-ghost use Rattle.auction_model.specs.Market.{uses, value_of};
-ghost use Rattle.choices.specs.Singles.{AreSingles, IsSingle};
+ghost use Rattle.book_price.specs.auction_model.specs.Market.{uses, value_of};
+ghost use Rattle.book_price.specs.choices.specs.Singles.{AreSingles, IsSingle};
 ghost use Rattle.place_price.specs.PlacedParts.{ArePartsOf, IsPartOf};
-ghost use Rattle.slot_places.specs.Board.{market_of};
+ghost use Rattle.place_check.specs.slot_places.specs.Board.{market_of};
 
 use crate::placing::placement;
-use choices::{Chooser, Single};
-use place_cert::{PlaceWithout, PlaceWithouts};
-use slot_places::SlotChooser;
+use book_price::choices::{Chooser, Single};
+use place_check::place_cert::{PlaceWithout, PlaceWithouts};
+use place_check::slot_places::SlotChooser;
 use std::alloc::{AllocError, Global};
 
 /// All winners in order, each alone, with the parts of the certificate without each of them.

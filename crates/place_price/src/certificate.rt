@@ -1,21 +1,21 @@
 // The certificate of the prices of slots.
 ghost use Rattle.std.specs.Prelude.{◌≡◌, IfOk, List, length};
-ghost use Rattle.cert_laws.specs.Sound.{cert_point};
-ghost use Rattle.choices.specs.declared.chooser.Single.{Single};
-ghost use Rattle.core_price.specs.Turns.{point_of};
-ghost use Rattle.place_cert.specs.CertValues.{place_cert_value};
-ghost use Rattle.place_laws.specs.PlacePriced.{IsPricedPlaceCert};
+ghost use Rattle.book_price.specs.cert_laws.specs.Sound.{cert_point};
+ghost use Rattle.book_price.specs.choices.specs.declared.chooser.Single.{Single};
+ghost use Rattle.book_price.specs.core_price.specs.Turns.{point_of};
+ghost use Rattle.place_check.specs.place_cert.specs.CertValues.{place_cert_value};
+ghost use Rattle.place_check.specs.place_laws.specs.PlacePriced.{IsPricedPlaceCert};
 ghost use Rattle.place_price.specs.Found.{AreFound};
 
 use crate::bidder_rows::all_rows;
 use crate::placing::placement;
 use crate::pricing::PricedPlaces;
-use choices::{Found, Grid};
-use core_price::{Priced, for_bidders};
-use place_cert::{PlaceCertificate, PlaceWithouts};
-use slot_places::Slots;
+use book_price::choices::{Found, Grid};
+use book_price::core_price::{Priced, for_bidders};
+use book_price::wide_num::NumList;
+use place_check::place_cert::{PlaceCertificate, PlaceWithouts};
+use place_check::slot_places::Slots;
 use std::alloc::{AllocError, Global};
-use wide_num::NumList;
 
 /// The certificate of what was found, with the turns of pricing.
 pub(crate) fn certificate(

@@ -1,31 +1,31 @@
 // From slots to their prices with their certificate.
 ghost use Rattle.std.specs.Prelude.{◌≡◌, IfOk, List, length, ℕ};
 ghost use Rattle.std.specs.List.{AllByRecursion};
-ghost use Rattle.auction_model.specs.Greatest.{IsWinning};
-ghost use Rattle.auction_model.specs.Lowered.{lowered};
-ghost use Rattle.auction_model.specs.Prices.{alike};
-ghost use Rattle.auction_model.specs.PricingRun.{IsPricingRun};
-ghost use Rattle.cert_laws.specs.Sound.{cert_point};
-ghost use Rattle.choices.specs.Singles.{AreSingles};
-ghost use Rattle.core_price.specs.Priced.{IsPriced};
-ghost use Rattle.core_price.specs.Turns.{IsPointOfTurn, turns_of};
-ghost use Rattle.core_price.specs.declared.priced.PriceStop.TheVariants.{Memory};
-ghost use Rattle.place_cert.specs.CertValues.{place_cert_value};
-ghost use Rattle.place_laws.specs.PlacePriced.{IsPricedPlaceCert};
+ghost use Rattle.book_price.specs.auction_model.specs.Greatest.{IsWinning};
+ghost use Rattle.book_price.specs.auction_model.specs.Lowered.{lowered};
+ghost use Rattle.book_price.specs.auction_model.specs.Prices.{alike};
+ghost use Rattle.book_price.specs.auction_model.specs.PricingRun.{IsPricingRun};
+ghost use Rattle.book_price.specs.cert_laws.specs.Sound.{cert_point};
+ghost use Rattle.book_price.specs.choices.specs.Singles.{AreSingles};
+ghost use Rattle.book_price.specs.core_price.specs.Priced.{IsPriced};
+ghost use Rattle.book_price.specs.core_price.specs.Turns.{IsPointOfTurn, turns_of};
+ghost use Rattle.book_price.specs.core_price.specs.declared.priced.PriceStop.TheVariants.{Memory};
+ghost use Rattle.place_check.specs.place_cert.specs.CertValues.{place_cert_value};
+ghost use Rattle.place_check.specs.place_laws.specs.PlacePriced.{IsPricedPlaceCert};
 ghost use Rattle.place_price.specs.Ones.{ones};
-ghost use Rattle.row_laws.specs.Surplus.{surpluses_of};
-ghost use Rattle.row_laws.specs.Turns.{IsLastPoint};
-ghost use Rattle.row_laws.specs.Winners.{for_bidders};
-ghost use Rattle.slot_places.specs.Board.{board_of, market_of};
-ghost use Rattle.slot_places.specs.SetTable.{IsSetTable};
-ghost use Rattle.slot_places.specs.Slots.{amount_of};
+ghost use Rattle.book_price.specs.row_laws.specs.Surplus.{surpluses_of};
+ghost use Rattle.book_price.specs.row_laws.specs.Turns.{IsLastPoint};
+ghost use Rattle.book_price.specs.row_laws.specs.Winners.{for_bidders};
+ghost use Rattle.place_check.specs.slot_places.specs.Board.{board_of, market_of};
+ghost use Rattle.place_check.specs.slot_places.specs.SetTable.{IsSetTable};
+ghost use Rattle.place_check.specs.slot_places.specs.Slots.{amount_of};
 
 use crate::alone::each_winner;
 use crate::certificate::certificate;
-use choices::{Grid, Single};
-use core_price::{PriceStop, Priced, TurnList, price};
-use place_cert::PlaceCertificate;
-use slot_places::{SlotChooser, Slots, place_best};
+use book_price::choices::{Grid, Single};
+use book_price::core_price::{PriceStop, Priced, TurnList, price};
+use place_check::place_cert::PlaceCertificate;
+use place_check::slot_places::{SlotChooser, Slots, place_best};
 use std::alloc::{AllocError, Global};
 
 /// The prices of slots: the certificate that shows them, and the turns that led to them.

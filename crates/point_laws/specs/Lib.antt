@@ -1,2 +1,3 @@
 pub mod Multipliers
 pub mod Points
+pub use Rattle.wide_num

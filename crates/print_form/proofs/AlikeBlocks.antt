@@ -2,16 +2,16 @@
 use Rattle.std.proofs.Common.{◌≡◌, ℕ, ◌<◌, ◌≤◌, Bool, true, false, not, IsTrue, Option, Some, None, List, ℤ, pos, ◌-ℤ◌, ◌*ℤ◌, ◌≤ℤ◌, ◌<ℤ◌, refl, sym, ap, subst, ◌∙◌, arith, inl, inr}
 use Rattle.std.proofs.lemmas.Int.{ints}
 use Rattle.std.proofs.Math.IntN.{*ℤ_comm}
-use Rattle.auction_model.specs.Blocks.{IsIdleSet, row_bound, excess_of, IsGreatestExcess}
-use Rattle.auction_model.specs.Lawful.{IsMarket}
-use Rattle.auction_model.specs.Lowered.{of_bidder}
-use Rattle.auction_model.specs.Market.{Market, value_of, worth_in, is_earlier}
-use Rattle.auction_model.specs.Prices.{Point, SamePoint, sum_over}
-use Rattle.auction_model.specs.PricingRun.{Block, IsBlockOf}
-use Rattle.auction_model.proofs.OrderLaws.{earlier-cases}
-use Rattle.point_laws.proofs.Order.{mul_nonneg, mul_positive}
+use Rattle.row_laws.specs.auction_model.specs.Blocks.{IsIdleSet, row_bound, excess_of, IsGreatestExcess}
+use Rattle.row_laws.specs.auction_model.specs.Lawful.{IsMarket}
+use Rattle.row_laws.specs.auction_model.specs.Lowered.{of_bidder}
+use Rattle.row_laws.specs.auction_model.specs.Market.{Market, value_of, worth_in, is_earlier}
+use Rattle.row_laws.specs.auction_model.specs.Prices.{Point, SamePoint, sum_over}
+use Rattle.row_laws.specs.auction_model.specs.PricingRun.{Block, IsBlockOf}
+use Rattle.row_laws.specs.auction_model.proofs.OrderLaws.{earlier-cases}
+use Rattle.row_laws.specs.point_laws.proofs.Order.{mul_nonneg, mul_positive}
 use Rattle.row_laws.proofs.Rows.{excess-bound, over-same}
-use Rattle.wide_num.proofs.Ints.{lin, mul-sub, mul_cancel, swap_mul}
+use Rattle.book_form.specs.wide_num.proofs.Ints.{lin, mul-sub, mul_cancel, swap_mul}
 use Rattle.print_form.proofs.AlikePoints.{IsAlike}
 use Rattle.print_form.proofs.Sums.{sums}
 

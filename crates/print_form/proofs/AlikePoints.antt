@@ -2,10 +2,10 @@
 use Rattle.std.proofs.Common.{◌≡◌, ℕ, ◌<◌, ◌≤◌, List, [], ◌∷◌, ◌++◌, ℤ, ◌*ℤ◌, ◌≤ℤ◌, ◌<ℤ◌, refl, sym, ap, arith}
 use Rattle.std.specs.List.{AllByRecursion}
 use Rattle.std.proofs.lemmas.Int.{ints, by_lt_z}
-use Rattle.auction_model.specs.Market.{Market}
-use Rattle.auction_model.specs.Lowered.{of_bidder}
-use Rattle.auction_model.specs.Prices.{Point, paid, SamePoint}
-use Rattle.auction_model.specs.PricingRun.{Row, MeetsRow, MeetsRows, IsTurnPoint}
+use Rattle.row_laws.specs.auction_model.specs.Market.{Market}
+use Rattle.row_laws.specs.auction_model.specs.Lowered.{of_bidder}
+use Rattle.row_laws.specs.auction_model.specs.Prices.{Point, paid, SamePoint}
+use Rattle.row_laws.specs.auction_model.specs.PricingRun.{Row, MeetsRow, MeetsRows, IsTurnPoint}
 use Rattle.row_laws.proofs.Rows.{over-same}
 
 -- the same bound of the same members among the bidders

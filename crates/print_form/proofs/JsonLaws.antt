@@ -4,11 +4,11 @@ use Rattle.std.proofs.lemmas.List.{append_cancel_right}
 use Rattle.serde_json.specs.Data.{Data, Members, array, member, object, string}
 use Rattle.serde_json.specs.View.{items_of}
 use Rattle.serde_json.specs.Written.{compact_text}
-use Rattle.auction_model.specs.Book.{Book, bidder_of, bid_of, market_of}
-use Rattle.auction_model.specs.Lawful.{IsMarket}
-use Rattle.auction_model.specs.Market.{Market, value_of}
-use Rattle.auction_model.specs.Prices.{Point, SamePoint, AreVickreyPrices, everyone}
-use Rattle.auction_model.specs.PricingRun.{Turn, IsPricingRun}
+use Rattle.row_laws.specs.auction_model.specs.Book.{Book, bidder_of, bid_of, market_of}
+use Rattle.row_laws.specs.auction_model.specs.Lawful.{IsMarket}
+use Rattle.row_laws.specs.auction_model.specs.Market.{Market, value_of}
+use Rattle.row_laws.specs.auction_model.specs.Prices.{Point, SamePoint, AreVickreyPrices, everyone}
+use Rattle.row_laws.specs.auction_model.specs.PricingRun.{Turn, IsPricingRun}
 use Rattle.print_form.specs.Json.{AreLastMembers, AreRounds, AreWinners, IsOutcomeJson, amount_json, winner_json, with_winners}
 use Rattle.print_form.specs.Prices.{reserve_of, gross_of}
 use Rattle.print_form.proofs.FractionLaws.{one-text}

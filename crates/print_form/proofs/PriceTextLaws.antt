@@ -1,12 +1,12 @@
 -- The text of prices depends on the points alone.
 use Rattle.std.proofs.Common.{◌≡◌, ℕ, zero, suc, ◌+◌, ◌<◌, ◌≤◌, List, [], ◌∷◌, ◌++◌, length, ℤ, pos, ◌+ℤ◌, ◌*ℤ◌, ◌≤ℤ◌, codes, sym, ap, ◌∙◌, arith}
 use Rattle.std.proofs.Math.IntN.{*ℤ_comm}
-use Rattle.auction_model.specs.Book.{Book, bidder_of, bid_of, market_of}
-use Rattle.auction_model.specs.Lowered.{of_bidder}
-use Rattle.auction_model.specs.Market.{value_of}
-use Rattle.auction_model.specs.Prices.{Point, SamePoint, everyone}
+use Rattle.row_laws.specs.auction_model.specs.Book.{Book, bidder_of, bid_of, market_of}
+use Rattle.row_laws.specs.auction_model.specs.Lowered.{of_bidder}
+use Rattle.row_laws.specs.auction_model.specs.Market.{value_of}
+use Rattle.row_laws.specs.auction_model.specs.Prices.{Point, SamePoint, everyone}
 use Rattle.print_form.specs.WinText.{net_line}
-use Rattle.wide_num.proofs.Ints.{lin, mul-add, swap_mul}
+use Rattle.book_form.specs.wide_num.proofs.Ints.{lin, mul-add, swap_mul}
 use Rattle.print_form.specs.Prices.{reserve_of, gross_of, priced_line, ArePricedLines, IsPriceText}
 use Rattle.print_form.proofs.FractionLaws.{one-text}
 use Rattle.print_form.proofs.Sums.{sums}

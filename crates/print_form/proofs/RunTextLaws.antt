@@ -2,12 +2,12 @@
 use Rattle.std.proofs.Common.{◌≡◌, ℕ, zero, suc, ◌+◌, ◌<◌, ◌≤◌, Bool, cond, Option, Some, None, List, [], ◌∷◌, ◌++◌, length, ℤ, pos, ◌*ℤ◌, ◌≤ℤ◌, codes, refl, sym, ap, ◌∙◌, subst, arith}
 use Rattle.std.specs.Fmt.{decimal}
 use Rattle.std.proofs.Math.IntN.{*ℤ_comm}
-use Rattle.auction_model.specs.Lawful.{IsMarket}
-use Rattle.auction_model.specs.Lowered.{of_bidder}
-use Rattle.auction_model.specs.Market.{Market}
-use Rattle.auction_model.specs.Prices.{Point, SamePoint, AreVickreyPrices}
-use Rattle.auction_model.specs.PricingRun.{Block, Turn, IsPricingRun, single_rows}
-use Rattle.text_lines.specs.Decimals.{decimals_text}
+use Rattle.row_laws.specs.auction_model.specs.Lawful.{IsMarket}
+use Rattle.row_laws.specs.auction_model.specs.Lowered.{of_bidder}
+use Rattle.row_laws.specs.auction_model.specs.Market.{Market}
+use Rattle.row_laws.specs.auction_model.specs.Prices.{Point, SamePoint, AreVickreyPrices}
+use Rattle.row_laws.specs.auction_model.specs.PricingRun.{Block, Turn, IsPricingRun, single_rows}
+use Rattle.book_form.specs.text_lines.specs.Decimals.{decimals_text}
 use Rattle.print_form.specs.Turns.{ArePoints, IsTurnEnd, IsTurnLine, AreTurnLines}
 use Rattle.row_laws.specs.Turns.{IsLastPoint}
 use Rattle.row_laws.specs.Winners.{members_of}

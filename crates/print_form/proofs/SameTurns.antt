@@ -1,10 +1,10 @@
 -- Two pricing runs go through the same turns.
 use Rattle.std.proofs.Common.{◌≡◌, ℕ, Option, Some, None, MatchOption, List, [], ◌∷◌, ◌++◌, ℤ, pos, ◌≤ℤ◌, sym, subst}
-use Rattle.auction_model.specs.Blocks.{IsGreatestExcess}
-use Rattle.auction_model.specs.Lawful.{IsMarket}
-use Rattle.auction_model.specs.Market.{Market}
-use Rattle.auction_model.specs.Prices.{Point, SamePoint}
-use Rattle.auction_model.specs.PricingRun.{Row, Block, Turn, IsBlockOf, GoOn}
+use Rattle.row_laws.specs.auction_model.specs.Blocks.{IsGreatestExcess}
+use Rattle.row_laws.specs.auction_model.specs.Lawful.{IsMarket}
+use Rattle.row_laws.specs.auction_model.specs.Market.{Market}
+use Rattle.row_laws.specs.auction_model.specs.Prices.{Point, SamePoint}
+use Rattle.row_laws.specs.auction_model.specs.PricingRun.{Row, Block, Turn, IsBlockOf, GoOn}
 use Rattle.print_form.proofs.AlikeBlocks.{IsSameEnd, same-block, same-turned, free-both}
 use Rattle.print_form.proofs.AlikePoints.{AreAlike, all-more, same-point}
 

@@ -3,9 +3,9 @@ use Rattle.std.proofs.Common.{◌≡◌, ℕ, zero, suc, ◌+◌, ◌*◌, List,
 use Rattle.std.specs.Fmt.{digits}
 use Rattle.serde_json.specs.Data.{Data, Members, member, object, string}
 use Rattle.serde_json.proofs.OnLiterals.{serde_json_on_literals}
-use Rattle.auction_model.specs.Book.{Book, BookBid}
-use Rattle.auction_model.specs.Prices.{Point}
-use Rattle.auction_model.specs.PricingRun.{Turn}
+use Rattle.row_laws.specs.auction_model.specs.Book.{Book, BookBid}
+use Rattle.row_laws.specs.auction_model.specs.Prices.{Point}
+use Rattle.row_laws.specs.auction_model.specs.PricingRun.{Turn}
 use Rattle.print_form.specs.Fractions.{IsFractionText, parts_text}
 use Rattle.print_form.specs.Json.{AreWinners, IsOutcomeJson, amount_json, winner_json, with_winners}
 use Rattle.print_form.specs.Prices.{IsPriceText}

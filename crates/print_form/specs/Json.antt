@@ -5,10 +5,10 @@ use Rattle.serde_json.specs.Data.{Data, Members, array, member, no_members, numb
 use Rattle.serde_json.specs.Find.{of_integer}
 use Rattle.serde_json.specs.View.{items_of}
 use Rattle.serde_json.specs.Written.{compact_text}
-use Rattle.auction_model.specs.Book.{Book, BookBid, bidder_of, bid_of, market_of}
-use Rattle.auction_model.specs.Market.{value_of}
-use Rattle.auction_model.specs.Prices.{Point}
-use Rattle.auction_model.specs.PricingRun.{Turn}
+use Rattle.row_laws.specs.auction_model.specs.Book.{Book, BookBid, bidder_of, bid_of, market_of}
+use Rattle.row_laws.specs.auction_model.specs.Market.{value_of}
+use Rattle.row_laws.specs.auction_model.specs.Prices.{Point}
+use Rattle.row_laws.specs.auction_model.specs.PricingRun.{Turn}
 use Rattle.print_form.specs.Fractions.{IsFractionText}
 use Rattle.print_form.specs.Prices.{reserve_of, gross_of, revenue_of}
 use Rattle.print_form.specs.Turns.{IsTurnLine}

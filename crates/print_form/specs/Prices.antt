@@ -2,12 +2,12 @@
 -- of a winner's package is added to its Vickrey price and to what it pays.
 use Rattle.std.specs.Prelude.{◌≡◌, ℕ, zero, suc, List, [], ◌∷◌, ◌++◌, codes, ℤ, pos, ◌+ℤ◌, ◌*ℤ◌}
 use Rattle.std.specs.Fmt.{decimal, signed_decimal}
-use Rattle.auction_model.specs.Package.{cost_of}
-use Rattle.auction_model.specs.Book.{Book, BookBid, bidder_of, bid_of, market_of}
-use Rattle.auction_model.specs.Market.{value_of, number_of}
-use Rattle.auction_model.specs.Lowered.{of_bidder}
-use Rattle.auction_model.specs.Prices.{Point, sum_over, everyone}
-use Rattle.text_lines.specs.Decimals.{decimals_text}
+use Rattle.row_laws.specs.auction_model.specs.Package.{cost_of}
+use Rattle.row_laws.specs.auction_model.specs.Book.{Book, BookBid, bidder_of, bid_of, market_of}
+use Rattle.row_laws.specs.auction_model.specs.Market.{value_of, number_of}
+use Rattle.row_laws.specs.auction_model.specs.Lowered.{of_bidder}
+use Rattle.row_laws.specs.auction_model.specs.Prices.{Point, sum_over, everyone}
+use Rattle.book_form.specs.text_lines.specs.Decimals.{decimals_text}
 use Rattle.print_form.specs.WinText.{net_line}
 use Rattle.print_form.specs.Fractions.{IsFractionText}
 

@@ -1,10 +1,10 @@
 -- What is printed of a pricing run: a line for each turn.
 use Rattle.std.specs.Prelude.{◌≡◌, ℕ, zero, suc, Option, Some, None, List, [], ◌∷◌, ◌++◌, length, codes, ℤ}
 use Rattle.std.specs.Fmt.{decimal}
-use Rattle.auction_model.specs.Lowered.{of_bidder}
-use Rattle.auction_model.specs.Prices.{Point}
-use Rattle.auction_model.specs.PricingRun.{Turn, Block}
-use Rattle.text_lines.specs.Decimals.{decimals_text}
+use Rattle.row_laws.specs.auction_model.specs.Lowered.{of_bidder}
+use Rattle.row_laws.specs.auction_model.specs.Prices.{Point}
+use Rattle.row_laws.specs.auction_model.specs.PricingRun.{Turn, Block}
+use Rattle.book_form.specs.text_lines.specs.Decimals.{decimals_text}
 use Rattle.print_form.specs.Fractions.{IsFractionText}
 use Rattle.row_laws.specs.Winners.{members_of}
 

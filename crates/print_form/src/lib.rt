@@ -5,18 +5,20 @@
 #![tactic(auto)]
 
 ghost use Rattle.std.specs.Prelude.{◌≡◌, ℕ, ◌<◌, ◌≤◌, List, Option, Some, None, length, ℤ, pos, ◌*ℤ◌, ◌≤ℤ◌};
-ghost use Rattle.auction_model.specs.Book.{Book, market_of};
-ghost use Rattle.auction_model.specs.Lawful.{IsMarket};
-ghost use Rattle.auction_model.specs.Market.{Market};
-ghost use Rattle.auction_model.specs.Prices.{Point, SamePoint};
-ghost use Rattle.auction_model.specs.PricingRun.{Turn, IsPricingRun};
+ghost use Rattle.row_laws.specs.auction_model.specs.Book.{Book, market_of};
+ghost use Rattle.row_laws.specs.auction_model.specs.Lawful.{IsMarket};
+ghost use Rattle.row_laws.specs.auction_model.specs.Market.{Market};
+ghost use Rattle.row_laws.specs.auction_model.specs.Prices.{Point, SamePoint};
+ghost use Rattle.row_laws.specs.auction_model.specs.PricingRun.{Turn, IsPricingRun};
 ghost use Rattle.print_form.specs.Fractions.{IsFractionText};
 ghost use Rattle.print_form.specs.Json.{IsOutcomeJson};
 ghost use Rattle.print_form.specs.Prices.{IsPriceText};
 ghost use Rattle.print_form.specs.Turns.{AreTurnLines};
 ghost use Rattle.row_laws.specs.Turns.{IsLastPoint};
 
-use auction_model::vickrey_prices;
+pub use book_form::text_lines;
+use row_laws::auction_model::vickrey_prices;
+pub use row_laws::far_num;
 
 /// A fraction has one text, whatever the denominator over which it is kept.
 pub fn one_fraction()

@@ -6,14 +6,14 @@ use Rattle.std.proofs.lemmas.Bool.{cases_Bool, cond-true, cond-false}
 use Rattle.std.proofs.lemmas.List.{length-map}
 use Rattle.std.proofs.lemmas.List.Sums.{sum_by-cons}
 use Rattle.std.proofs.Math.Nat.{mul-le-mul, mul-le-mul_left}
-use Rattle.auction_model.specs.Book.{BookBid}
-use Rattle.auction_model.specs.Package.{cost_of}
-use Rattle.auction_model.specs.PackageTests.{is_empty, is_same}
-use Rattle.auction_rules.specs.Rounds.{OwnRound}
-use Rattle.auction_rules.specs.State.{Round, own_of}
-use Rattle.auction_rules.specs.Caps.{no_round, clock_bid, greatest, highest}
-use Rattle.auction_model.proofs.PackageTestLaws.{is_same-refl}
-use Rattle.auction_rules.proofs.BookCaps.{greatest-append, cost_of-empty}
+use Rattle.clock_stage.specs.auction_model.specs.Book.{BookBid}
+use Rattle.clock_stage.specs.auction_model.specs.Package.{cost_of}
+use Rattle.clock_stage.specs.auction_model.specs.PackageTests.{is_empty, is_same}
+use Rattle.clock_stage.specs.auction_rules.specs.Rounds.{OwnRound}
+use Rattle.clock_stage.specs.auction_rules.specs.State.{Round, own_of}
+use Rattle.clock_stage.specs.auction_rules.specs.Caps.{no_round, clock_bid, greatest, highest}
+use Rattle.clock_stage.specs.auction_model.proofs.PackageTestLaws.{is_same-refl}
+use Rattle.clock_stage.specs.auction_rules.proofs.BookCaps.{greatest-append, cost_of-empty}
 use Rattle.relative_cap.specs.OwnRounds.{rounds_of, own_in}
 use Rattle.relative_cap.proofs.RoundLaws.{own-at}
 

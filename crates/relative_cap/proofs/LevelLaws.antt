@@ -3,12 +3,12 @@ use Rattle.std.proofs.Common.{◌≡◌, ◌⊎◌, ℕ, zero, suc, ◌+◌, ◌
 use Rattle.std.specs.Prelude.{slice_index}
 use Rattle.std.proofs.lemmas.Bool.{cases_order, cond-true, cond-false}
 use Rattle.std.proofs.lemmas.List.{length-map, length-drop, get_or-map, get_or-drop, get_or-set_same, get_or-set_other, drop_more}
-use Rattle.auction_model.specs.Book.{BookBid}
-use Rattle.auction_rules.specs.Rounds.{OwnRound}
-use Rattle.auction_rules.specs.State.{Round, own_of}
-use Rattle.auction_model.specs.PackageTests.{is_empty}
-use Rattle.auction_rules.specs.Caps.{no_round, clock_bid, greatest, highest}
-use Rattle.auction_rules.proofs.BookCaps.{greatest-append}
+use Rattle.clock_stage.specs.auction_model.specs.Book.{BookBid}
+use Rattle.clock_stage.specs.auction_rules.specs.Rounds.{OwnRound}
+use Rattle.clock_stage.specs.auction_rules.specs.State.{Round, own_of}
+use Rattle.clock_stage.specs.auction_model.specs.PackageTests.{is_empty}
+use Rattle.clock_stage.specs.auction_rules.specs.Caps.{no_round, clock_bid, greatest, highest}
+use Rattle.clock_stage.specs.auction_rules.proofs.BookCaps.{greatest-append}
 use Rattle.clock_stage.specs.Kept as kept
 use Rattle.relative_cap.specs.OwnRounds.{rounds_of, own_in, eligibility_in, IsConstraining}
 use Rattle.relative_cap.proofs.AmountLaws.{highest-is}

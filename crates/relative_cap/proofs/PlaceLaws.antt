@@ -2,10 +2,10 @@
 use Rattle.std.proofs.Common.{◌≡◌, ◌⊎◌, ℕ, zero, suc, ◌+◌, ◌<◌, ◌≤◌, true, false, List, [], ◌∷◌, length, map, get_or, refl, sym, subst, ◌∙◌, ap, inl, inr, arith}
 use Rattle.std.proofs.lemmas.Bool.{cases_Bool, cases_order}
 use Rattle.std.proofs.lemmas.List.{length-map, get_or-map, get_or_default}
-use Rattle.auction_model.specs.PackageTests.{is_same, is_before, AllAfter, InOrder}
-use Rattle.auction_rules.specs.Caps.{greatest}
-use Rattle.auction_model.proofs.PackageTestLaws.{is_same-true, is_before-not_same, is_before-trans}
-use Rattle.lots.specs.declared.«package».Bid.{Bid}
+use Rattle.clock_stage.specs.auction_model.specs.PackageTests.{is_same, is_before, AllAfter, InOrder}
+use Rattle.clock_stage.specs.auction_rules.specs.Caps.{greatest}
+use Rattle.clock_stage.specs.auction_model.proofs.PackageTestLaws.{is_same-true, is_before-not_same, is_before-trans}
+use Rattle.clock_stage.specs.lots.specs.declared.«package».Bid.{Bid}
 use Rattle.relative_cap.specs.OwnRounds.{bid_value, entry_lots}
 use Rattle.relative_cap.specs.Place.{lots_at, AreBefore, AreBehind, IsPlace}
 

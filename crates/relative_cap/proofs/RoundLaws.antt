@@ -3,11 +3,11 @@ use Rattle.std.proofs.Common.{◌≡◌, ℕ, zero, suc, ◌+◌, ◌-◌, ◌<�
 use Rattle.std.specs.Prelude.{nat_le}
 use Rattle.std.proofs.lemmas.Bool.{cases_Bool, le-leb, lt-leb}
 use Rattle.std.proofs.lemmas.List.{length-map, get_or-map}
-use Rattle.auction_rules.specs.Step.{last_or}
-use Rattle.auction_rules.specs.Rounds.{OwnRound}
-use Rattle.auction_rules.specs.State.{Round, own_of}
-use Rattle.auction_rules.specs.Caps.{no_round, last_round, constraining, enough_numbers, constraining_number, round_at}
-use Rattle.auction_rules.proofs.Constraining.{round_at-constraining_number}
+use Rattle.clock_stage.specs.auction_rules.specs.Step.{last_or}
+use Rattle.clock_stage.specs.auction_rules.specs.Rounds.{OwnRound}
+use Rattle.clock_stage.specs.auction_rules.specs.State.{Round, own_of}
+use Rattle.clock_stage.specs.auction_rules.specs.Caps.{no_round, last_round, constraining, enough_numbers, constraining_number, round_at}
+use Rattle.clock_stage.specs.auction_rules.proofs.Constraining.{round_at-constraining_number}
 use Rattle.clock_stage.specs.Kept as kept
 use Rattle.relative_cap.specs.OwnRounds.{rounds_of, own_in, IsConstraining}
 

@@ -6,15 +6,15 @@ use Rattle.std.proofs.lemmas.Bool.{cases_Bool, cases_order, cond-true, cond-fals
 use Rattle.std.proofs.lemmas.List.{append_assoc, length-append, length-map, length-set, length-take, length-take-le, map-append, map-set, get_or-map, get_or-set_same, get_or-set_other, take_all, take_at, take_more, take_more_set, take-map}
 use Rattle.std.proofs.lemmas.List.Edits.{length-remove}
 use Rattle.std.proofs.lemmas.List.Elements.{All-append, All-cons, All-take, All-drop}
-use Rattle.auction_model.specs.Book.{BookBid}
-use Rattle.auction_model.specs.Package.{cost_of}
-use Rattle.auction_model.specs.PackageTests.{is_empty, is_same}
-use Rattle.auction_rules.specs.Rounds.{OwnRound}
-use Rattle.auction_rules.specs.State.{Round, own_of}
-use Rattle.auction_rules.specs.Caps.{clock_bid, greatest, highest, cap_by, cap_among, cap_of, last_round}
-use Rattle.auction_model.proofs.PackageTestLaws.{is_same-true, is_same-refl}
-use Rattle.auction_rules.proofs.BookCaps.{greatest-append}
-use Rattle.lots.specs.declared.«package».Bid.{Bid}
+use Rattle.clock_stage.specs.auction_model.specs.Book.{BookBid}
+use Rattle.clock_stage.specs.auction_model.specs.Package.{cost_of}
+use Rattle.clock_stage.specs.auction_model.specs.PackageTests.{is_empty, is_same}
+use Rattle.clock_stage.specs.auction_rules.specs.Rounds.{OwnRound}
+use Rattle.clock_stage.specs.auction_rules.specs.State.{Round, own_of}
+use Rattle.clock_stage.specs.auction_rules.specs.Caps.{clock_bid, greatest, highest, cap_by, cap_among, cap_of, last_round}
+use Rattle.clock_stage.specs.auction_model.proofs.PackageTestLaws.{is_same-true, is_same-refl}
+use Rattle.clock_stage.specs.auction_rules.proofs.BookCaps.{greatest-append}
+use Rattle.clock_stage.specs.lots.specs.declared.«package».Bid.{Bid}
 use Rattle.relative_cap.specs.declared.terms.RoundTerms.{RoundTerms}
 use Rattle.relative_cap.specs.declared.terms.PackageTerms.{PackageTerms}
 use Rattle.relative_cap.specs.declared.entries.TestedEntry.{TestedEntry}

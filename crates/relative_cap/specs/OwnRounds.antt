@@ -1,11 +1,11 @@
 -- The rounds of a history as one bidder has them, and its entries.
 use Rattle.std.specs.Prelude.{ℕ, ◌+◌, ◌-◌, ◌≤◌, ◌<◌, List, length, map, slice_index, if◌then◌else◌}
-use Rattle.auction_model.specs.Book.{BookBid}
-use Rattle.auction_model.specs.Package.{cost_of}
-use Rattle.auction_model.specs.PackageTests.{is_same}
-use Rattle.auction_rules.specs.Rounds.{OwnRound}
-use Rattle.auction_rules.specs.State.{Round, own_of}
-use Rattle.lots.specs.declared.«package».Bid.{Bid}
+use Rattle.clock_stage.specs.auction_model.specs.Book.{BookBid}
+use Rattle.clock_stage.specs.auction_model.specs.Package.{cost_of}
+use Rattle.clock_stage.specs.auction_model.specs.PackageTests.{is_same}
+use Rattle.clock_stage.specs.auction_rules.specs.Rounds.{OwnRound}
+use Rattle.clock_stage.specs.auction_rules.specs.State.{Round, own_of}
+use Rattle.clock_stage.specs.lots.specs.declared.«package».Bid.{Bid}
 use Rattle.clock_stage.specs.Kept.{round_at}
 
 -- the rounds of bidder j

@@ -1,10 +1,10 @@
 -- What the closed rounds say of the cap of one package, whatever the list is. Places are counted from 0.
 use Rattle.std.specs.Prelude.{◌≡◌, ℕ, suc, ◌≤◌, List, [], ◌∷◌, length, if◌then◌else◌}
-use Rattle.limits.specs.declared.TheConstants.{MOST_AMOUNT}
-use Rattle.auction_model.specs.Package.{cost_of}
-use Rattle.auction_model.specs.PackageTests.{is_empty, is_same}
-use Rattle.auction_rules.specs.Rounds.{OwnRound}
-use Rattle.auction_rules.specs.State.{Round}
+use Rattle.clock_stage.specs.limits.specs.declared.TheConstants.{MOST_AMOUNT}
+use Rattle.clock_stage.specs.auction_model.specs.Package.{cost_of}
+use Rattle.clock_stage.specs.auction_model.specs.PackageTests.{is_empty, is_same}
+use Rattle.clock_stage.specs.auction_rules.specs.Rounds.{OwnRound}
+use Rattle.clock_stage.specs.auction_rules.specs.State.{Round}
 use Rattle.relative_cap.specs.declared.terms.RoundTerms.{RoundTerms}
 use Rattle.relative_cap.specs.declared.terms.PackageTerms.{PackageTerms}
 use Rattle.relative_cap.specs.OwnRounds.{rounds_of, own_in, IsConstraining}

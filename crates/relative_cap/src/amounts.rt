@@ -1,8 +1,8 @@
 // Greatest amounts.
 ghost use Rattle.std.specs.Prelude.{◌≡◌, ◌≤◌, All, length, map};
-ghost use Rattle.limits.specs.declared.TheConstants.{MOST_AMOUNT};
-ghost use Rattle.auction_rules.specs.Caps.{clock_bid, greatest, highest};
-ghost use Rattle.auction_model.specs.PackageTests.{InOrder};
+ghost use Rattle.clock_stage.specs.limits.specs.declared.TheConstants.{MOST_AMOUNT};
+ghost use Rattle.clock_stage.specs.auction_rules.specs.Caps.{clock_bid, greatest, highest};
+ghost use Rattle.clock_stage.specs.auction_model.specs.PackageTests.{InOrder};
 ghost use Rattle.clock_stage.specs.Kept.{IsHeld, categories_in};
 ghost use Rattle.relative_cap.specs.Asked.{IsBidderOf, IsEntry};
 ghost use Rattle.relative_cap.specs.Place.{IsPlace};
@@ -10,7 +10,7 @@ ghost use Rattle.relative_cap.specs.OwnRounds.{amount_for, bid_value, entry_lots
 
 use crate::packages::{is_before, is_same};
 use clock_stage::History;
-use lots::{Bid, Package};
+use clock_stage::lots::{Bid, Package};
 
 /// The amount of the clock bid of bidder `j` in round `r` where it is for the package, and else 0.
 fn clock_amount(history: &History, j: u16, r: u32, package: &Package) -> u64

@@ -1,9 +1,9 @@
 // Caps, and the first entry above its cap.
 ghost use Rattle.std.specs.Prelude.{◌≡◌, ◌-◌, ◌≤◌, ◌<◌, ◌^◌, [], All, length, map, option_map, slice_index};
-ghost use Rattle.limits.specs.declared.TheConstants.{MOST_AMOUNT};
-ghost use Rattle.auction_model.specs.Package.{cost_of};
-ghost use Rattle.auction_rules.specs.Caps.{cap_by, cap_of, excess_cap, list_fault};
-ghost use Rattle.auction_model.specs.PackageTests.{InOrder};
+ghost use Rattle.clock_stage.specs.limits.specs.declared.TheConstants.{MOST_AMOUNT};
+ghost use Rattle.clock_stage.specs.auction_model.specs.Package.{cost_of};
+ghost use Rattle.clock_stage.specs.auction_rules.specs.Caps.{cap_by, cap_of, excess_cap, list_fault};
+ghost use Rattle.clock_stage.specs.auction_model.specs.PackageTests.{InOrder};
 ghost use Rattle.clock_stage.specs.Kept.{IsHeld, categories_in};
 ghost use Rattle.relative_cap.specs.Asked.{ArePoints, IsBidderOf, IsEligible, IsEntry};
 ghost use Rattle.relative_cap.specs.Levels.{AreLevels, IsHigh};
@@ -16,8 +16,8 @@ use crate::levels::{fill_levels, high_over, last_peak};
 use crate::packages::is_same;
 use crate::rounds::constraining_round;
 use clock_stage::History;
-use limits::MOST_ROUNDS;
-use lots::{Bid, Package};
+use clock_stage::limits::MOST_ROUNDS;
+use clock_stage::lots::{Bid, Package};
 
 /// What the package may cost by round `r`: the highest amount for what bidder `j` held in it, which is given, and the price of the
 /// difference.

@@ -1,6 +1,6 @@
 // The entries of a list that was tested.
 ghost use Rattle.std.specs.Prelude.{◌≡◌, ◌≤◌, ◌<◌, [], All, IfOk, OnOk, length, map, slice_index_or, take, true};
-ghost use Rattle.limits.specs.declared.TheConstants.{MOST_AMOUNT};
+ghost use Rattle.clock_stage.specs.limits.specs.declared.TheConstants.{MOST_AMOUNT};
 ghost use Rattle.clock_stage.specs.Kept.{categories_in};
 ghost use Rattle.relative_cap.specs.Asked.{ArePoints, IsBidderOf, IsEligible, IsEntry};
 ghost use Rattle.relative_cap.specs.Levels.{ArePeaks};
@@ -10,7 +10,7 @@ ghost use Rattle.relative_cap.specs.Tested.{IsPutAt, IsTested, tested_bid, teste
 use crate::packages::{is_before, is_same};
 use crate::terms::{PackageTerms, package_terms};
 use clock_stage::History;
-use lots::{Bid, Package};
+use clock_stage::lots::{Bid, Package};
 use std::alloc::{AllocError, Global};
 
 /// An entry of a list with what the closed rounds say of the cap of its package.

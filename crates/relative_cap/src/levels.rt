@@ -1,6 +1,6 @@
 // What the closed rounds say of the caps of a bidder, whatever its list is.
 ghost use Rattle.std.specs.Prelude.{◌≡◌, ◌+◌, ◌-◌, ◌≤◌, ◌<◌, ◌^◌, [], All, length, map, slice_index};
-ghost use Rattle.auction_model.specs.PackageTests.{InOrder};
+ghost use Rattle.clock_stage.specs.auction_model.specs.PackageTests.{InOrder};
 ghost use Rattle.clock_stage.specs.Kept.{categories_in};
 ghost use Rattle.relative_cap.specs.Asked.{IsBidderOf, IsEntry};
 ghost use Rattle.relative_cap.specs.Levels.{AreLevels, IsHigh, IsLastEnough};
@@ -8,7 +8,7 @@ ghost use Rattle.relative_cap.specs.OwnRounds.{entry_lots, bid_value};
 
 use crate::amounts::{amount_listed, highest};
 use clock_stage::History;
-use lots::Bid;
+use clock_stage::lots::Bid;
 
 /// Works out the levels of bidder `j`, from the last round to the first: the greatest eligibility from each round on, and for each
 /// round the greatest clock bid for what the bidder held in it.

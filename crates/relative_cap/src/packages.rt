@@ -1,8 +1,8 @@
 // Tests of packages.
 ghost use Rattle.std.specs.Prelude.{◌≡◌, length};
-ghost use Rattle.auction_model.specs.PackageTests.{is_before, is_same};
+ghost use Rattle.clock_stage.specs.auction_model.specs.PackageTests.{is_before, is_same};
 
-use lots::Package;
+use clock_stage::lots::Package;
 
 /// Whether two packages of as many categories have the same counts.
 pub fn is_same(package: &Package, other: &Package) -> bool

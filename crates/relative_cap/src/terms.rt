@@ -1,6 +1,6 @@
 // What the closed rounds say of the cap of one package.
 ghost use Rattle.std.specs.Prelude.{◌≡◌, ◌≤◌, length};
-ghost use Rattle.auction_model.specs.Package.{cost_of};
+ghost use Rattle.clock_stage.specs.auction_model.specs.Package.{cost_of};
 ghost use Rattle.clock_stage.specs.Kept.{IsHeld, categories_in};
 ghost use Rattle.relative_cap.specs.Asked.{ArePoints, IsBidderOf};
 ghost use Rattle.relative_cap.specs.Levels.{ArePeaks};
@@ -10,7 +10,7 @@ ghost use Rattle.relative_cap.specs.RoundsOfPackage.{IsRoundTerms, IsTerms, firs
 use crate::levels::last_peak;
 use crate::packages::is_same;
 use clock_stage::History;
-use lots::Package;
+use clock_stage::lots::Package;
 
 /// What one round says of the cap of a package, in whole units of money.
 #[derive(Clone, Copy)]

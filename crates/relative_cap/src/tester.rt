@@ -1,8 +1,8 @@
 // Tests of the lists of one bidder, one after another.
 ghost use Rattle.std.specs.Prelude.{◌≡◌, ◌<◌, ◌^◌, [], ℕ, List, Option, All, IfOk, length, map, option_map};
-ghost use Rattle.auction_rules.specs.Caps.{first_excess, list_fault};
-ghost use Rattle.auction_model.specs.PackageTests.{InOrder};
-ghost use Rattle.auction_rules.specs.State.{Round};
+ghost use Rattle.clock_stage.specs.auction_rules.specs.Caps.{first_excess, list_fault};
+ghost use Rattle.clock_stage.specs.auction_model.specs.PackageTests.{InOrder};
+ghost use Rattle.clock_stage.specs.auction_rules.specs.State.{Round};
 ghost use Rattle.clock_stage.specs.Kept.{categories_in};
 ghost use Rattle.relative_cap.specs.Asked.{ArePoints, IsBidderOf, IsEligible, IsEntry};
 ghost use Rattle.relative_cap.specs.Answer.{cap_value, excess_value};
@@ -16,7 +16,7 @@ use crate::entries::{TestedEntry, follow};
 use crate::levels::fill_levels;
 use crate::terms::{PackageTerms, RoundTerms};
 use clock_stage::History;
-use lots::Bid;
+use clock_stage::lots::Bid;
 use std::alloc::{AllocError, Global};
 use std::marker::Model;
 

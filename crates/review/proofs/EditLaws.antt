@@ -2,9 +2,9 @@
 use Rattle.std.specs.Prelude.{◌≡◌, ℕ, ◌+◌, ◌-◌, ◌≤◌, ◌<◌, Bool, IsTrue, List, [], length, get_or, ℤ, ◌≤ℤ◌, refl}
 use Rattle.std.proofs.Common.{sym, ◌∙◌, ap, subst, arith}
 use Rattle.std.proofs.lemmas.Int.{ints}
-use Rattle.auction_model.specs.Book.{Book, BookBid}
-use Rattle.auction_model.specs.Greatest.{IsFirstGreatest, IsGreatestValue, IsWinning}
-use Rattle.bid_book.specs.Changes.{with_bids}
+use Rattle.value_table.specs.auction_model.specs.Book.{Book, BookBid}
+use Rattle.value_table.specs.auction_model.specs.Greatest.{IsFirstGreatest, IsGreatestValue, IsWinning}
+use Rattle.value_table.specs.bid_book.specs.Changes.{with_bids}
 use Rattle.review.specs.declared.edit.Edit.{Edit}
 use Rattle.review.specs.declared.edit.Edit.TheVariants.{Add, Raise, Remove}
 use Rattle.review.specs.Edits.{edit_bidder, edited}

@@ -4,10 +4,10 @@ use Rattle.std.proofs.Common.{inl, inr, set, sym, ◌∙◌, ap, subst, arith, V
 use Rattle.std.proofs.lemmas.Bool.{cases_order}
 use Rattle.std.proofs.lemmas.List.{get_or-map, get_or_default, get_or-set_other, get_or-set_same, get_or-replicate, length-map, length-replicate, map-set, set-set}
 use Rattle.std.proofs.Math.ListN.{length-set}
-use Rattle.auction_model.specs.Book.{Book, menu_of, net_of}
-use Rattle.auction_model.specs.Place.{left_at, states_of}
-use Rattle.auction_model.specs.Table.{IsEntry}
-use Rattle.auction_model.proofs.LineLaws.{line-last}
+use Rattle.value_table.specs.auction_model.specs.Book.{Book, menu_of, net_of}
+use Rattle.value_table.specs.auction_model.specs.Place.{left_at, states_of}
+use Rattle.value_table.specs.auction_model.specs.Table.{IsEntry}
+use Rattle.value_table.specs.auction_model.proofs.LineLaws.{line-last}
 use Rattle.value_table.specs.SideLines.{IsLeftLine, IsRightLine}
 use Rattle.value_table.specs.Turned.{in_order, worths_in_order}
 use Rattle.value_table.proofs.LineLaws.{line-left}

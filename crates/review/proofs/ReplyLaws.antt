@@ -4,12 +4,12 @@ use Rattle.std.proofs.Common.{inl, inr, sym, ◌∙◌, ap, subst, arith}
 use Rattle.std.proofs.lemmas.Bool.{cases_Bool}
 use Rattle.std.proofs.lemmas.Bool.Decides.{nat_tests}
 use Rattle.std.proofs.lemmas.Int.{ints}
-use Rattle.auction_model.specs.Book.{Book, BookBid, bid_of, bids_of, lots_of, no_bid}
-use Rattle.auction_model.specs.Package.{cost_of, is_within}
-use Rattle.auction_model.specs.PackageTests.{first_over, is_empty, is_same}
-use Rattle.auction_model.proofs.PackageTestLaws.{first_over-within, is_same-refl, is_same-true}
-use Rattle.bid_book.specs.Changes.{CanPut, IsBidFor}
-use Rattle.bid_book.specs.Kept.{IsBidBook}
+use Rattle.value_table.specs.auction_model.specs.Book.{Book, BookBid, bid_of, bids_of, lots_of, no_bid}
+use Rattle.value_table.specs.auction_model.specs.Package.{cost_of, is_within}
+use Rattle.value_table.specs.auction_model.specs.PackageTests.{first_over, is_empty, is_same}
+use Rattle.value_table.specs.auction_model.proofs.PackageTestLaws.{first_over-within, is_same-refl, is_same-true}
+use Rattle.value_table.specs.bid_book.specs.Changes.{CanPut, IsBidFor}
+use Rattle.value_table.specs.bid_book.specs.Kept.{IsBidBook}
 use Rattle.review.specs.declared.edit.Edit.{Edit}
 use Rattle.review.specs.declared.edit.Edit.TheVariants.{Add, Raise, Remove}
 use Rattle.review.specs.declared.edit.EditReply.{EditReply}

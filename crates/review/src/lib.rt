@@ -9,3 +9,5 @@ mod tracing;
 
 pub use edit::{Edit, EditReply};
 pub use review::Review;
+pub use value_table;
+pub use value_table::{auction_model, bid_book, limits, line_text, lots, text_lines, wide_num};

@@ -2,9 +2,9 @@
 ghost use Rattle.std.specs.Prelude.{◌≡◌, ℕ, ◌+◌, ◌-◌, ◌≤◌, ◌<◌, IfOk, length, pos, replicate};
 ghost use Rattle.review.specs.ReviewValue.{AreLeftLines, AreRightLines, lines_of};
 
-use bid_book::BidBook;
 use std::alloc::{AllocError, Global};
 use std::mem;
+use value_table::bid_book::BidBook;
 use value_table::{left_line, right_line};
 
 /// So many lines of so many zeros.

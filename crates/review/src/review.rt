@@ -1,21 +1,21 @@
 // Reviews.
 ghost use Rattle.std.specs.Prelude.{◌≡◌, ◌≢◌, ◌⊎◌, ◌≤◌, ◌<◌, IfOk, None, OnErr, OnOk, length};
-ghost use Rattle.auction_model.specs.Book.{bids_of, market_of};
-ghost use Rattle.auction_model.specs.Greatest.{IsWinning};
-ghost use Rattle.auction_model.specs.Market.{value_of};
-ghost use Rattle.auction_model.specs.Entries.{without_entry};
-ghost use Rattle.bid_book.specs.Changes.{CanPut, with_bids, with_put};
+ghost use Rattle.value_table.specs.auction_model.specs.Book.{bids_of, market_of};
+ghost use Rattle.value_table.specs.auction_model.specs.Greatest.{IsWinning};
+ghost use Rattle.value_table.specs.auction_model.specs.Market.{value_of};
+ghost use Rattle.value_table.specs.auction_model.specs.Entries.{without_entry};
+ghost use Rattle.value_table.specs.bid_book.specs.Changes.{CanPut, with_bids, with_put};
 ghost use Rattle.review.specs.Edits.{amount_for, edit_bidder, edit_lots, edit_reply, edited};
 
 use crate::edit::{Edit, EditReply};
 use crate::lines::{renew_left, renew_right, zero_lines};
 use crate::replies::{bid_for, reply_to};
 use crate::tracing::trace;
-use bid_book::{BidBook, rules_with_bid};
-use choices::{Choice, Numbers};
-use lots::{Bid, Package};
 use std::alloc::{AllocError, Global};
 use std::marker::Model;
+use value_table::bid_book::{BidBook, rules_with_bid};
+use value_table::choices::{Choice, Numbers};
+use value_table::lots::{Bid, Package};
 
 /// A book with its winning choice, which are kept through edits of single bids. An edit of bidder `k` works out only the lines of the
 /// bidders after each bidder below `k`, and those of the bidders up to each bidder from `k` on.

@@ -1,9 +1,9 @@
 -- What the lines of edits add to a text.
 use Rattle.std.proofs.Common.{◌≡◌, ℕ, suc, ◌+◌, ◌≤◌, ◌<◌, List, [], ◌∷◌, ◌++◌, length, get_or, drop, refl, sym, ap, subst, ◌∙◌, arith, append_assoc, drop-cons}
 use Rattle.std.proofs.lemmas.List.{append-nil, drop_all}
-use Rattle.auction_model.specs.Book.{Book, market_of}
-use Rattle.auction_model.specs.Greatest.{IsWinning}
-use Rattle.print_form.specs.WinText.{win_text}
+use Rattle.review.specs.auction_model.specs.Book.{Book, market_of}
+use Rattle.review.specs.auction_model.specs.Greatest.{IsWinning}
+use Rattle.outcome.specs.print_form.specs.WinText.{win_text}
 use Rattle.review.specs.Edits.{edit_reply}
 use Rattle.review.specs.declared.edit.Edit.{Edit}
 use Rattle.review.specs.declared.edit.Edit.TheVariants.{Add, Raise, Remove}

@@ -1,15 +1,15 @@
 -- What is printed of a review: a line for the book, a line for each edit, and the winners behind the last.
 use Rattle.std.specs.Prelude.{◌≡◌, ℕ, suc, List, [], ◌∷◌, ◌++◌, codes}
 use Rattle.std.specs.Fmt.{decimal, signed_decimal}
-use Rattle.auction_model.specs.Book.{Book, market_of}
-use Rattle.auction_model.specs.Greatest.{IsWinning}
-use Rattle.auction_model.specs.Market.{value_of}
-use Rattle.print_form.specs.WinText.{win_text}
+use Rattle.review.specs.auction_model.specs.Book.{Book, market_of}
+use Rattle.review.specs.auction_model.specs.Greatest.{IsWinning}
+use Rattle.review.specs.auction_model.specs.Market.{value_of}
+use Rattle.outcome.specs.print_form.specs.WinText.{win_text}
 use Rattle.review.specs.Edits.{edit_reply, edited}
 use Rattle.review.specs.declared.edit.Edit.{Edit}
 use Rattle.review.specs.declared.edit.EditReply.{EditReply}
 use Rattle.review.specs.declared.edit.EditReply.TheVariants as reply
-use Rattle.text_lines.specs.Decimals.{decimals_text}
+use Rattle.review.specs.text_lines.specs.Decimals.{decimals_text}
 
 -- a word and a number
 abbrev pub worded : List ℕ → ℕ → List ℕ

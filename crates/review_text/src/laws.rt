@@ -1,13 +1,13 @@
 // What holds of the text of a review, whoever writes it.
 ghost use Rattle.std.specs.Prelude.{◌≡◌, ℕ, List, length};
 ghost use Rattle.std.specs.List.{AllByRecursion};
-ghost use Rattle.auction_model.specs.Book.{Book};
-ghost use Rattle.book_form.specs.BookLines.{IsBookWithinLimits};
+ghost use Rattle.review.specs.auction_model.specs.Book.{Book};
+ghost use Rattle.review.specs.book_form.specs.BookLines.{IsBookWithinLimits};
 ghost use Rattle.review.specs.Edits.{edit_lots};
 ghost use Rattle.review.specs.declared.edit.Edit.{Edit};
 ghost use Rattle.review_text.specs.ReviewText.{IsReviewText};
 
-use auction_model::{book_market, winning_choice};
+use review::auction_model::{book_market, winning_choice};
 
 /// The edits of a book within the limits, whose packages have the book's number of categories, have one text.
 pub fn one_review_text()

@@ -6,4 +6,7 @@ mod lines;
 mod text;
 
 pub use laws::one_review_text;
+pub use outcome::blocking;
+pub use review;
+pub use review::value_table;
 pub use text::review_text;

@@ -3,10 +3,10 @@ ghost use Rattle.std.specs.Prelude.{◌≡◌, ◌∷◌, ◌++◌, List, ℕ, O
 ghost use Rattle.std.specs.Fmt.{decimal};
 ghost use Rattle.review_text.specs.ReviewText.{IsStateLine, refusal_text, worded};
 
+use review::text_lines::{add_decimal, add_number, add_numbers, add_signed};
+use review::wide_num::Text;
 use review::{EditReply, Review};
 use std::alloc::AllocError;
-use text_lines::{add_decimal, add_number, add_numbers, add_signed};
-use wide_num::Text;
 
 /// Adds the line of this number for the book as it is: its net value and its winning choice.
 pub fn add_state(text: &mut Text, n: u64, review: &Review) -> Result<(), AllocError>

@@ -5,11 +5,11 @@ ghost use Rattle.review.specs.Edits.{edit_lots, edit_reply};
 ghost use Rattle.review_text.specs.ReviewText.{IsReplyLine, IsReviewText, behind};
 
 use crate::lines::{add_refusal, add_state};
-use bid_book::BidBook;
 use outcome::win_text;
+use review::bid_book::BidBook;
+use review::wide_num::Text;
 use review::{Edit, EditReply, Review};
 use std::alloc::{AllocError, Global};
-use wide_num::Text;
 
 /// What is printed of the edits of a book: a line for the book as it is, a line for each edit in order, which is taken or refused, and
 /// the winners of the book behind the last. Each edit's package has the book's number of categories. The only error is want of memory.

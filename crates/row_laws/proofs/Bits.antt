@@ -8,8 +8,8 @@ use native.Mathlib.Nat.{div-div-eq-div-mul, pow-suc, div-one}
 use Rattle.auction_model.specs.Prices.{sum_over}
 use Rattle.auction_model.specs.Lowered.{of_bidder}
 use Rattle.auction_model.specs.Market.{uses}
-use Rattle.wide_num.specs.Sums.{nth, total, dot}
-use Rattle.wide_num.proofs.Sums.{total-same, total-first}
+use Rattle.far_num.specs.wide_num.specs.Sums.{nth, total, dot}
+use Rattle.far_num.specs.wide_num.proofs.Sums.{total-same, total-first}
 use Rattle.far_num.specs.Members.{holds}
 use Rattle.row_laws.specs.Winners.{winners_in, for_bidders, has_bit, bits_after, row_of}
 use Rattle.row_laws.proofs.Sums.{over-is}

@@ -10,8 +10,8 @@ use Rattle.auction_model.specs.Blocks.{IsIdleSet, row_bound, excess_of, IsTakenB
 use Rattle.auction_model.specs.PricingRun.{MeetsRow}
 use Rattle.far_num.specs.Members.{holds}
 use Rattle.far_num.specs.declared.Row.{Row}
-use Rattle.wide_num.specs.Sums.{nth, dot}
-use Rattle.wide_num.proofs.Ints.{mul-add}
+use Rattle.far_num.specs.wide_num.specs.Sums.{nth, dot}
+use Rattle.far_num.specs.wide_num.proofs.Ints.{mul-add}
 use Rattle.point_laws.proofs.Order.{mul_nonneg}
 use Rattle.row_laws.specs.Winners.{winners_in, for_bidders, for_winners, row_of}
 use Rattle.row_laws.specs.Rows.{row_in, HasWinners, IsGivenBy, Meets}

@@ -9,8 +9,8 @@ use Rattle.auction_model.specs.Lawful.{IsMarket}
 use Rattle.auction_model.specs.Lowered.{of_bidder, lowered}
 use Rattle.auction_model.specs.Prices.{Point, sum_over, everyone, paid, offer, IsUnblocked}
 use Rattle.auction_model.specs.Blocks.{IsIdleSet, excess_of, IsTakenBlock}
-use Rattle.wide_num.specs.Sums.{total}
-use Rattle.wide_num.proofs.Sums.{total-same, total-zero, total-add, total-scale}
+use Rattle.far_num.specs.wide_num.specs.Sums.{total}
+use Rattle.far_num.specs.wide_num.proofs.Sums.{total-same, total-zero, total-add, total-scale}
 use Rattle.point_laws.proofs.Sums.{total-sub, total-le}
 use Rattle.row_laws.specs.Winners.{idle_row}
 use Rattle.row_laws.proofs.Sums.{over-is, choice-is, total-lt}

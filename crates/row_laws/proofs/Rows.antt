@@ -8,9 +8,9 @@ use Rattle.auction_model.specs.Lawful.{IsMarket}
 use Rattle.auction_model.specs.Lowered.{of_bidder, lowered}
 use Rattle.auction_model.specs.Prices.{Point, sum_over, paid}
 use Rattle.auction_model.specs.Blocks.{IsIdleSet, excess_of, row_bound, IsTakenBlock}
-use Rattle.wide_num.specs.Sums.{total}
-use Rattle.wide_num.proofs.Ints.{mul-add}
-use Rattle.wide_num.proofs.Sums.{total-same, total-zero, total-scale}
+use Rattle.far_num.specs.wide_num.specs.Sums.{total}
+use Rattle.far_num.specs.wide_num.proofs.Ints.{mul-add}
+use Rattle.far_num.specs.wide_num.proofs.Sums.{total-same, total-zero, total-scale}
 use Rattle.point_laws.proofs.Order.{mul_nonneg, cancel_nonneg}
 use Rattle.row_laws.specs.Winners.{idle_row, row_of, bits_after, has_bit}
 use Rattle.row_laws.proofs.Sums.{over-is, choice-is}

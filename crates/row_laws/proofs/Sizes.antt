@@ -8,7 +8,7 @@ use Rattle.auction_model.specs.Market.{Market, value_of, number_of, worth_in}
 use Rattle.auction_model.specs.Lawful.{IsMarket}
 use Rattle.auction_model.specs.Lowered.{of_bidder}
 use Rattle.auction_model.specs.Prices.{Point, everyone, paid}
-use Rattle.wide_num.specs.Sums.{total}
+use Rattle.far_num.specs.wide_num.specs.Sums.{total}
 use Rattle.point_laws.proofs.Sums.{term-le, total-nonneg}
 use Rattle.row_laws.proofs.Sums.{over-is, choice-is}
 

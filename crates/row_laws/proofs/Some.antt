@@ -9,9 +9,9 @@ use Rattle.auction_model.specs.Lawful.{IsMarket}
 use Rattle.auction_model.specs.Lowered.{of_bidder}
 use Rattle.auction_model.specs.Prices.{Point}
 use Rattle.auction_model.specs.Blocks.{IsTakenBlock, row_bound}
-use Rattle.wide_num.specs.Sums.{total}
-use Rattle.wide_num.proofs.Ints.{mul-add}
-use Rattle.wide_num.proofs.Sums.{total-zero}
+use Rattle.far_num.specs.wide_num.specs.Sums.{total}
+use Rattle.far_num.specs.wide_num.proofs.Ints.{mul-add}
+use Rattle.far_num.specs.wide_num.proofs.Sums.{total-zero}
 use Rattle.point_laws.proofs.Order.{mul_nonneg}
 use Rattle.row_laws.proofs.Rows.{excess-bound, excess-same}
 use Rattle.row_laws.proofs.Sums.{choice-is, over-is}

@@ -5,8 +5,8 @@ use Rattle.std.proofs.lemmas.Int.{ints}
 use Rattle.std.proofs.lemmas.Bool.{cases_lt}
 use Rattle.auction_model.specs.Market.{sum_after, number_of}
 use Rattle.auction_model.specs.Prices.{sum_over}
-use Rattle.wide_num.specs.Sums.{total}
-use Rattle.wide_num.proofs.Sums.{total-same, total-first}
+use Rattle.far_num.specs.wide_num.specs.Sums.{total}
+use Rattle.far_num.specs.wide_num.proofs.Sums.{total-same, total-first}
 use Rattle.point_laws.proofs.Sums.{total-le}
 
 -- a sum over the bidders that pass is a total over the numbers from 0, where others count 0

@@ -7,8 +7,8 @@ use Rattle.std.proofs.lemmas.Bool.{cases_lt}
 use Rattle.auction_model.specs.Market.{uses}
 use Rattle.auction_model.specs.Prices.{sum_over, everyone}
 use Rattle.auction_model.specs.Lowered.{of_bidder}
-use Rattle.wide_num.specs.Sums.{nth, total}
-use Rattle.wide_num.proofs.Sums.{total-same, total-first}
+use Rattle.far_num.specs.wide_num.specs.Sums.{nth, total}
+use Rattle.far_num.specs.wide_num.proofs.Sums.{total-same, total-first}
 use Rattle.point_laws.proofs.Order.{zero_or}
 use Rattle.row_laws.specs.Winners.{winners_in, for_bidders, for_winners}
 use Rattle.row_laws.proofs.Sums.{over-is}

@@ -2,7 +2,7 @@
 use Rattle.std.specs.Prelude.{◌≡◌, ℕ, ◌^◌, ◌<◌, IsTrue, List, ℤ, ◌*ℤ◌, ◌≤ℤ◌}
 use Rattle.far_num.specs.Members.{holds}
 use Rattle.far_num.specs.declared.Row.{Row}
-use Rattle.wide_num.specs.Sums.{nth, dot}
+use Rattle.far_num.specs.wide_num.specs.Sums.{nth, dot}
 use Rattle.auction_model.specs.Market.{Market}
 use Rattle.auction_model.specs.Blocks.{IsIdleSet, row_bound}
 use Rattle.auction_model.specs.PricingRun.{Row as BidderRow}

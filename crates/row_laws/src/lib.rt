@@ -17,10 +17,14 @@ ghost use Rattle.auction_model.specs.Prices.{Point, paid, sum_over, IsUnblocked,
 ghost use Rattle.auction_model.specs.Blocks.{row_bound, IsTakenBlock};
 ghost use Rattle.far_num.specs.Members.{holds};
 ghost use Rattle.far_num.specs.declared.Row.{Row};
-ghost use Rattle.wide_num.specs.Sums.{nth, dot};
+ghost use Rattle.far_num.specs.wide_num.specs.Sums.{nth, dot};
 ghost use Rattle.row_laws.specs.Winners.{winners_in, for_bidders, for_winners, row_of, bits_after, idle_row};
 ghost use Rattle.row_laws.specs.Surplus.{lowered_sum, AsksWinnersOnly};
 ghost use Rattle.row_laws.specs.Rows.{HasWinners, IsGivenBy, Meets};
+
+pub use auction_model;
+pub use far_num;
+pub use far_num::wide_num;
 
 /// The first choice of greatest lowered sum is the block that a turn takes, with the winners that it doesn't use and that
 /// pay no more than their bid. Its excess is what the sum is above all payments.

@@ -1,7 +1,7 @@
 // The logs of auctions, replayed by the top call: the lines of the replies, and the books.
 use crate::settings::{fill, joined, left_at, no_files, words_of};
-use bid_book::LimitKind;
-use cca_base::MemSink;
+use cca_run::bid_book::LimitKind;
+use cca_run::cca_base::MemSink;
 use cca_run::{FileKind, Status, run};
 use std::alloc::{AllocError, Global};
 use std::process::Abort;

@@ -8,7 +8,7 @@ use crate::price::{CHECK, PRICE};
 use crate::reviews::{EDITS, REVIEW};
 use crate::settings::{DAY_CRAMTON, fill, joined, left_at, no_files_in, words_of};
 use crate::weigh::{ALL_ALIKE, WEIGH, WEIGH_CHECK};
-use cca_base::MemSink;
+use cca_run::cca_base::MemSink;
 use cca_run::{FileKind, Status, run};
 use std::alloc::{AllocError, Global};
 use std::process::Abort;

@@ -2,7 +2,7 @@
 use crate::cert::{DAY_CRAMTON_CERT, DAY_CRAMTON_FRONT};
 use crate::price::{CHECK, PRICE};
 use crate::settings::{DAY_CRAMTON, Setting, TIE, joined, run_on};
-use bid_book::LimitKind;
+use cca_run::bid_book::LimitKind;
 use cca_run::{FileKind, Status};
 use std::test::Fail;
 

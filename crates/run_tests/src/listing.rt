@@ -1,10 +1,10 @@
 // The winning choice beside a listing of all choices, and a table without a bidder.
 use crate::price::TWO_GLOBALS;
 use crate::settings::{AT_RESERVE, DAY_CRAMTON, EQUALS, NOBODY, TIE};
-use bid_book::read_book;
-use choices::first_by_listing;
+use cca_run::bid_book::read_book;
+use cca_run::choices::first_by_listing;
+use cca_run::value_table::{ValueTable, win};
 use std::test::Fail;
-use value_table::{ValueTable, win};
 
 const TIED_AT_RESERVE: &str =
     "book 1\nsupply 1\nreserve 5\nbidder a\nbid 1 5\nbidder b\nbid 1 5\nend\n";

@@ -1,8 +1,8 @@
 // Auctions that are made from numbers by the top call.
 use crate::auction::run_three;
 use crate::settings::{joined, left_at, no_files, words_of};
-use cca_base::MemSink;
-use cca_run::{FileKind, Status, run};
+use cca_run::cca_base::MemSink;
+use cca_run::{FileKind, Status, cca_base, run};
 use std::alloc::{AllocError, Global};
 use std::process::Abort;
 use std::test::Fail;

@@ -1,6 +1,6 @@
 // Placements in a band, priced by the top call and then tested.
 use crate::settings::{joined, run_plain};
-use bid_book::LimitKind;
+use cca_run::bid_book::LimitKind;
 use cca_run::{CertKind, FileKind, Status};
 use std::alloc::Global;
 use std::process::Abort;

@@ -3,8 +3,8 @@ use crate::cert::{DAY_CRAMTON_CERT, NOBODY_CERT};
 use crate::settings::{
     AT_RESERVE, DAY_CRAMTON, ELEVEN, EQUALS, LOCALS, NOBODY, SPECTRUM, TIE, joined, run_plain,
 };
-use bid_book::LimitKind;
 use cca_run::Status;
+use cca_run::bid_book::LimitKind;
 use std::alloc::Global;
 use std::process::Abort;
 use std::test::Fail;

@@ -1,7 +1,7 @@
 // Edits of books, whose values the top call prints.
 use crate::auction::run_three;
 use crate::settings::{DAY_CRAMTON, NOBODY};
-use bid_book::LimitKind;
+use cca_run::bid_book::LimitKind;
 use cca_run::{FileKind, Status};
 use std::alloc::Global;
 use std::process::Abort;

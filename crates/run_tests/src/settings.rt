@@ -1,9 +1,9 @@
 // Runs over files in memory: the winners of books with known ones, faulty books and words, and the codes of the statuses.
 ghost use Rattle.std.specs.Prelude.{◌<◌, length, IfOk, OnOk, All, IsTrue, map, string_bytes};
-ghost use Rattle.cca_base.specs.MemFiles.{mem_folder};
+ghost use Rattle.cca_run.specs.cca_base.specs.MemFiles.{mem_folder};
 
-use bid_book::LimitKind;
-use cca_base::{MemFiles, MemSink};
+use cca_run::bid_book::LimitKind;
+use cca_run::cca_base::{MemFiles, MemSink};
 use cca_run::{CertKind, FileKind, Status, run};
 use std::alloc::{AllocError, Global};
 use std::test::Fail;

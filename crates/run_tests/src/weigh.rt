@@ -2,7 +2,7 @@
 use crate::auction::run_three;
 use crate::cert::DAY_CRAMTON_CERT;
 use crate::settings::{DAY_CRAMTON, joined};
-use bid_book::LimitKind;
+use cca_run::bid_book::LimitKind;
 use cca_run::{CertKind, FileKind, Status};
 use std::alloc::Global;
 use std::process::Abort;

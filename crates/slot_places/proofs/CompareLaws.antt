@@ -3,8 +3,8 @@ use Rattle.std.specs.Prelude.{◌≡◌, ℕ, suc, ◌+◌, ◌<◌, Bool, true,
 use Rattle.std.proofs.Common.{◌∙◌, ap, arith, add-one, drop-cons}
 use Rattle.std.proofs.lemmas.Bool.{eq-eqb, ne_eqb, false_from_ne_true}
 use Rattle.std.proofs.lemmas.List.{drop_all}
-use Rattle.auction_model.specs.Market.{is_number_before, is_earlier}
-use Rattle.auction_model.proofs.OrderLaws.{before-self}
+use Rattle.choices.specs.auction_model.specs.Market.{is_number_before, is_earlier}
+use Rattle.choices.specs.auction_model.proofs.OrderLaws.{before-self}
 
 false_or_true : (x y r : Bool) → x ≡ false → y ≡ true → x || (y && r) ≡ r
 false_or_true x y r p q = rw (p, q) refl

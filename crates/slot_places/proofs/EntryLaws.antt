@@ -5,16 +5,16 @@ use Rattle.std.specs.Fmt.{decimal}
 use Rattle.std.specs.List.{AllByRecursion}
 use Rattle.std.proofs.lemmas.Bool.Decides.{nat_tests}
 use Rattle.std.proofs.lemmas.List.{append_cancel_left, take_more}
-use Rattle.text_lines.proofs.DecimalFields.{NoSpace, number_own, one_field}
-use Rattle.text_lines.specs.Fields.{FieldEnds}
-use Rattle.book_form.specs.BookForm.{IsName}
-use Rattle.limits.specs.declared.LimitKind.TheVariants.{Lots, Bidders}
+use Rattle.choices.specs.text_lines.proofs.DecimalFields.{NoSpace, number_own, one_field}
+use Rattle.choices.specs.text_lines.specs.Fields.{FieldEnds}
+use Rattle.choices.specs.book_form.specs.BookForm.{IsName}
+use Rattle.choices.specs.limits.specs.declared.LimitKind.TheVariants.{Lots, Bidders}
 use Rattle.slot_places.specs.Slots.{SlotBid, SlotBidder, SlotList, no_bidder, bidder_of}
 use Rattle.slot_places.specs.SlotForm.{width_together, band_excess, bidder_excess}
 use Rattle.slot_places.specs.declared.read.Stage.{Stage}
 use Rattle.slot_places.specs.declared.read.Stage.TheVariants.{Listing}
 use Rattle.slot_places.specs.Stages.{Step, Adds, AddsBidder, AddsPlace, IsEntrant, IsNextPlace, bidder_with, with_bidders, with_bid}
-use Rattle.book_form.proofs.NameLaws.{name_own}
+use Rattle.choices.specs.book_form.proofs.NameLaws.{name_own}
 use Rattle.slot_places.proofs.LineLaws.{bidder_no_place, two_parts}
 
 -- a text whose first field ends without a space has one field

@@ -2,7 +2,7 @@
 use Rattle.std.specs.Prelude.{◌≡◌, ℕ, suc, ◌+◌, ◌-◌, ◌^◌, ◌<◌, Bool, true, false, ◌&&◌, nat_lt, ◌==◌, IsTrue, List, [], ◌∷◌, ◌++◌, length, refl}
 use Rattle.std.proofs.Common.{inl, inr, sym, ◌∙◌, arith, subst}
 use Rattle.std.proofs.lemmas.Bool.{false≢true, and_parts, and_from, or_cases, cases_Bool, ltb-true, eqb-true, eq-eqb}
-use Rattle.auction_model.specs.Market.{number_of}
+use Rattle.choices.specs.auction_model.specs.Market.{number_of}
 use Rattle.slot_places.specs.Slots.{SlotList}
 use Rattle.slot_places.specs.Board.{Board, nobody, joined, is_known, can_place, board_of}
 use Rattle.slot_places.specs.Orders.{are_new, is_order, gives, allows, is_order_before}

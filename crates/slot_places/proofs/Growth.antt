@@ -3,7 +3,7 @@ use Rattle.std.proofs.Common.{⊎_elim, ◌≡◌, ℕ, suc, ◌+◌, ◌-◌, �
 use Rattle.std.specs.Prelude.{codes}
 use Rattle.std.proofs.lemmas.List.{append-nil, take_all, take_more, get_or_at, set_at}
 use Rattle.slot_places.specs.Slots.{SlotBid, SlotBidder, SlotList, no_bidder, bidder_of}
-use Rattle.book_form.specs.BookLines.{Excess, Line}
+use Rattle.choices.specs.book_form.specs.BookLines.{Excess, Line}
 use Rattle.slot_places.specs.SlotForm.{IsSlotBid, AreSlotBids, IsSlotBidder, AreSlotBidders, IsSlotText, bidder_excess, bidder_line, place_line, place_lines, bidder_lines, head_lines}
 use Rattle.slot_places.specs.Stages.{last_start, bidder_with, with_bidders, with_bid, AddsBidder, AddsPlace, Adds, bids_excess, last_excess, excess_of}
 

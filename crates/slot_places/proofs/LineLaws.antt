@@ -4,14 +4,14 @@ use Rattle.std.specs.Prelude.{codes}
 use Rattle.std.specs.List.{AllByRecursion}
 use Rattle.std.specs.Fmt.{decimal}
 use Rattle.std.proofs.lemmas.List.{append_cancel_left}
-use Rattle.wide_num.proofs.Decimal.{decimal_one}
-use Rattle.line_text.specs.LineText.{IsLine}
-use Rattle.book_form.specs.BookForm.{IsName}
-use Rattle.book_form.proofs.NameLaws.{name_own}
-use Rattle.bid_book.proofs.Spelled.{number_line, name_line}
-use Rattle.line_text.proofs.Lines.{line_append}
-use Rattle.text_lines.proofs.DecimalFields.{NoSpace, one_field, number_own}
-use Rattle.bid_book.proofs.OneLine.{end_no_bidder}
+use Rattle.choices.specs.wide_num.proofs.Decimal.{decimal_one}
+use Rattle.choices.specs.line_text.specs.LineText.{IsLine}
+use Rattle.choices.specs.book_form.specs.BookForm.{IsName}
+use Rattle.choices.specs.book_form.proofs.NameLaws.{name_own}
+use Rattle.choices.specs.bid_book.proofs.Spelled.{number_line, name_line}
+use Rattle.choices.specs.line_text.proofs.Lines.{line_append}
+use Rattle.choices.specs.text_lines.proofs.DecimalFields.{NoSpace, one_field, number_own}
+use Rattle.choices.specs.bid_book.proofs.OneLine.{end_no_bidder}
 use Rattle.slot_places.specs.Slots.{SlotBid, SlotList}
 use Rattle.slot_places.specs.SlotForm.{band_line, bidder_line, place_line}
 use Rattle.slot_places.specs.Stages.{with_bid, bidder_with, with_bidders, IsEntrant, AddsBidder, AddsPlace, Adds}

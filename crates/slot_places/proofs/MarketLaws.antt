@@ -4,11 +4,11 @@ use Rattle.std.proofs.Common.{inl, inr, arith}
 use Rattle.std.proofs.lemmas.Bool.{and_parts, and_from, cases_eq, cases_lt, le-leb}
 use Rattle.std.proofs.lemmas.Int.{ints}
 use Rattle.std.proofs.lemmas.List.{get_or-replicate, get_or_past, length-replicate, length-set, get_or-set_same, get_or-set_other}
-use Rattle.auction_model.specs.Market.{number_of}
-use Rattle.auction_model.specs.Menu.{Menu, is_known_after}
-use Rattle.auction_model.specs.Lawful.{IsMarket}
-use Rattle.auction_model.proofs.ChoiceLaws.{known-length, known-at}
-use Rattle.auction_model.proofs.BookMarket.{none-known}
+use Rattle.choices.specs.auction_model.specs.Market.{number_of}
+use Rattle.choices.specs.auction_model.specs.Menu.{Menu, is_known_after}
+use Rattle.choices.specs.auction_model.specs.Lawful.{IsMarket}
+use Rattle.choices.specs.auction_model.proofs.ChoiceLaws.{known-length, known-at}
+use Rattle.choices.specs.auction_model.proofs.BookMarket.{none-known}
 use Rattle.slot_places.specs.Slots.{SlotList}
 use Rattle.slot_places.specs.Board.{Board, nobody, menu_of, is_known, can_place, is_placed, board_of, market_of}
 use Rattle.slot_places.proofs.SetLaws.{outside-nobody}

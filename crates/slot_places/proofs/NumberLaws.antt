@@ -3,8 +3,8 @@ use Rattle.std.specs.Prelude.{◌≡◌, ℕ, suc, ◌+◌, ◌-◌, ◌*◌, �
 use Rattle.std.proofs.Common.{sym, ◌∙◌, ap, arith, subst}
 use Rattle.std.proofs.lemmas.Bool.{eq-eqb, eqb-true}
 use Rattle.std.proofs.lemmas.List.{get_or-set_same}
-use Rattle.auction_model.specs.Lowered.{lowered, of_bidder}
-use Rattle.auction_model.specs.Market.{number_of}
+use Rattle.choices.specs.auction_model.specs.Lowered.{lowered, of_bidder}
+use Rattle.choices.specs.auction_model.specs.Market.{number_of}
 use Rattle.slot_places.specs.Slots.{SlotList, amount_of, bid_of}
 use Rattle.slot_places.specs.Board.{Board, joined, outside, board_without, starts_at}
 use Rattle.slot_places.specs.SetTable.{holds, fits_behind, sum_outside, IsSetBest, StaysInRange}

@@ -2,7 +2,7 @@
 use Rattle.std.specs.Prelude.{◌≡◌, ℕ, zero, suc, ◌≤◌, ◌<◌, Bool, false, ◌&&◌, not, nat_lt, nat_le, ◌==◌, IsTrue, List, [], ◌∷◌, length, refl}
 use Rattle.std.proofs.Common.{arith}
 use Rattle.std.proofs.lemmas.Bool.{and_parts, and_from, not_from_false, not-true, lt-ltb, le-leb, ltb-true, leb-true, eqb-true, eq-eqb}
-use Rattle.auction_model.specs.Market.{number_of}
+use Rattle.choices.specs.auction_model.specs.Market.{number_of}
 use Rattle.slot_places.specs.Slots.{SlotList}
 use Rattle.slot_places.specs.Board.{Board, nobody, joined, is_known, can_place, is_placed, board_of}
 use Rattle.slot_places.specs.Orders.{are_new, is_order, gives, allows}

@@ -3,19 +3,19 @@ use Rattle.std.specs.Prelude.{IsTrue, ◌≡◌, ℕ, zero, suc, ◌+◌, ◌-�
 use Rattle.std.proofs.Common.{sym, ◌∙◌, ap, arith, subst}
 use Rattle.std.proofs.lemmas.Bool.{and_parts, cond_both}
 use Rattle.std.proofs.lemmas.Int.{ints}
-use Rattle.auction_model.specs.Greatest.{IsFirstGreatest, IsGreatestValue}
-use Rattle.auction_model.specs.Lowered.{lowered, of_bidder, sum_to}
-use Rattle.auction_model.specs.Market.{number_of, sum_after, uses, value_of}
-use Rattle.auction_model.specs.Menu.{packages_after, fits_after}
-use Rattle.auction_model.specs.Package.{is_within}
-use Rattle.auction_model.specs.Prices.{allowed_without}
-use Rattle.auction_model.proofs.PlainLaws.{IsFirstGreatest-same, sum-plain}
-use Rattle.auction_model.proofs.SkipLaws.{fits-skip, move-last}
+use Rattle.choices.specs.auction_model.specs.Greatest.{IsFirstGreatest, IsGreatestValue}
+use Rattle.choices.specs.auction_model.specs.Lowered.{lowered, of_bidder, sum_to}
+use Rattle.choices.specs.auction_model.specs.Market.{number_of, sum_after, uses, value_of}
+use Rattle.choices.specs.auction_model.specs.Menu.{packages_after, fits_after}
+use Rattle.choices.specs.auction_model.specs.Package.{is_within}
+use Rattle.choices.specs.auction_model.specs.Prices.{allowed_without}
+use Rattle.choices.specs.auction_model.proofs.PlainLaws.{IsFirstGreatest-same, sum-plain}
+use Rattle.choices.specs.auction_model.proofs.SkipLaws.{fits-skip, move-last}
 use Rattle.slot_places.specs.Slots.{SlotList, bids_of, bid_of, amount_of}
 use Rattle.slot_places.specs.Kept.{AreSlots}
 use Rattle.slot_places.specs.Board.{Board, nobody, menu_of, is_known, can_place, is_placed, board_of, board_without, market_of}
 use Rattle.slot_places.specs.SetTable.{holds, fits_behind, counts_outside, sum_outside, IsSetTable, StaysInRange}
-use Rattle.auction_model.proofs.ChoiceLaws.{known-length}
+use Rattle.choices.specs.auction_model.proofs.ChoiceLaws.{known-length}
 use Rattle.slot_places.proofs.MarketLaws.{placed-number, slots-idle}
 use Rattle.slot_places.proofs.SizeLaws.{sum-size}
 use Rattle.slot_places.proofs.NumberLaws.{idle-always}

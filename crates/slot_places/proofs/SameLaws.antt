@@ -1,9 +1,9 @@
 -- Two tests that say the same of all bidders are one set.
 use Rattle.std.specs.Prelude.{◌≡◌, ℕ, zero, suc, ◌+◌, ◌<◌, Bool, cond, ◌&&◌, ◌||◌, not, ◌==◌, List, [], ◌∷◌, length, refl, ℤ, pos}
 use Rattle.std.proofs.Common.{◌∙◌, ap, arith}
-use Rattle.auction_model.specs.Market.{number_of}
-use Rattle.auction_model.specs.Lowered.{sum_to}
-use Rattle.auction_model.proofs.PlainLaws.{IsFirstGreatest-same}
+use Rattle.choices.specs.auction_model.specs.Market.{number_of}
+use Rattle.choices.specs.auction_model.specs.Lowered.{sum_to}
+use Rattle.choices.specs.auction_model.proofs.PlainLaws.{IsFirstGreatest-same}
 use Rattle.slot_places.specs.Slots.{SlotList, width_of}
 use Rattle.slot_places.specs.Board.{Board, joined, some_of, outside, is_known, can_place, start_behind, starts_at, board_without}
 use Rattle.slot_places.specs.SetTable.{is_idle_in, fits_behind, counts_outside, sum_outside, IsSetBest}

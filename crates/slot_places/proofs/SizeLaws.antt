@@ -3,9 +3,9 @@ use Rattle.std.specs.Prelude.{◌≡◌, ◌⊎◌, ℕ, zero, suc, ◌+◌, ◌
 use Rattle.std.proofs.Common.{inl, inr, sym, ◌∙◌, ap, arith, subst}
 use Rattle.std.proofs.lemmas.Bool.{and_from, and_right, le-leb, lt-leb, cases_Bool, cases_eq, cases_lt}
 use Rattle.std.proofs.lemmas.Int.{ints, unsigned_abs-mul}
-use Rattle.auction_model.specs.Lowered.{lowered, of_bidder, sum_to}
-use Rattle.auction_model.specs.Market.{number_of, sum_after}
-use Rattle.auction_model.proofs.BoundLaws.{abs-idle}
+use Rattle.choices.specs.auction_model.specs.Lowered.{lowered, of_bidder, sum_to}
+use Rattle.choices.specs.auction_model.specs.Market.{number_of, sum_after}
+use Rattle.choices.specs.auction_model.proofs.BoundLaws.{abs-idle}
 use Rattle.slot_places.specs.Board.{Board, nobody, joined, outside, is_known, can_place, is_placed}
 use Rattle.slot_places.specs.SetTable.{fits_behind, counts_outside, sum_outside, StaysInRange}
 use Rattle.slot_places.proofs.SetLaws.{joined-self, joined-other, outside-joined, outside-nobody}

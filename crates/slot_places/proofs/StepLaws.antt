@@ -4,8 +4,8 @@ use Rattle.std.proofs.Common.{inl, inr, sym, ◌∙◌, ap, arith, subst}
 use Rattle.std.proofs.lemmas.Bool.{false≢true, and_parts, and_from, or_cases, or_left, or_right, not_from_false, not-true, eqb-true, eq-eqb, cases_Bool, cases_eq, cond-false}
 use Rattle.std.proofs.lemmas.Int.{ints}
 use Rattle.std.proofs.lemmas.List.{length-set, get_or-set_same, get_or-set_other, set-get_or}
-use Rattle.auction_model.specs.Market.{number_of, sum_after}
-use Rattle.auction_model.proofs.ChoiceLaws.{known-length}
+use Rattle.choices.specs.auction_model.specs.Market.{number_of, sum_after}
+use Rattle.choices.specs.auction_model.proofs.ChoiceLaws.{known-length}
 use Rattle.slot_places.specs.Steps.{Next, IsBefore}
 use Rattle.slot_places.specs.Board.{Board, joined, outside, menu_of, is_known, can_place}
 use Rattle.slot_places.specs.SetTable.{is_idle_in, fits_behind, counts_outside, sum_outside, IsSetBest}

@@ -1,6 +1,6 @@
 -- Which stop of the reader comes from which stop at a line.
 use Rattle.std.proofs.Common.{◌≡◌, ℕ, refl}
-use Rattle.limits.specs.declared.LimitKind.{LimitKind}
+use Rattle.choices.specs.limits.specs.declared.LimitKind.{LimitKind}
 use Rattle.slot_places.specs.declared.SlotStop.TheVariants as slots
 use Rattle.slot_places.specs.declared.stop.LineStop.{LineStop}
 use Rattle.slot_places.specs.declared.stop.LineStop.TheVariants.{Form, Limit, Memory}

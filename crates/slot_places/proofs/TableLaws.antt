@@ -3,8 +3,8 @@ use Rattle.std.specs.Prelude.{◌≡◌, ℕ, zero, suc, ◌+◌, ◌-◌, ◌^�
 use Rattle.std.proofs.Common.{sym, ◌∙◌, arith, subst}
 use Rattle.std.proofs.lemmas.Int.{ints}
 use Rattle.std.proofs.lemmas.List.{get_or-map, length-map}
-use Rattle.auction_model.specs.Greatest.{IsFirstGreatest}
-use Rattle.auction_model.specs.Market.{sum_after}
+use Rattle.choices.specs.auction_model.specs.Greatest.{IsFirstGreatest}
+use Rattle.choices.specs.auction_model.specs.Market.{sum_after}
 use Rattle.slot_places.specs.Board.{nobody, is_placed}
 use Rattle.slot_places.specs.SetTable.{holds, sum_outside, IsSetEntry, IsSetTable}
 use Rattle.slot_places.specs.Steps.{searched, counted, IsBestOf, AreBests}

@@ -2,10 +2,10 @@
 use Rattle.std.specs.Prelude.{◌≡◌, ℕ, zero, suc, ◌+◌, ◌-◌, ◌≤◌, ◌<◌, Bool, true, false, cond, ◌&&◌, IsTrue, List, [], ◌∷◌, length, replicate, get_or, refl, ℤ, pos}
 use Rattle.std.proofs.Common.{sym, ◌∙◌, ap, arith, subst}
 use Rattle.std.proofs.lemmas.Int.{ints}
-use Rattle.auction_model.specs.Market.{sum_after}
-use Rattle.auction_model.specs.Greatest.{IsFirstGreatest}
-use Rattle.auction_model.proofs.BookMarket.{none-known}
-use Rattle.auction_model.proofs.PlainLaws.{IsFirstGreatest-same}
+use Rattle.choices.specs.auction_model.specs.Market.{sum_after}
+use Rattle.choices.specs.auction_model.specs.Greatest.{IsFirstGreatest}
+use Rattle.choices.specs.auction_model.proofs.BookMarket.{none-known}
+use Rattle.choices.specs.auction_model.proofs.PlainLaws.{IsFirstGreatest-same}
 use Rattle.slot_places.specs.Steps.{Next, IsBefore}
 use Rattle.slot_places.specs.Board.{Board, nobody, joined, outside, menu_of, is_known, can_place, is_placed}
 use Rattle.slot_places.specs.SetTable.{is_idle_in, fits_behind, counts_outside, sum_outside, IsSetBest}

@@ -4,13 +4,13 @@ use Rattle.std.proofs.Common.{sym, ◌∙◌, ap, arith, subst, eqb}
 use Rattle.std.proofs.lemmas.Bool.{ne_eqb, cond-false, and_parts}
 use Rattle.std.proofs.lemmas.Int.{ints}
 use Rattle.std.proofs.Math.Nat.{mul-le-mul_left, mul_assoc}
-use Rattle.auction_model.specs.Market.{sum_after, number_of, value_of}
-use Rattle.auction_model.specs.Menu.{is_known_after}
-use Rattle.auction_model.specs.Lowered.{of_bidder, sum_to}
-use Rattle.auction_model.specs.Greatest.{IsFirstGreatest, IsWinning}
-use Rattle.auction_model.proofs.ChoiceLaws.{known-length}
-use Rattle.auction_model.proofs.TableLaws.{IsGreatestValue-same}
-use Rattle.auction_model.proofs.PlainLaws.{IsFirstGreatest-same}
+use Rattle.choices.specs.auction_model.specs.Market.{sum_after, number_of, value_of}
+use Rattle.choices.specs.auction_model.specs.Menu.{is_known_after}
+use Rattle.choices.specs.auction_model.specs.Lowered.{of_bidder, sum_to}
+use Rattle.choices.specs.auction_model.specs.Greatest.{IsFirstGreatest, IsWinning}
+use Rattle.choices.specs.auction_model.proofs.ChoiceLaws.{known-length}
+use Rattle.choices.specs.auction_model.proofs.TableLaws.{IsGreatestValue-same}
+use Rattle.choices.specs.auction_model.proofs.PlainLaws.{IsFirstGreatest-same}
 use Rattle.choices.specs.Lowering.{CanLower}
 use Rattle.slot_places.specs.Slots.{SlotList, bids_of, bid_of, amount_of}
 use Rattle.slot_places.specs.Board.{nobody, joined, outside, menu_of, is_known, can_place, is_placed, board_of, board_without, market_of}

@@ -1,8 +1,8 @@
 -- Bidders that are placed one after the other, where what a bidder can be given depends on the set of those before it.
 use Rattle.std.specs.Prelude.{ℕ, zero, suc, ◌+◌, Bool, true, false, ◌&&◌, ◌||◌, not, ◌==◌, if◌then◌else◌, List, [], length}
-use Rattle.auction_model.specs.Lowered.{sum_to}
-use Rattle.auction_model.specs.Market.{Market, number_of}
-use Rattle.auction_model.specs.Menu.{Menu, is_known_after}
+use Rattle.choices.specs.auction_model.specs.Lowered.{sum_to}
+use Rattle.choices.specs.auction_model.specs.Market.{Market, number_of}
+use Rattle.choices.specs.auction_model.specs.Menu.{Menu, is_known_after}
 use Rattle.slot_places.specs.Slots.{SlotList, width_of, bids_of, bid_of, amount_of}
 
 -- A set of bidders is a test of their numbers.

@@ -7,3 +7,4 @@ pub mod SetTable
 pub mod Steps
 pub mod Fields
 pub mod Stages
+pub use Rattle.choices

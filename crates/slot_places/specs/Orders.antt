@@ -1,6 +1,6 @@
 -- Orders of the bidders.
 use Rattle.std.specs.Prelude.{ℕ, Bool, true, false, ◌&&◌, ◌||◌, not, nat_le, nat_lt, ◌==◌, IsTrue, List, [], ◌∷◌, length}
-use Rattle.auction_model.specs.Market.{number_of}
+use Rattle.choices.specs.auction_model.specs.Market.{number_of}
 use Rattle.slot_places.specs.Board.{Board, nobody, joined, is_known, board_of}
 use Rattle.slot_places.specs.Slots.{SlotList}
 

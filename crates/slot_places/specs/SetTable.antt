@@ -2,9 +2,9 @@
 -- the set are placed first. Bit j - 1 of a set stands for bidder j.
 use Rattle.std.specs.Prelude.{◌≡◌, ℕ, suc, ◌+◌, ◌-◌, ◌*◌, ◌^◌, ◌<◌, ◌≤◌, Bool, true, ◌&&◌, ◌||◌, not, ◌==◌, if◌then◌else◌, IsTrue, List, [], ◌∷◌, length, slice_index_or, ℤ, pos, unsigned_abs}
 use Rattle.std.specs.Int.{bit_at}
-use Rattle.auction_model.specs.Lowered.{of_bidder, sum_to}
-use Rattle.auction_model.specs.Market.{number_of, sum_after}
-use Rattle.auction_model.specs.Greatest.{IsGreatestValue, IsFirstGreatest}
+use Rattle.choices.specs.auction_model.specs.Lowered.{of_bidder, sum_to}
+use Rattle.choices.specs.auction_model.specs.Market.{number_of, sum_after}
+use Rattle.choices.specs.auction_model.specs.Greatest.{IsGreatestValue, IsFirstGreatest}
 use Rattle.slot_places.specs.Board.{Board, outside, is_known, can_place, is_placed}
 
 -- the bidders of a set of bits

@@ -2,12 +2,12 @@
 use Rattle.std.specs.Prelude.{◌≡◌, ◌≢◌, ℕ, ◌+◌, ◌≤◌, ◌<◌, Option, Some, None, List, [], ◌∷◌, ◌++◌, codes, nat_le, if◌then◌else◌}
 use Rattle.std.specs.Fmt.{decimal}
 use Rattle.std.specs.List.{AllByRecursion}
-use Rattle.line_text.specs.LineText.{first_excess}
-use Rattle.book_form.specs.BookForm.{IsName}
-use Rattle.limits.specs.declared.LimitKind.{LimitKind}
-use Rattle.limits.specs.declared.LimitKind.TheVariants.{Lots, Bidders}
-use Rattle.book_form.specs.BookLines.{Excess, Line}
-use Rattle.limits.specs.declared.TheConstants.{MOST_AMOUNT, MOST_COUNT, MOST_LOTS, MOST_PLACED}
+use Rattle.choices.specs.line_text.specs.LineText.{first_excess}
+use Rattle.choices.specs.book_form.specs.BookForm.{IsName}
+use Rattle.choices.specs.limits.specs.declared.LimitKind.{LimitKind}
+use Rattle.choices.specs.limits.specs.declared.LimitKind.TheVariants.{Lots, Bidders}
+use Rattle.choices.specs.book_form.specs.BookLines.{Excess, Line}
+use Rattle.choices.specs.limits.specs.declared.TheConstants.{MOST_AMOUNT, MOST_COUNT, MOST_LOTS, MOST_PLACED}
 use Rattle.slot_places.specs.Slots.{SlotBid, SlotBidder, SlotList}
 
 -- the width of these bidders side by side

@@ -3,10 +3,10 @@
 use Rattle.std.specs.Prelude.{◌≡◌, ◌≢◌, ◌⊎◌, ℕ, ◌+◌, ◌-◌, ◌<◌, ◌≤◌, Option, None, List, [], ◌∷◌, ◌++◌, codes, length, slice_set}
 use Rattle.std.specs.Fmt.{decimal}
 use Rattle.std.specs.List.{AllByRecursion}
-use Rattle.book_form.specs.BookForm.{IsName}
-use Rattle.limits.specs.declared.TheConstants.{MOST_COUNT}
+use Rattle.choices.specs.book_form.specs.BookForm.{IsName}
+use Rattle.choices.specs.limits.specs.declared.TheConstants.{MOST_COUNT}
 use Rattle.slot_places.specs.Slots.{SlotBid, SlotBidder, SlotList, bidder_of, bids_of, width_of}
-use Rattle.book_form.specs.BookLines.{Excess}
+use Rattle.choices.specs.book_form.specs.BookLines.{Excess}
 use Rattle.slot_places.specs.SlotForm.{IsSlotBid, width_together, band_excess, bidder_excess, band_line, place_line}
 use Rattle.slot_places.specs.declared.SlotStop.{SlotStop}
 use Rattle.slot_places.specs.declared.SlotStop.TheVariants as slots

@@ -1,7 +1,7 @@
 -- The steps by which the table over sets is filled: words of private contracts.
 use Rattle.std.specs.Prelude.{◌≡◌, ℕ, ◌+◌, ◌^◌, ◌<◌, ◌≤◌, Bool, false, IsTrue, List, length, slice_index_or, ℤ, ◌≤ℤ◌, ◌<ℤ◌}
-use Rattle.auction_model.specs.Lowered.{lowered}
-use Rattle.auction_model.specs.Market.{is_earlier, number_of}
+use Rattle.choices.specs.auction_model.specs.Lowered.{lowered}
+use Rattle.choices.specs.auction_model.specs.Market.{is_earlier, number_of}
 use Rattle.slot_places.specs.Slots.{amount_of}
 use Rattle.slot_places.specs.Board.{Board, joined, outside, can_place, board_without}
 use Rattle.slot_places.specs.SetTable.{holds, fits_behind, sum_outside, IsSetBest}

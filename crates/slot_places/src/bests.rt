@@ -1,7 +1,7 @@
 // The best choices behind each set of bidders, from the set of all down to that of nobody.
 ghost use Rattle.std.specs.Prelude.{◌≡◌, ◌+◌, ◌-◌, ◌^◌, ◌≤◌, ◌<◌, IsTrue, IsFalse, IfOk, List, ℕ, length, replicate, slice_set, ◌≤ℤ◌, ◌<ℤ◌};
 ghost use Rattle.std.specs.List.{All};
-ghost use Rattle.auction_model.specs.Market.{is_number_before, is_earlier, number_of};
+ghost use Rattle.choices.specs.auction_model.specs.Market.{is_number_before, is_earlier, number_of};
 ghost use Rattle.slot_places.specs.SetTable.{holds, sum_outside, fits_behind};
 ghost use Rattle.slot_places.specs.Steps.{searched, counted, IsBefore, IsHeld, IsBestOf, IsBestNext, IsBestTo, AreBests};
 

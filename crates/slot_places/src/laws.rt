@@ -1,11 +1,11 @@
 // What holds of all slots.
 ghost use Rattle.std.specs.Prelude.{◌≡◌, ℕ, ◌<◌, ◌^◌, IsTrue, List, length};
-ghost use Rattle.auction_model.specs.Lawful.{IsMarket};
+ghost use Rattle.choices.specs.auction_model.specs.Lawful.{IsMarket};
 ghost use Rattle.slot_places.specs.Slots.{SlotList};
 ghost use Rattle.slot_places.specs.Board.{market_of};
 ghost use Rattle.slot_places.specs.Orders.{allows};
-ghost use Rattle.line_text.specs.LineText.{Said, Says, stated};
-ghost use Rattle.book_form.specs.BookLines.{Excess};
+ghost use Rattle.choices.specs.line_text.specs.LineText.{Said, Says, stated};
+ghost use Rattle.choices.specs.book_form.specs.BookLines.{Excess};
 ghost use Rattle.slot_places.specs.SlotForm.{IsSlotText, slot_lines};
 
 /// Slots are a market: it is allowed that nobody wins, and an allowed choice stays allowed when a bidder leaves it, which is then

@@ -13,8 +13,9 @@ mod slot_chooser;
 mod slots;
 mod stop;
 
+pub use choices;
+pub use choices::limits::{LimitKind, MOST_PLACED};
 pub use laws::{one_slots, slot_market, slot_orders};
-pub use limits::{LimitKind, MOST_PLACED};
 pub use read::read_slots;
 pub use slot_chooser::{SlotChooser, place_best, place_win};
 pub use slots::{Place, Slots};

@@ -5,7 +5,7 @@ ghost use Rattle.slot_places.specs.Board.{board_of, market_of, start_behind, sta
 ghost use Rattle.slot_places.specs.SetTable.{holds};
 ghost use Rattle.slot_places.specs.Orders.{allows, IsPlacement};
 ghost use Rattle.slot_places.specs.Steps.{CanFollow, IsFirstNext};
-ghost use Rattle.limits.specs.declared.TheConstants.{MOST_PLACED};
+ghost use Rattle.choices.specs.limits.specs.declared.TheConstants.{MOST_PLACED};
 
 use crate::Slots;
 use crate::sets::{is_in, weight};

@@ -1,7 +1,7 @@
 // The reader of the text of slots.
 ghost use Rattle.std.specs.Prelude.{IfNone, IfOk, IfSome, None, Some, ℕ, ◌≡◌, ◌≤◌};
-ghost use Rattle.limits.specs.declared.TheConstants.{MOST_COUNT};
-ghost use Rattle.line_text.specs.LineText.{Says, beyond, faulty, stated};
+ghost use Rattle.choices.specs.limits.specs.declared.TheConstants.{MOST_COUNT};
+ghost use Rattle.choices.specs.line_text.specs.LineText.{Says, beyond, faulty, stated};
 ghost use Rattle.slot_places.specs.SlotForm.{IsSlotText, band_line, slot_lines};
 ghost use Rattle.slot_places.specs.Stages.{Step, excess};
 
@@ -12,8 +12,8 @@ use crate::read::entries::take_entry;
 use crate::read::fields::read_within;
 use crate::stop::LineStop;
 use crate::{SlotStop, Slots};
-use limits::{LimitKind, MOST_COUNT, MOST_LOTS};
-use line_text::line_len;
+use choices::limits::{LimitKind, MOST_COUNT, MOST_LOTS};
+use choices::line_text::line_len;
 use std::alloc::Global;
 
 /// What the lines so far say.

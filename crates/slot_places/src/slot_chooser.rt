@@ -1,13 +1,13 @@
 // Slots as auctions that can be priced.
 ghost use Rattle.std.specs.Prelude.{◌≡◌, ◌<◌, ◌≤◌, ℕ, length, pos, slice_index_or, IfOk};
-ghost use Rattle.auction_model.specs.Greatest.{IsFirstGreatest, IsWinning};
-ghost use Rattle.auction_model.specs.Lawful.{IsMarket};
-ghost use Rattle.auction_model.specs.Market.{value_of};
-ghost use Rattle.auction_model.specs.Prices.{allowed_without};
+ghost use Rattle.choices.specs.auction_model.specs.Greatest.{IsFirstGreatest, IsWinning};
+ghost use Rattle.choices.specs.auction_model.specs.Lawful.{IsMarket};
+ghost use Rattle.choices.specs.auction_model.specs.Market.{value_of};
+ghost use Rattle.choices.specs.auction_model.specs.Prices.{allowed_without};
 ghost use Rattle.slot_places.specs.Slots.{amount_of};
 ghost use Rattle.slot_places.specs.Board.{market_of, board_of, board_without, is_placed};
 ghost use Rattle.slot_places.specs.SetTable.{IsSetTable};
-ghost use Rattle.limits.specs.declared.TheConstants.{MOST_PLACED};
+ghost use Rattle.choices.specs.limits.specs.declared.TheConstants.{MOST_PLACED};
 
 use crate::search::Search;
 use crate::searching::greatest;
@@ -102,7 +102,7 @@ pub fn place_win(alloc: Global, slots: &Slots) -> Result<Choice, AllocError>
 
 impl<'a> Chooser for SlotChooser<'a> {
     ghost use Rattle.std.specs.Prelude.{◌≡◌, ℤ, List};
-    ghost use Rattle.auction_model.specs.Lowered.{lowered};
+    ghost use Rattle.choices.specs.auction_model.specs.Lowered.{lowered};
     ghost use Rattle.slot_places.specs.Slots.{amount_of};
     ghost use Rattle.slot_places.specs.Board.{market_of, board_of};
     ghost use Rattle.slot_places.specs.SetTable.{IsSetTable};

@@ -1,10 +1,10 @@
 // Slots, and the calls that read them.
 ghost use Rattle.std.specs.Prelude.{◌≡◌, ◌≤◌, ◌<◌, ◌+◌, ◌++◌, ◌∷◌, [], OnOk, length};
-ghost use Rattle.limits.specs.declared.TheConstants.{MOST_LOTS, MOST_PLACED};
+ghost use Rattle.choices.specs.limits.specs.declared.TheConstants.{MOST_LOTS, MOST_PLACED};
 ghost use Rattle.slot_places.specs.Kept.{AreSlots};
 ghost use Rattle.slot_places.specs.Slots.{bidder_of, width_of, bids_of, bid_of};
 
-use bid_book::Name;
+use choices::bid_book::Name;
 use std::alloc::{AllocError, Global};
 use std::marker::Model;
 

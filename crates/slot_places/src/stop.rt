@@ -4,7 +4,7 @@ ghost use Rattle.slot_places.specs.Stages.{slot_stop};
 ghost use Rattle.slot_places.specs.declared.stop.LineStop.TheVariants.{Memory};
 
 use crate::SlotStop;
-use limits::LimitKind;
+use choices::limits::LimitKind;
 use std::alloc::{AllocError, AllocFailed};
 
 /// Why a line is not taken.

@@ -1,8 +1,8 @@
 -- A checker and its reader.
 use Rattle.std.proofs.Common.{◌≡◌, ℕ, ◌≤◌, List, [], ◌∷◌, ◌++◌, take, drop, refl, sym, ap, subst, ◌∙◌}
 use Rattle.std.specs.Prelude.{ℤ, pos, get_or, false, Option, Some, None}
-use Rattle.cert_text.specs.declared.certificate.Shape.{Shape}
-use Rattle.cert_form.specs.Certificate.{CertValue}
+use Rattle.cert_check.specs.cert_text.specs.declared.certificate.Shape.{Shape}
+use Rattle.cert_facts.specs.cert_form.specs.Certificate.{CertValue}
 use Rattle.cert_check.specs.declared.failure.Failure.{Failure}
 use Rattle.cert_pieces.specs.Dues.{line_with}
 use Rattle.cert_pieces.specs.LinesLeft.{LeadsInRoom}
@@ -12,9 +12,9 @@ use Rattle.stream_check.specs.InRoom.{HasMembers}
 use Rattle.stream_check.specs.Tests.{IsFound}
 use Rattle.stream_check.specs.Totals.{AreTotals, HasTotals}
 use Rattle.cert_pieces.specs.declared.due.Due.TheVariants.{Version}
-use Rattle.auction_model.specs.Prices.{weight_of}
-use Rattle.cert_form.specs.Lines.{Line}
-use Rattle.cert_laws.specs.Tests.{bidders_of, states}
+use Rattle.cert_check.specs.auction_model.specs.Prices.{weight_of}
+use Rattle.cert_facts.specs.cert_form.specs.Lines.{Line}
+use Rattle.cert_facts.specs.cert_laws.specs.Tests.{bidders_of, states}
 use Rattle.cert_pieces.specs.declared.due.Due.{Due}
 use Rattle.cert_pieces.specs.declared.reader.Reader.{Reader}
 use Rattle.cert_pieces.specs.declared.stop.TextStop.{TextStop}

@@ -1,13 +1,13 @@
 -- What a line has whose tests need the first three.
 use Rattle.std.proofs.Common.{◌≡◌, ℕ, suc, ◌<◌, ◌≤◌, List, [], ◌∷◌, inl, refl, sym, subst, arith}
 use Rattle.std.specs.Prelude.{ℤ, Option, None, IsTrue}
-use Rattle.auction_model.specs.Book.{Book}
-use Rattle.auction_model.specs.Prices.{weight_of}
-use Rattle.bid_book.specs.Kept.{IsBidBook}
-use Rattle.auction_model.specs.Market.{uses}
-use Rattle.cert_form.specs.Certificate.{CertValue, part_of}
-use Rattle.cert_form.specs.CertText.{IsChoice, as_numbers}
-use Rattle.cert_laws.specs.Tests.{Asks, C4, IsPart, bidders_of, states}
+use Rattle.cert_check.specs.auction_model.specs.Book.{Book}
+use Rattle.cert_check.specs.auction_model.specs.Prices.{weight_of}
+use Rattle.cert_facts.specs.bid_book.specs.Kept.{IsBidBook}
+use Rattle.cert_check.specs.auction_model.specs.Market.{uses}
+use Rattle.cert_facts.specs.cert_form.specs.Certificate.{CertValue, part_of}
+use Rattle.cert_facts.specs.cert_form.specs.CertText.{IsChoice, as_numbers}
+use Rattle.cert_facts.specs.cert_laws.specs.Tests.{Asks, C4, IsPart, bidders_of, states}
 use Rattle.cert_check.specs.declared.claim.Claim.{Claim}
 use Rattle.cert_check.specs.Head.{HeadHolds, IsHead}
 use Rattle.cert_check.specs.declared.failure.Failure.{Failure}

@@ -2,13 +2,13 @@
 use Rattle.std.proofs.Common.{◌≡◌, ℕ, zero, suc, ◌+◌, ◌<◌, ◌≤◌, cond, List, [], ◌∷◌, ◌++◌, length, drop, map, refl, sym, ap, ◌∙◌, arith}
 use Rattle.std.proofs.lemmas.Bool.{eq-eqb}
 use Rattle.std.proofs.lemmas.List.{append-nil, drop_all}
-use Rattle.auction_model.specs.Book.{Book}
+use Rattle.cert_check.specs.auction_model.specs.Book.{Book}
 use Rattle.cert_facts.specs.Facts.{single_of}
-use Rattle.cert_form.specs.Certificate.{CertValue, WithoutValue, part_of}
-use Rattle.cert_form.specs.CertText.{AreWithouts, IsCertificate}
-use Rattle.cert_laws.specs.Tests.{vickrey_of}
-use Rattle.cert_laws.proofs.TextSizes.{part-later}
-use Rattle.choices.specs.declared.chooser.Single.{Single}
+use Rattle.cert_facts.specs.cert_form.specs.Certificate.{CertValue, WithoutValue, part_of}
+use Rattle.cert_facts.specs.cert_form.specs.CertText.{AreWithouts, IsCertificate}
+use Rattle.cert_facts.specs.cert_laws.specs.Tests.{vickrey_of}
+use Rattle.cert_facts.specs.cert_laws.proofs.TextSizes.{part-later}
+use Rattle.cert_facts.specs.choices.specs.declared.chooser.Single.{Single}
 use Rattle.stream_check.specs.WholeRoom.{single_at}
 
 module _ (book : Book) (c : CertValue) where

@@ -1,10 +1,10 @@
 -- The value and the head's choice have come.
 use Rattle.std.proofs.Common.{◌≡◌, ℕ, [], ◌∷◌, refl, subst, arith}
 use Rattle.std.specs.Prelude.{Option, None}
-use Rattle.auction_model.specs.Prices.{weight_of}
-use Rattle.cert_form.specs.Certificate.{CertValue}
-use Rattle.cert_form.specs.CertText.{as_numbers}
-use Rattle.cert_laws.specs.Tests.{bidders_of, states}
+use Rattle.cert_check.specs.auction_model.specs.Prices.{weight_of}
+use Rattle.cert_facts.specs.cert_form.specs.Certificate.{CertValue}
+use Rattle.cert_facts.specs.cert_form.specs.CertText.{as_numbers}
+use Rattle.cert_facts.specs.cert_laws.specs.Tests.{bidders_of, states}
 use Rattle.cert_check.specs.declared.failure.Failure.{Failure}
 use Rattle.cert_check.specs.Partway.{HoldsTo, IsJudged}
 use Rattle.cert_pieces.specs.declared.due.Due.{Due}

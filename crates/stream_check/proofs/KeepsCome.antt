@@ -1,12 +1,12 @@
 -- What is asked behind the rules, when a line of the head's table has come.
 use Rattle.std.proofs.Common.{◌≡◌, ℕ, zero, suc, ◌+◌, ◌*◌, ◌^◌, ◌<◌, ◌≤◌, [], ◌∷◌, length, inl, refl, sym, subst, arith}
 use Rattle.std.specs.Prelude.{ℤ, ◌≤ℤ◌, ◌↔◌, Bool, IsTrue, slice_index_or, unsigned_abs}
-use Rattle.auction_model.specs.Book.{Book, market_of}
-use Rattle.auction_model.specs.Prices.{weight_of}
-use Rattle.auction_model.specs.Table.{entry_at}
-use Rattle.cert_form.specs.Certificate.{CertValue}
-use Rattle.cert_form.specs.CertText.{as_numbers}
-use Rattle.cert_laws.specs.Tests.{Asks, bidders_of, states, full}
+use Rattle.cert_check.specs.auction_model.specs.Book.{Book, market_of}
+use Rattle.cert_check.specs.auction_model.specs.Prices.{weight_of}
+use Rattle.cert_check.specs.auction_model.specs.Table.{entry_at}
+use Rattle.cert_facts.specs.cert_form.specs.Certificate.{CertValue}
+use Rattle.cert_facts.specs.cert_form.specs.CertText.{as_numbers}
+use Rattle.cert_facts.specs.cert_laws.specs.Tests.{Asks, bidders_of, states, full}
 use Rattle.cert_check.specs.EarlierBids.{NoneEarlier}
 use Rattle.cert_check.proofs.HeadLines.{top-C3, first-C3}
 use Rattle.cert_check.proofs.TableLaws.{table-small, table-width}

@@ -1,12 +1,12 @@
 -- What the lowered table has when a line of it has come.
 use Rattle.std.proofs.Common.{◌≡◌, ℕ, zero, suc, ◌+◌, ◌*◌, ◌<◌, ◌≤◌, List, [], refl, sym, ap, subst, ◌∙◌, arith}
 use Rattle.std.specs.Prelude.{ℤ, ◌≤ℤ◌, ◌↔◌, Bool, IsTrue, slice_index_or}
-use Rattle.auction_model.specs.Book.{Book}
-use Rattle.auction_model.specs.Lowered.{of_bidder}
-use Rattle.auction_model.specs.Prices.{weight_of, sum_over, everyone}
-use Rattle.auction_model.specs.Table.{entry_at}
-use Rattle.cert_form.specs.Certificate.{CertValue}
-use Rattle.cert_laws.specs.Tests.{Asks, bidders_of, states, full, lowered_net}
+use Rattle.cert_check.specs.auction_model.specs.Book.{Book}
+use Rattle.cert_check.specs.auction_model.specs.Lowered.{of_bidder}
+use Rattle.cert_check.specs.auction_model.specs.Prices.{weight_of, sum_over, everyone}
+use Rattle.cert_check.specs.auction_model.specs.Table.{entry_at}
+use Rattle.cert_facts.specs.cert_form.specs.Certificate.{CertValue}
+use Rattle.cert_facts.specs.cert_laws.specs.Tests.{Asks, bidders_of, states, full, lowered_net}
 use Rattle.cert_check.specs.Partway.{IsLate}
 use Rattle.cert_check.specs.Worths.{gain_of, worth_with}
 use Rattle.cert_check.specs.declared.claim.Claim.{Claim}

@@ -2,11 +2,11 @@
 use Rattle.std.proofs.Common.{◌≡◌, ℕ, zero, suc, ◌-◌, ◌<◌, ◌≤◌, List, [], ◌∷◌, ◌++◌, length, take, drop, inl, inr, refl, sym, ap, subst, ◌∙◌, arith, length-take}
 use Rattle.std.specs.Prelude.{ℤ, ◌⊎◌}
 use Rattle.std.proofs.lemmas.Bool.{cases_lt}
-use Rattle.auction_model.specs.Book.{Book}
-use Rattle.cert_form.specs.Certificate.{CertValue}
-use Rattle.cert_form.specs.CertText.{AreMembers, AtMost, IsRow, as_numbers}
-use Rattle.text_lines.proofs.Words.{word_front}
-use Rattle.cert_laws.specs.Tests.{bidders_of, states}
+use Rattle.cert_check.specs.auction_model.specs.Book.{Book}
+use Rattle.cert_facts.specs.cert_form.specs.Certificate.{CertValue}
+use Rattle.cert_facts.specs.cert_form.specs.CertText.{AreMembers, AtMost, IsRow, as_numbers}
+use Rattle.cert_check.specs.text_lines.proofs.Words.{word_front}
+use Rattle.cert_facts.specs.cert_laws.specs.Tests.{bidders_of, states}
 use Rattle.cert_pieces.specs.declared.due.Due.{Due}
 use Rattle.cert_pieces.specs.declared.due.Due.TheVariants.{Version, Limits, Den, Value, Choice, Title, Entries, Without, PartChoice, Payments, Rows, Members, Multipliers, RowChoice, End, Nothing}
 use Rattle.cert_pieces.specs.declared.due.Table.TheVariants.{Head, Part, Lowered}

@@ -2,13 +2,13 @@
 use Rattle.std.proofs.Common.{◌≡◌, ◌≢◌, ℕ, suc, ◌+◌, ◌-◌, ◌<◌, ◌≤◌, List, get_or, inl, inr, refl, sym, ap, subst, ◌∙◌, arith}
 use Rattle.std.proofs.lemmas.Bool.{cases_lt}
 use Rattle.std.specs.Prelude.{pos, Option, Some, None, IsTrue}
-use Rattle.auction_model.specs.Book.{Book}
-use Rattle.auction_model.specs.Market.{number_of, uses}
-use Rattle.auction_model.specs.Prices.{weight_of}
-use Rattle.cert_form.specs.Certificate.{CertValue, part_of}
-use Rattle.cert_form.specs.CertText.{IsCertificate, IsChoice, as_numbers}
-use Rattle.cert_form.proofs.Written.{long_numbers}
-use Rattle.cert_laws.specs.Tests.{Asks, C4, bidders_of}
+use Rattle.cert_check.specs.auction_model.specs.Book.{Book}
+use Rattle.cert_check.specs.auction_model.specs.Market.{number_of, uses}
+use Rattle.cert_check.specs.auction_model.specs.Prices.{weight_of}
+use Rattle.cert_facts.specs.cert_form.specs.Certificate.{CertValue, part_of}
+use Rattle.cert_facts.specs.cert_form.specs.CertText.{IsCertificate, IsChoice, as_numbers}
+use Rattle.cert_facts.specs.cert_form.proofs.Written.{long_numbers}
+use Rattle.cert_facts.specs.cert_laws.specs.Tests.{Asks, C4, bidders_of}
 use Rattle.cert_check.specs.declared.failure.Failure.{Failure}
 use Rattle.cert_check.specs.Partway.{HoldsTo, IsJudged}
 use Rattle.cert_check.proofs.PartLaws.{loses-zero, wins-some}

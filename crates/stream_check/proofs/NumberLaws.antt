@@ -1,7 +1,7 @@
 -- Numbers of a choice, as numbers of a line.
 use Rattle.std.proofs.Common.{◌≡◌, ◌≢◌, ℕ, zero, suc, ◌+◌, ◌<◌, ◌≤◌, List, [], ◌∷◌, length, get_or, set, get_or-set_other, get_or-set_same, below_more, refl, sym, ap, ◌∙◌, arith}
 use Rattle.std.specs.Prelude.{ℤ, pos}
-use Rattle.cert_form.specs.CertText.{AtMost, as_numbers}
+use Rattle.cert_facts.specs.cert_form.specs.CertText.{AtMost, as_numbers}
 use Rattle.cert_pieces.proofs.Comings.{number_at}
 
 -- one of them

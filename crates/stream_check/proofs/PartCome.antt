@@ -3,14 +3,14 @@ use Rattle.std.proofs.Common.{◌≡◌, ℕ, suc, ◌+◌, ◌-◌, ◌*◌, �
 use Rattle.std.proofs.lemmas.Bool.{cases_lt, false≢true}
 use Rattle.std.specs.Prelude.{ℤ, ◌≤ℤ◌, ◌↔◌, Bool, true, false, IsTrue, Option, Some, None, is_some, slice_index_or}
 use Rattle.std.proofs.Math.Nat.{mul-le-mul_left}
-use Rattle.auction_model.specs.Book.{Book, net_of, menu_of, market_of}
-use Rattle.auction_model.specs.Market.{number_of, uses, value_of}
-use Rattle.auction_model.specs.Menu.{without}
-use Rattle.auction_model.specs.Prices.{weight_of}
-use Rattle.auction_model.specs.Table.{entry_at}
-use Rattle.cert_form.specs.Certificate.{CertValue, part_of}
-use Rattle.cert_form.specs.CertText.{IsChoice, as_numbers}
-use Rattle.cert_laws.specs.Tests.{Asks, FailsFirst, IsPart, ObeysAt, bidders_of, states, full}
+use Rattle.cert_check.specs.auction_model.specs.Book.{Book, net_of, menu_of, market_of}
+use Rattle.cert_check.specs.auction_model.specs.Market.{number_of, uses, value_of}
+use Rattle.cert_check.specs.auction_model.specs.Menu.{without}
+use Rattle.cert_check.specs.auction_model.specs.Prices.{weight_of}
+use Rattle.cert_check.specs.auction_model.specs.Table.{entry_at}
+use Rattle.cert_facts.specs.cert_form.specs.Certificate.{CertValue, part_of}
+use Rattle.cert_facts.specs.cert_form.specs.CertText.{IsChoice, as_numbers}
+use Rattle.cert_facts.specs.cert_laws.specs.Tests.{Asks, FailsFirst, IsPart, ObeysAt, bidders_of, states, full}
 use Rattle.cert_check.specs.declared.failure.Failure.{Failure}
 use Rattle.cert_check.specs.declared.tables.offers.Offers.{Offers}
 use Rattle.cert_check.specs.LineTests.{RulesAt, worth_of}

@@ -1,8 +1,8 @@
 -- The room keeps what it has of a certificate while a line is read.
 use Rattle.std.proofs.Common.{◌≡◌, ◌≢◌, ℕ, suc, zero, ◌%◌, ◌≤◌, ◌<◌, List, take, ap, ◌∙◌, arith}
 use Rattle.std.specs.Prelude.{ℤ}
-use Rattle.cert_form.specs.Certificate.{CertValue}
-use Rattle.cert_form.specs.CertText.{as_numbers}
+use Rattle.cert_facts.specs.cert_form.specs.Certificate.{CertValue}
+use Rattle.cert_facts.specs.cert_form.specs.CertText.{as_numbers}
 use Rattle.cert_pieces.specs.declared.due.Due.{Due}
 use Rattle.cert_pieces.specs.declared.due.Due.TheVariants.{Version, Limits, Den, Value, Choice, Title, Entries, Without, PartChoice, Payments, Rows, Members, Multipliers, RowChoice, End, Nothing}
 use Rattle.cert_pieces.specs.Dues.{IsDue}

@@ -2,9 +2,9 @@
 use Rattle.std.proofs.Common.{◌≡◌, ℕ, zero, suc, ◌+◌, ◌-◌, ◌<◌, ◌≤◌, List, length, inl, inr, refl, sym, subst, arith}
 use Rattle.std.proofs.lemmas.Bool.{cases_lt}
 use Rattle.std.specs.Prelude.{ℤ, pos, IsTrue}
-use Rattle.auction_model.specs.Market.{uses}
-use Rattle.cert_form.specs.Certificate.{CertValue, part_of}
-use Rattle.cert_form.specs.CertText.{as_numbers}
+use Rattle.cert_check.specs.auction_model.specs.Market.{uses}
+use Rattle.cert_facts.specs.cert_form.specs.Certificate.{CertValue, part_of}
+use Rattle.cert_facts.specs.cert_form.specs.CertText.{as_numbers}
 use Rattle.cert_pieces.specs.declared.due.Due.{Due}
 use Rattle.cert_pieces.specs.declared.due.Due.TheVariants.{Version, Limits, Den, Value, Choice, Title, Entries, Without, PartChoice, Payments, Rows, Members, Multipliers, RowChoice, End, Nothing}
 use Rattle.cert_pieces.specs.declared.due.Table.{Table}

@@ -3,10 +3,10 @@ use Rattle.std.proofs.Common.{◌≡◌, ℕ, zero, suc, ◌-◌, ◌<◌, ◌�
 use Rattle.std.proofs.lemmas.Bool.{cases_lt}
 use Rattle.std.proofs.lemmas.List.{take_all}
 use Rattle.std.specs.Prelude.{ℤ, pos, min, slice_index_or}
-use Rattle.auction_model.specs.Book.{Book}
-use Rattle.cert_form.specs.Certificate.{CertValue, RowValue, row_of}
-use Rattle.cert_form.specs.CertText.{AreRows, IsRow, as_numbers}
-use Rattle.cert_laws.specs.Tests.{bidders_of}
+use Rattle.cert_check.specs.auction_model.specs.Book.{Book}
+use Rattle.cert_facts.specs.cert_form.specs.Certificate.{CertValue, RowValue, row_of}
+use Rattle.cert_facts.specs.cert_form.specs.CertText.{AreRows, IsRow, as_numbers}
+use Rattle.cert_facts.specs.cert_laws.specs.Tests.{bidders_of}
 use Rattle.cert_pieces.specs.declared.due.Due.{Due}
 use Rattle.cert_pieces.specs.declared.due.Due.TheVariants.{Version, Limits, Den, Value, Choice, Title, Entries, Without, PartChoice, Payments, Rows, Members, Multipliers, RowChoice, End, Nothing}
 use Rattle.cert_pieces.specs.declared.due.Table.TheVariants.{Head, Part, Lowered}

@@ -1,11 +1,11 @@
 -- The tests of the rows and of their multipliers, when a line of the rows has come.
 use Rattle.std.proofs.Common.{◌≡◌, ℕ, zero, suc, ◌+◌, ◌-◌, ◌<◌, ◌≤◌, [], ◌∷◌, length, refl, sym, subst, ◌∙◌, arith}
 use Rattle.std.specs.Prelude.{pos, Option, Some, None}
-use Rattle.auction_model.specs.Book.{Book}
-use Rattle.auction_model.specs.Prices.{weight_of}
-use Rattle.cert_form.specs.Certificate.{CertValue}
-use Rattle.cert_form.specs.CertText.{as_numbers}
-use Rattle.cert_laws.specs.Tests.{Asks, C6, FailsFirst, IsTightRow, bidders_of, states}
+use Rattle.cert_check.specs.auction_model.specs.Book.{Book}
+use Rattle.cert_check.specs.auction_model.specs.Prices.{weight_of}
+use Rattle.cert_facts.specs.cert_form.specs.Certificate.{CertValue}
+use Rattle.cert_facts.specs.cert_form.specs.CertText.{as_numbers}
+use Rattle.cert_facts.specs.cert_laws.specs.Tests.{Asks, C6, FailsFirst, IsTightRow, bidders_of, states}
 use Rattle.cert_check.specs.declared.failure.Failure.{Failure}
 use Rattle.cert_check.specs.Partway.{HoldsTo, IsJudged}
 use Rattle.cert_check.proofs.PartwayLaws.{holds-further, holds-whole}

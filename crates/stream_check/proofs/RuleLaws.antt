@@ -4,9 +4,9 @@ use Rattle.std.proofs.Math.Nat.{mul-le-mul_left}
 use Rattle.std.proofs.lemmas.Bool.{cases_lt}
 use Rattle.std.proofs.lemmas.Bool.Decides.{nat_tests}
 use Rattle.std.specs.Prelude.{Option, Some, None, Bool, true, false, nat_lt, if◌then◌else◌}
-use Rattle.auction_model.specs.Book.{Book}
-use Rattle.cert_form.specs.Certificate.{CertValue}
-use Rattle.cert_laws.specs.Tests.{Asks, FailsFirst}
+use Rattle.cert_check.specs.auction_model.specs.Book.{Book}
+use Rattle.cert_facts.specs.cert_form.specs.Certificate.{CertValue}
+use Rattle.cert_facts.specs.cert_laws.specs.Tests.{Asks, FailsFirst}
 use Rattle.cert_check.specs.Faults.{FirstFault}
 use Rattle.cert_check.specs.Partway.{failure_at, HoldsTo, IsJudged}
 use Rattle.stream_check.specs.Rules.{IsFirstBetween, lines_tested}

@@ -2,13 +2,13 @@
 use Rattle.std.proofs.Common.{◌≡◌, ℕ, zero, suc, ◌≤◌, false, List, [], ◌∷◌, ◌++◌, length, take, drop, get_or, append_assoc, inl, inr, refl, sym, ap, subst, ◌∙◌, arith}
 use Rattle.std.proofs.lemmas.List.{append-nil}
 use Rattle.std.specs.Prelude.{ℤ, pos, Option, Some, None, codes}
-use Rattle.line_text.specs.LineText.{IsTextOf, stated}
-use Rattle.auction_model.specs.Book.{Book}
-use Rattle.cert_form.specs.Certificate.{CertValue}
-use Rattle.cert_form.specs.CertText.{IsCertificate, as_numbers, cert_lines, line}
-use Rattle.cert_form.specs.Lines.{Line, lines, IsCertText}
-use Rattle.cert_form.specs.Says.{CertSays}
-use Rattle.cert_laws.specs.Tests.{bidders_of, states}
+use Rattle.cert_check.specs.line_text.specs.LineText.{IsTextOf, stated}
+use Rattle.cert_check.specs.auction_model.specs.Book.{Book}
+use Rattle.cert_facts.specs.cert_form.specs.Certificate.{CertValue}
+use Rattle.cert_facts.specs.cert_form.specs.CertText.{IsCertificate, as_numbers, cert_lines, line}
+use Rattle.cert_facts.specs.cert_form.specs.Lines.{Line, lines, IsCertText}
+use Rattle.cert_facts.specs.cert_form.specs.Says.{CertSays}
+use Rattle.cert_facts.specs.cert_laws.specs.Tests.{bidders_of, states}
 use Rattle.cert_check.specs.declared.failure.Failure.{Failure}
 use Rattle.cert_check.specs.Partway.{HoldsTo, IsJudged}
 use Rattle.cert_pieces.specs.declared.due.Due.{Due}

@@ -3,11 +3,11 @@ use Rattle.std.proofs.Common.{◌≡◌, ℕ, zero, suc, ◌+◌, ◌-◌, ◌*�
 use Rattle.std.proofs.Math.Nat.{mul-le-mul_left}
 use Rattle.std.proofs.lemmas.Bool.{cases_lt}
 use Rattle.std.specs.Prelude.{Option, Some, None, slice_index_or}
-use Rattle.auction_model.specs.Book.{Book, net_of}
-use Rattle.auction_model.specs.Prices.{weight_of}
-use Rattle.cert_form.specs.Certificate.{CertValue}
-use Rattle.cert_form.specs.CertText.{IsTable}
-use Rattle.cert_laws.specs.Tests.{Asks, bidders_of, states, lowered_net}
+use Rattle.cert_check.specs.auction_model.specs.Book.{Book, net_of}
+use Rattle.cert_check.specs.auction_model.specs.Prices.{weight_of}
+use Rattle.cert_facts.specs.cert_form.specs.Certificate.{CertValue}
+use Rattle.cert_facts.specs.cert_form.specs.CertText.{IsTable}
+use Rattle.cert_facts.specs.cert_laws.specs.Tests.{Asks, bidders_of, states, lowered_net}
 use Rattle.cert_check.specs.declared.failure.Failure.{Failure}
 use Rattle.cert_check.specs.declared.tables.offers.Offers.{Offers}
 use Rattle.cert_check.specs.LineTests.{RulesAt, worth_of}

@@ -4,11 +4,11 @@ use Rattle.std.proofs.lemmas.Bool.{cases_lt}
 use Rattle.std.proofs.lemmas.Int.{ints}
 use Rattle.std.proofs.lemmas.List.{length-set}
 use Rattle.std.specs.Prelude.{ℤ, pos, ◌+ℤ◌, unsigned_abs, if◌then◌else◌}
-use Rattle.auction_model.specs.Lowered.{of_bidder}
-use Rattle.cert_form.specs.Certificate.{CertValue, RowValue, is_member, row_of}
-use Rattle.cert_form.specs.CertText.{AreRows}
-use Rattle.cert_laws.specs.Tests.{sum_holding}
-use Rattle.wide_num.specs.Sums.{nth}
+use Rattle.cert_check.specs.auction_model.specs.Lowered.{of_bidder}
+use Rattle.cert_facts.specs.cert_form.specs.Certificate.{CertValue, RowValue, is_member, row_of}
+use Rattle.cert_facts.specs.cert_form.specs.CertText.{AreRows}
+use Rattle.cert_facts.specs.cert_laws.specs.Tests.{sum_holding}
+use Rattle.cert_check.specs.wide_num.specs.Sums.{nth}
 use Rattle.cert_check.proofs.SumLaws.{rows-range, counted-size}
 use Rattle.cert_check.proofs.Written.{AreWritten, written-more, written-all}
 use Rattle.stream_check.specs.declared.row_totals.RowTotals.{RowTotals}

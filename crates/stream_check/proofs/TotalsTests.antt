@@ -1,7 +1,7 @@
 -- The tests of the multipliers, from the totals.
 use Rattle.std.proofs.Common.{◌≡◌, ℕ, zero, suc, ◌-◌, ◌<◌, ◌≤◌, List, [], ◌∷◌, length, take, get_or, refl, ◌∙◌, arith, length-take}
 use Rattle.std.specs.Prelude.{ℤ, pos}
-use Rattle.cert_form.specs.Certificate.{CertValue}
+use Rattle.cert_facts.specs.cert_form.specs.Certificate.{CertValue}
 use Rattle.cert_check.specs.Columns.{AreFirsts, AreFirstSums, AreSeconds, AreSecondSums}
 use Rattle.stream_check.specs.declared.row_totals.RowTotals.{RowTotals}
 use Rattle.stream_check.specs.Totals.{AreTotals}

@@ -1,14 +1,14 @@
 -- A checker whose answer is yes, and the certificate whose text was fed.
 use Rattle.std.proofs.Common.{◌≡◌, ℕ, List, [], refl, subst, arith}
 use Rattle.std.specs.Prelude.{ℤ, Option, Some, None}
-use Rattle.auction_model.specs.Book.{Book}
-use Rattle.auction_model.specs.Prices.{weight_of}
-use Rattle.line_text.specs.LineText.{Said, stated, faulty, beyond}
-use Rattle.cert_form.specs.Certificate.{CertValue}
-use Rattle.cert_form.specs.CertText.{IsCertificate}
-use Rattle.cert_form.specs.Lines.{Line}
-use Rattle.cert_form.specs.Says.{CertSays}
-use Rattle.cert_laws.specs.Tests.{FailsFirst, Holds, bidders_of, states}
+use Rattle.cert_check.specs.auction_model.specs.Book.{Book}
+use Rattle.cert_check.specs.auction_model.specs.Prices.{weight_of}
+use Rattle.cert_check.specs.line_text.specs.LineText.{Said, stated, faulty, beyond}
+use Rattle.cert_facts.specs.cert_form.specs.Certificate.{CertValue}
+use Rattle.cert_facts.specs.cert_form.specs.CertText.{IsCertificate}
+use Rattle.cert_facts.specs.cert_form.specs.Lines.{Line}
+use Rattle.cert_facts.specs.cert_form.specs.Says.{CertSays}
+use Rattle.cert_facts.specs.cert_laws.specs.Tests.{FailsFirst, Holds, bidders_of, states}
 use Rattle.cert_check.specs.declared.failure.Failure.{Failure}
 use Rattle.cert_check.specs.Partway.{IsJudged}
 use Rattle.cert_check.proofs.PartwayLaws.{all-hold}

@@ -1,8 +1,8 @@
 -- Which numbers of the room are which of a certificate.
 use Rattle.std.specs.Prelude.{◌≡◌, ℕ, suc, ◌≤◌, ◌<◌, IsTrue, List, [], ◌∷◌, take, slice_index_or, ℤ}
-use Rattle.auction_model.specs.Market.{uses}
-use Rattle.cert_form.specs.Certificate.{CertValue, part_of}
-use Rattle.cert_form.specs.CertText.{as_numbers}
+use Rattle.cert_check.specs.auction_model.specs.Market.{uses}
+use Rattle.cert_facts.specs.cert_form.specs.Certificate.{CertValue, part_of}
+use Rattle.cert_facts.specs.cert_form.specs.CertText.{as_numbers}
 use Rattle.cert_pieces.specs.declared.due.Due.{Due}
 use Rattle.cert_pieces.specs.declared.due.Due.TheVariants.{Version, Limits, Den, Value, Choice, Title, Entries, Without, PartChoice, Payments, Rows, Members, Multipliers, RowChoice, End, Nothing}
 use Rattle.cert_pieces.specs.declared.due.Table.{Table}

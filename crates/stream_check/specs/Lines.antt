@@ -1,10 +1,10 @@
 -- What is known of a certificate at a line, and behind it.
 use Rattle.std.specs.Prelude.{◌≡◌, ℕ, List, ◌++◌, Option, Some, None, length, ℤ, pos}
-use Rattle.auction_model.specs.Book.{Book}
-use Rattle.cert_form.specs.Certificate.{CertValue}
-use Rattle.cert_form.specs.CertText.{IsCertificate, as_numbers, cert_lines}
-use Rattle.cert_form.specs.Lines.{Line}
-use Rattle.cert_laws.specs.Tests.{FailsFirst, bidders_of, states}
+use Rattle.cert_check.specs.auction_model.specs.Book.{Book}
+use Rattle.cert_facts.specs.cert_form.specs.Certificate.{CertValue}
+use Rattle.cert_facts.specs.cert_form.specs.CertText.{IsCertificate, as_numbers, cert_lines}
+use Rattle.cert_facts.specs.cert_form.specs.Lines.{Line}
+use Rattle.cert_facts.specs.cert_laws.specs.Tests.{FailsFirst, bidders_of, states}
 use Rattle.cert_check.specs.declared.failure.Failure.{Failure}
 use Rattle.cert_pieces.specs.declared.due.Due.{Due}
 use Rattle.cert_pieces.specs.Dues.{IsDue}

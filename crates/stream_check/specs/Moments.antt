@@ -1,13 +1,13 @@
 -- What a line that has come shows of each certificate that has it there.
 use Rattle.std.specs.Prelude.{◌≡◌, ℕ, ◌<◌, ◌≤◌, length}
-use Rattle.auction_model.specs.Prices.{weight_of}
+use Rattle.cert_check.specs.auction_model.specs.Prices.{weight_of}
 use Rattle.cert_check.specs.Fields.{IsOf}
 use Rattle.cert_check.specs.declared.claim.Claim.{Claim}
-use Rattle.auction_model.specs.Book.{net_of}
-use Rattle.cert_laws.specs.Tests.{bidders_of, lowered_net}
+use Rattle.cert_check.specs.auction_model.specs.Book.{net_of}
+use Rattle.cert_facts.specs.cert_laws.specs.Tests.{bidders_of, lowered_net}
 use Rattle.cert_check.specs.LineTests.{worth_of}
 use Rattle.cert_check.specs.declared.tables.offers.Offers.{Offers}
-use Rattle.cert_form.specs.Certificate.{CertValue}
+use Rattle.cert_facts.specs.cert_form.specs.Certificate.{CertValue}
 use Rattle.stream_check.specs.declared.finding.Finding.{Finding}
 use Rattle.stream_check.specs.declared.moment.Moment.{Moment}
 use Rattle.cert_pieces.specs.declared.due.Due.{Due}

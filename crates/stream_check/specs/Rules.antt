@@ -1,8 +1,8 @@
 -- The rules of a table, two lines at a time.
 use Rattle.std.specs.Prelude.{◌≡◌, ℕ, suc, ◌-◌, ◌≤◌, ◌<◌, nat_lt, List, [], slice_index_or, Option, Some, None, ℤ, if◌then◌else◌}
-use Rattle.auction_model.specs.Book.{Book}
-use Rattle.cert_form.specs.CertText.{IsTable}
-use Rattle.cert_laws.specs.Tests.{bidders_of, states}
+use Rattle.cert_check.specs.auction_model.specs.Book.{Book}
+use Rattle.cert_facts.specs.cert_form.specs.CertText.{IsTable}
+use Rattle.cert_facts.specs.cert_laws.specs.Tests.{bidders_of, states}
 use Rattle.cert_pieces.specs.declared.due.Due.TheVariants.{Entries}
 use Rattle.cert_pieces.specs.declared.due.Table.{Table}
 use Rattle.cert_pieces.specs.Rooms.{segment}

@@ -1,8 +1,8 @@
 -- For which text a checker stands.
 use Rattle.std.specs.Prelude.{◌≡◌, ℕ, List, Option, Some, None, ℤ}
-use Rattle.auction_model.specs.Prices.{AreWeights, weight_of}
-use Rattle.cert_form.specs.Lines.{Line}
-use Rattle.cert_laws.specs.Tests.{bidders_of, states}
+use Rattle.cert_check.specs.auction_model.specs.Prices.{AreWeights, weight_of}
+use Rattle.cert_facts.specs.cert_form.specs.Lines.{Line}
+use Rattle.cert_facts.specs.cert_laws.specs.Tests.{bidders_of, states}
 use Rattle.cert_pieces.specs.declared.stop.TextStop.{TextStop}
 use Rattle.cert_pieces.specs.Standing.{EndsBehind, IsReading}
 use Rattle.cert_pieces.specs.Stops.{StopsFor}

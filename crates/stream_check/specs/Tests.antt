@@ -1,11 +1,11 @@
 -- How far the tests of a certificate are, by the line that is due.
 use Rattle.std.specs.Prelude.{◌≡◌, ℕ, zero, suc, ◌+◌, ◌-◌, ◌*◌, ◌<◌, IsTrue, length, Option, Some, None, ◌≤ℤ◌}
-use Rattle.auction_model.specs.Book.{Book, net_of, menu_of, market_of}
-use Rattle.auction_model.specs.Market.{number_of, uses, value_of}
-use Rattle.auction_model.specs.Menu.{without}
-use Rattle.auction_model.specs.Table.{entry_at}
-use Rattle.cert_form.specs.Certificate.{CertValue, WithoutValue, part_of}
-use Rattle.cert_laws.specs.Tests.{FailsFirst, ObeysAt, bidders_of, states, full}
+use Rattle.cert_check.specs.auction_model.specs.Book.{Book, net_of, menu_of, market_of}
+use Rattle.cert_check.specs.auction_model.specs.Market.{number_of, uses, value_of}
+use Rattle.cert_check.specs.auction_model.specs.Menu.{without}
+use Rattle.cert_check.specs.auction_model.specs.Table.{entry_at}
+use Rattle.cert_facts.specs.cert_form.specs.Certificate.{CertValue, WithoutValue, part_of}
+use Rattle.cert_facts.specs.cert_laws.specs.Tests.{FailsFirst, ObeysAt, bidders_of, states, full}
 use Rattle.cert_check.specs.Partway.{HoldsTo, IsLate}
 use Rattle.cert_check.specs.declared.failure.Failure.{Failure}
 use Rattle.cert_pieces.specs.declared.due.Due.{Due}

@@ -1,9 +1,9 @@
 -- The multipliers of the rows that have come, and their sums.
 use Rattle.std.specs.Prelude.{◌≡◌, ℕ, suc, ◌-◌, ◌≤◌, ◌<◌, length}
-use Rattle.auction_model.specs.Lowered.{of_bidder}
-use Rattle.cert_form.specs.Certificate.{CertValue, row_of}
-use Rattle.cert_laws.specs.Tests.{sum_holding}
-use Rattle.wide_num.specs.Sums.{nth}
+use Rattle.cert_check.specs.auction_model.specs.Lowered.{of_bidder}
+use Rattle.cert_facts.specs.cert_form.specs.Certificate.{CertValue, row_of}
+use Rattle.cert_facts.specs.cert_laws.specs.Tests.{sum_holding}
+use Rattle.cert_check.specs.wide_num.specs.Sums.{nth}
 use Rattle.cert_pieces.specs.declared.due.Due.{Due}
 use Rattle.cert_pieces.specs.declared.due.Due.TheVariants.{Title, Entries, Members, Multipliers, RowChoice, End, Nothing}
 use Rattle.cert_pieces.specs.declared.due.Table.TheVariants.{Lowered}

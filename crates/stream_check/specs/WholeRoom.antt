@@ -1,14 +1,14 @@
 -- What the room has of a certificate that has come whole.
 use Rattle.std.specs.Prelude.{◌≡◌, ℕ, ◌≤◌, ◌<◌, IsTrue, List, [], ◌∷◌, ℤ}
-use Rattle.auction_model.specs.Book.{Book}
-use Rattle.auction_model.specs.Market.{uses}
+use Rattle.cert_check.specs.auction_model.specs.Book.{Book}
+use Rattle.cert_check.specs.auction_model.specs.Market.{uses}
 use Rattle.cert_facts.specs.Facts.{HasFacts}
-use Rattle.cert_form.specs.Certificate.{CertValue, part_of}
-use Rattle.cert_form.specs.CertText.{as_numbers}
-use Rattle.cert_laws.specs.Tests.{bidders_of, states, vickrey_of}
+use Rattle.cert_facts.specs.cert_form.specs.Certificate.{CertValue, part_of}
+use Rattle.cert_facts.specs.cert_form.specs.CertText.{as_numbers}
+use Rattle.cert_facts.specs.cert_laws.specs.Tests.{bidders_of, states, vickrey_of}
 use Rattle.cert_pieces.specs.declared.due.Due.TheVariants.{Den, Value, Choice, PartChoice, Payments}
 use Rattle.cert_pieces.specs.Rooms.{segment}
-use Rattle.choices.specs.declared.chooser.Single.{Single}
+use Rattle.cert_facts.specs.choices.specs.declared.chooser.Single.{Single}
 
 -- A certificate of which the facts can be told, and of which the room has what they are told from.
 pub record HasAll (book : Book) (c : CertValue) (room : List ℤ) : Type 0 where

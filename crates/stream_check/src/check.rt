@@ -1,13 +1,13 @@
 // A certificate that is checked from pieces of its text.
 ghost use Rattle.std.specs.Prelude.{◌≡◌, ◌≤◌, ◌<◌, ◌+◌, ◌^◌, ℕ, List, [], ◌∷◌, ◌++◌, length, IfOk, IfErr, ℤ, None};
-ghost use Rattle.auction_model.specs.Prices.{AreWeights, weight_of};
-ghost use Rattle.line_text.specs.LineText.{stated};
+ghost use Rattle.cert_check.specs.auction_model.specs.Prices.{AreWeights, weight_of};
+ghost use Rattle.cert_check.specs.line_text.specs.LineText.{stated};
 ghost use Rattle.cert_facts.specs.Facts.{AreFacts};
-ghost use Rattle.cert_form.specs.Certificate.{CertValue};
-ghost use Rattle.cert_form.specs.Lines.{Line};
-ghost use Rattle.cert_form.specs.Says.{CertSays};
-ghost use Rattle.cert_laws.specs.Sound.{IsSound};
-ghost use Rattle.cert_laws.specs.Tests.{Holds, bidders_of, states};
+ghost use Rattle.cert_facts.specs.cert_form.specs.Certificate.{CertValue};
+ghost use Rattle.cert_facts.specs.cert_form.specs.Lines.{Line};
+ghost use Rattle.cert_facts.specs.cert_form.specs.Says.{CertSays};
+ghost use Rattle.cert_facts.specs.cert_laws.specs.Sound.{IsSound};
+ghost use Rattle.cert_facts.specs.cert_laws.specs.Tests.{Holds, bidders_of, states};
 ghost use Rattle.cert_check.specs.Verdicts.{IsVerdict};
 ghost use Rattle.cert_pieces.specs.Pieces.{between};
 ghost use Rattle.cert_pieces.specs.Rooms.{room_size};
@@ -18,13 +18,13 @@ use crate::judging::judged;
 use crate::kept::{members_behind, totals_behind};
 use crate::moment::Moment;
 use crate::row_totals::{RowTotals, no_totals};
-use bid_book::BidBook;
+use cert_check::cert_text::Shape;
 use cert_check::{Failure, Verdict, verdict_of};
 use cert_facts::CertFacts;
-use cert_form::one_cert;
-use cert_laws::{one_verdict, sound_yes};
+use cert_facts::bid_book::BidBook;
+use cert_facts::cert_form::one_cert;
+use cert_facts::cert_laws::{one_verdict, sound_yes};
 use cert_pieces::{Due, Progress, Reader, TextStop, room_len};
-use cert_text::Shape;
 use std::alloc::{AllocError, Global};
 
 /// Checks a certificate of a book, of which pieces of bytes come.

@@ -1,8 +1,8 @@
 // Lines whose tests need the first three: the payments, the rows and the lowered table.
 ghost use Rattle.std.specs.Prelude.{◌≡◌, ◌≤◌, ◌<◌, ◌+◌, ◌*◌, ◌↔◌, ℕ, IsTrue};
-ghost use Rattle.auction_model.specs.Prices.{weight_of};
-ghost use Rattle.cert_form.specs.Certificate.{CertValue};
-ghost use Rattle.cert_laws.specs.Tests.{Asks, bidders_of, states};
+ghost use Rattle.cert_check.specs.auction_model.specs.Prices.{weight_of};
+ghost use Rattle.cert_facts.specs.cert_form.specs.Certificate.{CertValue};
+ghost use Rattle.cert_facts.specs.cert_laws.specs.Tests.{Asks, bidders_of, states};
 ghost use Rattle.cert_check.specs.Partway.{IsJudged, IsLate};
 ghost use Rattle.stream_check.specs.Moments.{AreLowered, IsAt, IsPossible, IsClaimOf, Shows};
 ghost use Rattle.stream_check.specs.Rules.{lines_tested};

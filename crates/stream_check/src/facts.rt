@@ -1,24 +1,24 @@
 // The facts of a certificate that has come whole.
 ghost use Rattle.std.specs.Prelude.{◌≡◌, ◌≤◌, ◌<◌, ◌^◌, ◌+ℤ◌, ◌-ℤ◌, ℕ, List, IsTrue, IfOk, length, map, unsigned_abs};
-ghost use Rattle.auction_model.specs.Book.{bids_of, market_of, menu_of, net_of};
-ghost use Rattle.auction_model.specs.Market.{number_of, value_of};
-ghost use Rattle.auction_model.specs.Menu.{is_known_after};
+ghost use Rattle.cert_check.specs.auction_model.specs.Book.{bids_of, market_of, menu_of, net_of};
+ghost use Rattle.cert_check.specs.auction_model.specs.Market.{number_of, value_of};
+ghost use Rattle.cert_check.specs.auction_model.specs.Menu.{is_known_after};
 ghost use Rattle.cert_facts.specs.Facts.{AreFacts, single_of};
-ghost use Rattle.cert_form.specs.Certificate.{CertValue};
-ghost use Rattle.cert_form.specs.CertText.{IsChoice, as_numbers};
-ghost use Rattle.cert_laws.specs.Tests.{bidders_of, states};
+ghost use Rattle.cert_facts.specs.cert_form.specs.Certificate.{CertValue};
+ghost use Rattle.cert_facts.specs.cert_form.specs.CertText.{IsChoice, as_numbers};
+ghost use Rattle.cert_facts.specs.cert_laws.specs.Tests.{bidders_of, states};
 ghost use Rattle.cert_pieces.specs.Dues.{IsDue};
 ghost use Rattle.cert_pieces.specs.Rooms.{room_size, segment};
 ghost use Rattle.stream_check.specs.WholeRoom.{HasAll, single_at};
 
 use crate::room::{number_in, numbers_in, put_choice};
-use bid_book::BidBook;
 use cert_check::BIDDER_ROOM;
+use cert_check::wide_num::NumList;
+use cert_facts::bid_book::BidBook;
+use cert_facts::choices::{Choice, Single, value_among, worth};
 use cert_facts::{CertFacts, Singles};
 use cert_pieces::Due;
-use choices::{Choice, Single, value_among, worth};
 use std::alloc::{AllocError, Global};
-use wide_num::NumList;
 
 /// The facts of the certificate whose numbers stand in the room. The only error is want of memory.
 pub(crate) fn facts_in(

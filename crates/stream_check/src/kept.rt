@@ -1,8 +1,8 @@
 // What is kept beside the room.
 ghost use Rattle.std.specs.Prelude.{◌≡◌, ◌≤◌, ◌⊎◌, ℕ, length, take};
 ghost use Rattle.cert_pieces.specs.LinesLeft.{row_at};
-ghost use Rattle.cert_form.specs.Certificate.{CertValue};
-ghost use Rattle.cert_laws.specs.Tests.{bidders_of, states};
+ghost use Rattle.cert_facts.specs.cert_form.specs.Certificate.{CertValue};
+ghost use Rattle.cert_facts.specs.cert_laws.specs.Tests.{bidders_of, states};
 ghost use Rattle.cert_pieces.specs.declared.due.Due.{Due};
 ghost use Rattle.stream_check.specs.InRoom.{HasMembers};
 ghost use Rattle.stream_check.specs.Lines.{IsNext};

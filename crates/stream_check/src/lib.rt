@@ -19,4 +19,7 @@ mod rows;
 mod rules;
 mod tables;
 
+pub use cert_check;
+pub use cert_facts;
+pub use cert_pieces;
 pub use check::StreamCheck;

@@ -1,11 +1,11 @@
 // A line that has come.
 ghost use Rattle.std.specs.Prelude.{◌≡◌, length};
-ghost use Rattle.auction_model.specs.Prices.{AreWeights};
-ghost use Rattle.cert_laws.specs.Tests.{bidders_of, states};
+ghost use Rattle.cert_check.specs.auction_model.specs.Prices.{AreWeights};
+ghost use Rattle.cert_facts.specs.cert_laws.specs.Tests.{bidders_of, states};
 ghost use Rattle.cert_pieces.specs.Rooms.{room_size};
 
 use crate::row_totals::RowTotals;
-use bid_book::BidBook;
+use cert_facts::bid_book::BidBook;
 use cert_pieces::Due;
 
 /// A line that has come whole and in range, and what is kept of those before it.

@@ -1,11 +1,11 @@
 // The parts without a winner.
 ghost use Rattle.std.specs.Prelude.{◌≡◌, ◌≤◌, ◌<◌, ◌↔◌, ◌≤ℤ◌, ℕ, IsTrue, Some, None};
 ghost use Rattle.cert_check.specs.declared.failure.Failure.{Failure};
-ghost use Rattle.auction_model.specs.Book.{market_of};
-ghost use Rattle.auction_model.specs.Market.{value_of};
-ghost use Rattle.auction_model.specs.Table.{entry_at};
-ghost use Rattle.cert_form.specs.Certificate.{CertValue, part_of};
-ghost use Rattle.cert_laws.specs.Tests.{full};
+ghost use Rattle.cert_check.specs.auction_model.specs.Book.{market_of};
+ghost use Rattle.cert_check.specs.auction_model.specs.Market.{value_of};
+ghost use Rattle.cert_check.specs.auction_model.specs.Table.{entry_at};
+ghost use Rattle.cert_facts.specs.cert_form.specs.Certificate.{CertValue, part_of};
+ghost use Rattle.cert_facts.specs.cert_laws.specs.Tests.{full};
 ghost use Rattle.stream_check.specs.Moments.{ArePlain, IsAt, IsPossible, Shows};
 
 use crate::finding::Finding;
@@ -14,8 +14,8 @@ use crate::room::{numbers_in, put_choice};
 use crate::rules::rules_fault;
 use crate::tables::is_at_most;
 use cert_check::{BIDDER_ROOM, Failure, Offers, is_allowed_without};
+use cert_facts::choices::value_among;
 use cert_pieces::{Due, Table};
-use choices::value_among;
 
 /// What the choice without winner `j` shows: whether it is known, fits and uses that winner.
 pub(crate) fn part_choice(at: &Moment, j: u16) -> Finding

@@ -1,13 +1,13 @@
 // Numbers of the room.
 ghost use Rattle.std.specs.Prelude.{◌≡◌, ◌≤◌, ℕ, List, [], ◌∷◌, length, take, ℤ, pos};
-ghost use Rattle.cert_form.specs.CertText.{AtMost, IsChoice, as_numbers};
-ghost use Rattle.cert_laws.specs.Tests.{bidders_of, states};
+ghost use Rattle.cert_facts.specs.cert_form.specs.CertText.{AtMost, IsChoice, as_numbers};
+ghost use Rattle.cert_facts.specs.cert_laws.specs.Tests.{bidders_of, states};
 ghost use Rattle.cert_pieces.specs.Dues.{IsDue};
 ghost use Rattle.cert_pieces.specs.Rooms.{room_size, segment};
 
-use bid_book::BidBook;
+use cert_check::cert_text::Shape;
+use cert_facts::bid_book::BidBook;
 use cert_pieces::{Due, numbers_span};
-use cert_text::Shape;
 
 /// The numbers of the room that belong to a line, as many as it may have.
 pub(crate) fn numbers_in<'a>(book: &BidBook, due: Due, room: &'a [i128]) -> &'a [i128]

@@ -1,7 +1,7 @@
 // The multipliers of the rows.
 ghost use Rattle.std.specs.Prelude.{◌≡◌, ◌≤◌, ◌<◌, ℕ, suc, List, length, ◌^◌, unsigned_abs, slice_set, ℤ};
-ghost use Rattle.cert_form.specs.Certificate.{CertValue, row_of};
-ghost use Rattle.cert_form.specs.CertText.{AreRows};
+ghost use Rattle.cert_facts.specs.cert_form.specs.Certificate.{CertValue, row_of};
+ghost use Rattle.cert_facts.specs.cert_form.specs.CertText.{AreRows};
 ghost use Rattle.stream_check.specs.Totals.{AreTotals};
 
 use cert_check::{BIDDER_ROOM, MOST_ROWS, add_row};

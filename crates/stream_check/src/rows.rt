@@ -1,8 +1,8 @@
 // The rows.
 ghost use Rattle.std.specs.Prelude.{◌≡◌, ◌≤◌, ◌<◌, ◌+◌, ◌-◌, ◌↔◌, ℕ, IsTrue, length, take, pos};
-ghost use Rattle.auction_model.specs.Prices.{weight_of};
-ghost use Rattle.cert_form.specs.Certificate.{CertValue};
-ghost use Rattle.cert_laws.specs.Tests.{Asks, IsTightRow, bidders_of};
+ghost use Rattle.cert_check.specs.auction_model.specs.Prices.{weight_of};
+ghost use Rattle.cert_facts.specs.cert_form.specs.Certificate.{CertValue};
+ghost use Rattle.cert_facts.specs.cert_laws.specs.Tests.{Asks, IsTightRow, bidders_of};
 ghost use Rattle.cert_check.specs.Places.{IsFirstFailing};
 ghost use Rattle.cert_check.specs.Fields.{AreValuesWithout, worth_without};
 ghost use Rattle.cert_check.specs.Partway.{HoldsTo, IsJudged};
@@ -17,8 +17,8 @@ use crate::room::{number_in, numbers_in, put_choice};
 use cert_check::{
     BIDDER_ROOM, Claim, Column, Failure, first_test, of_test, row_holds, second_test,
 };
+use cert_facts::choices::value_among;
 use cert_pieces::Due;
-use choices::value_among;
 
 /// What the count of rows shows: where there is none, the tests of the multipliers.
 pub(crate) fn rows_line(at: &Moment, claim: &Claim) -> Finding

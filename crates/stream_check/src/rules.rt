@@ -1,7 +1,7 @@
 // The rules of a table, two lines at a time.
 ghost use Rattle.std.specs.Prelude.{◌≡◌, ◌≤◌, ◌<◌, ◌+◌, ◌-◌, ◌*◌, ◌^◌, ℕ, suc, Some, None, List, [], length, slice_index_or, ℤ};
-ghost use Rattle.cert_form.specs.CertText.{IsTable};
-ghost use Rattle.cert_laws.specs.Tests.{bidders_of, states};
+ghost use Rattle.cert_facts.specs.cert_form.specs.CertText.{IsTable};
+ghost use Rattle.cert_facts.specs.cert_laws.specs.Tests.{bidders_of, states};
 ghost use Rattle.cert_check.specs.LineTests.{RulesAt};
 ghost use Rattle.cert_pieces.specs.Dues.{IsTableOf};
 ghost use Rattle.cert_pieces.specs.Rooms.{room_size, segment};

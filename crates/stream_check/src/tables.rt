@@ -1,8 +1,8 @@
 // The lines of the head's table.
 ghost use Rattle.std.specs.Prelude.{◌≡◌, ◌≤◌, ◌<◌, ◌+◌, ◌*◌, ◌↔◌, ◌≤ℤ◌, ℕ, IsTrue, None};
-ghost use Rattle.auction_model.specs.Prices.{weight_of};
-ghost use Rattle.cert_form.specs.Certificate.{CertValue};
-ghost use Rattle.cert_laws.specs.Tests.{Asks, bidders_of, states};
+ghost use Rattle.cert_check.specs.auction_model.specs.Prices.{weight_of};
+ghost use Rattle.cert_facts.specs.cert_form.specs.Certificate.{CertValue};
+ghost use Rattle.cert_facts.specs.cert_laws.specs.Tests.{Asks, bidders_of, states};
 ghost use Rattle.cert_check.specs.Partway.{IsJudged, IsLate, IsSmallPlace};
 ghost use Rattle.stream_check.specs.Moments.{ArePlain, IsAt, IsPossible, Shows};
 ghost use Rattle.stream_check.specs.Rules.{lines_tested};
@@ -11,8 +11,8 @@ use crate::finding::Finding;
 use crate::moment::Moment;
 use crate::room::{number_in, numbers_in, put_choice};
 use crate::rules::rules_fault;
-use bid_book::BidBook;
 use cert_check::{BIDDER_ROOM, Failure, Offers, behind_table, none_earlier, of_test, with_late};
+use cert_facts::bid_book::BidBook;
 use cert_pieces::{Due, Table};
 
 /// What line `k` of the head's table shows: the third test, as far as it is known then.

@@ -2,3 +2,4 @@ pub mod Numeral
 pub mod Range
 pub mod Decimals
 pub mod Fields
+pub use Rattle.wide_num

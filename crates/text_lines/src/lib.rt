@@ -12,6 +12,7 @@ mod write;
 pub use fields::{field_len, read_at_most};
 pub use line::numbers_behind;
 pub use numbers::{NumbersStop, read_numbers};
+pub use wide_num;
 pub use write::{
     add_amounts, add_decimal, add_number, add_numbers, add_signed, add_signed_numbers,
 };

@@ -6,17 +6,17 @@ use Rattle.std.proofs.lemmas.Bool.{false≢true, cases_Bool, cond-true, cond-fal
 use Rattle.std.proofs.lemmas.Int.{ints}
 use Rattle.std.proofs.lemmas.List.{map-id}
 use Rattle.std.proofs.lemmas.Nat.{div-mul-add, mod-mul-add, mul-add-lt}
-use Rattle.auction_model.specs.Menu.{Menu}
-use Rattle.auction_model.specs.Package.{is_within, less, IsNothingFrom}
-use Rattle.auction_model.specs.Place.{states_of, place_of, left_at}
-use Rattle.auction_model.specs.Steps.{raised}
-use Rattle.auction_model.specs.Table.{IsLine}
-use Rattle.auction_model.proofs.DominatedLaws.{less-within_self, fits-more}
-use Rattle.auction_model.proofs.LineLaws.{IsLineUpTo, int_max-left}
-use Rattle.auction_model.proofs.PackageLaws.{less-empty}
-use Rattle.auction_model.proofs.PlaceLaws.{states-positive, length-left_at, left_at-within, left_at-whole, left_at-less, place_of-left_at, place-less, place-less_below, place-below, within-within}
-use Rattle.auction_model.proofs.TableLaws.{fits_up_to, parts, from_parts}
-use Rattle.auction_model.proofs.TrimLaws.{trim-place, trim-within}
+use Rattle.choices.specs.auction_model.specs.Menu.{Menu}
+use Rattle.choices.specs.auction_model.specs.Package.{is_within, less, IsNothingFrom}
+use Rattle.choices.specs.auction_model.specs.Place.{states_of, place_of, left_at}
+use Rattle.choices.specs.auction_model.specs.Steps.{raised}
+use Rattle.choices.specs.auction_model.specs.Table.{IsLine}
+use Rattle.choices.specs.auction_model.proofs.DominatedLaws.{less-within_self, fits-more}
+use Rattle.choices.specs.auction_model.proofs.LineLaws.{IsLineUpTo, int_max-left}
+use Rattle.choices.specs.auction_model.proofs.PackageLaws.{less-empty}
+use Rattle.choices.specs.auction_model.proofs.PlaceLaws.{states-positive, length-left_at, left_at-within, left_at-whole, left_at-less, place_of-left_at, place-less, place-less_below, place-below, within-within}
+use Rattle.choices.specs.auction_model.proofs.TableLaws.{fits_up_to, parts, from_parts}
+use Rattle.choices.specs.auction_model.proofs.TrimLaws.{trim-place, trim-within}
 use Rattle.value_table.specs.Growing.{Grows, HasCorners}
 
 -- of more lots more is left

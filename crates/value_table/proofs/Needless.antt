@@ -1,11 +1,11 @@
 -- Bids that change no entry.
 use Rattle.std.specs.Prelude.{◌≡◌, ℕ, zero, suc, ◌+◌, ◌-◌, ◌≤◌, ◌<◌, List, length, ℤ, pos, ◌≤ℤ◌, refl}
 use Rattle.std.proofs.Common.{arith, sym, subst}
-use Rattle.auction_model.specs.Book.{bids_of}
-use Rattle.auction_model.proofs.LineLaws.{IsLineUpTo}
-use Rattle.auction_model.proofs.DominatedLaws.{lowered-in_order, line-dominated}
-use Rattle.bid_book.specs.Better.{IsBetter}
-use Rattle.bid_book.specs.Kept.{IsBidBook}
+use Rattle.choices.specs.auction_model.specs.Book.{bids_of}
+use Rattle.choices.specs.auction_model.proofs.LineLaws.{IsLineUpTo}
+use Rattle.choices.specs.auction_model.proofs.DominatedLaws.{lowered-in_order, line-dominated}
+use Rattle.choices.specs.bid_book.specs.Better.{IsBetter}
+use Rattle.choices.specs.bid_book.specs.Kept.{IsBidBook}
 use Rattle.value_table.specs.declared.lowering.Lowering.{Lowering}
 use Rattle.value_table.specs.Counted.{seat, net_at, counted_bids, counted, IsNeedless}
 

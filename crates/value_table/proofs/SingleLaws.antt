@@ -4,18 +4,18 @@ use Rattle.std.proofs.Common.{sym, ◌∙◌, ap, arith}
 use Rattle.std.proofs.lemmas.Bool.{and_from, le-leb}
 use Rattle.std.proofs.lemmas.Int.{ints}
 use Rattle.std.proofs.Math.Nat.{mul-le-mul_left}
-use Rattle.auction_model.specs.Package.{together, is_within}
-use Rattle.auction_model.specs.Market.{sum_after, value_of}
-use Rattle.auction_model.specs.Menu.{Menu, is_known_after, packages_after, fits_after}
-use Rattle.auction_model.specs.Greatest.{IsFirstGreatest, IsGreatestValue, IsWinning}
-use Rattle.auction_model.specs.Book.{Book, menu_of, market_of, net_of, bids_of, lots_of}
-use Rattle.auction_model.specs.Lowered.{of_bidder, sum_to, greatest_size}
+use Rattle.choices.specs.auction_model.specs.Package.{together, is_within}
+use Rattle.choices.specs.auction_model.specs.Market.{sum_after, value_of}
+use Rattle.choices.specs.auction_model.specs.Menu.{Menu, is_known_after, packages_after, fits_after}
+use Rattle.choices.specs.auction_model.specs.Greatest.{IsFirstGreatest, IsGreatestValue, IsWinning}
+use Rattle.choices.specs.auction_model.specs.Book.{Book, menu_of, market_of, net_of, bids_of, lots_of}
+use Rattle.choices.specs.auction_model.specs.Lowered.{of_bidder, sum_to, greatest_size}
 use Rattle.choices.specs.Lowering.{CanLower}
-use Rattle.auction_model.proofs.PlainLaws.{greatest-at_most}
-use Rattle.auction_model.proofs.BookMarket.{none-known, none-taken}
+use Rattle.choices.specs.auction_model.proofs.PlainLaws.{greatest-at_most}
+use Rattle.choices.specs.auction_model.proofs.BookMarket.{none-known, none-taken}
 use Rattle.value_table.proofs.Plain.{bids-fewer}
 use Rattle.value_table.specs.BookTable.{menu_without, IsInRange}
-use Rattle.bid_book.specs.Kept.{IsBidBook}
+use Rattle.choices.specs.bid_book.specs.Kept.{IsBidBook}
 
 -- the choice that gives one bidder a bid and the others none
 abbrev pub single : ℕ → ℕ → ℕ → List ℕ

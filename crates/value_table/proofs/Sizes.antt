@@ -1,8 +1,8 @@
 -- No number of the tables leaves the range.
 use Rattle.std.specs.Prelude.{◌≡◌, ℕ, zero, suc, ◌+◌, ◌*◌, ◌^◌, ◌≤◌, ◌<◌, List, length, get_or, ℤ, pos, ◌-ℤ◌, ◌*ℤ◌, unsigned_abs, refl}
 use Rattle.std.proofs.Common.{arith}
-use Rattle.auction_model.specs.Lowered.{lowered, of_bidder}
-use Rattle.auction_model.proofs.BoundLaws.{caps_of, lowered-capped, parts-capped, cap-in_sum, line-sizes, AreCapped}
+use Rattle.choices.specs.auction_model.specs.Lowered.{lowered, of_bidder}
+use Rattle.choices.specs.auction_model.proofs.BoundLaws.{caps_of, lowered-capped, parts-capped, cap-in_sum, line-sizes, AreCapped}
 use Rattle.value_table.specs.declared.lowering.Lowering.{Lowering}
 use Rattle.value_table.specs.Counted.{net_at, counted_bids, counted, IsCountedLine}
 

@@ -1,7 +1,7 @@
 -- Lines that never fall, and the corners of their blocks.
 use Rattle.std.specs.Prelude.{◌≡◌, ℕ, ◌<◌, IsTrue, List, slice_index_or, ℤ, pos, ◌≤ℤ◌}
-use Rattle.auction_model.specs.Package.{is_within}
-use Rattle.auction_model.specs.Place.{states_of, place_of, left_at}
+use Rattle.choices.specs.auction_model.specs.Package.{is_within}
+use Rattle.choices.specs.auction_model.specs.Place.{states_of, place_of, left_at}
 
 -- where more is left of each category, the line has at least as much
 abbrev pub Grows : List ℕ → List ℤ → Type 0

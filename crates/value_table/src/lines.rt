@@ -1,16 +1,16 @@
 // The lines of a table, from the last to the first. Line `k` has at each place the greatest sum that the bidders after `k`
 // count with what the place leaves.
 ghost use Rattle.std.specs.Prelude.{◌≡◌, ℕ, suc, ◌-◌, ◌^◌, ◌≤◌, ◌<◌, length, IfOk, slice_index_or, pos, ◌+ℤ◌, unsigned_abs, map};
-ghost use Rattle.auction_model.specs.Table.{IsEntry};
-ghost use Rattle.limits.specs.declared.TheConstants.{MOST_STATES};
+ghost use Rattle.choices.specs.auction_model.specs.Table.{IsEntry};
+ghost use Rattle.choices.specs.limits.specs.declared.TheConstants.{MOST_STATES};
 ghost use Rattle.value_table.specs.Counted.{counted_bids, counted, IsCountedLine, AreCountedLines, IsCountedTable, IsWholeTable};
 
 use crate::lowering::Lowering;
 use crate::narrow::count_narrow;
 use crate::runs::add_bid;
 use choices::Grid;
+use choices::wide_num::NumList;
 use std::alloc::{AllocError, Global};
-use wide_num::NumList;
 
 /// A line with an idle worth added to each entry.
 fn idle_line(alloc: Global, below: &[i128], idle: i128) -> Result<Vec<i128>, AllocError>

@@ -3,8 +3,8 @@ ghost use Rattle.std.specs.Prelude.{IsTrue, ℕ, slice_index_or, ◌≡◌, ◌+
 ghost use Rattle.std.specs.Int.{int_max};
 ghost use Rattle.value_table.specs.Turned.{IsOrderInRange};
 
-use bid_book::BidBook;
-use lots::Bid;
+use choices::bid_book::BidBook;
+use choices::lots::Bid;
 
 /// The greatest denominator with which a table is narrow.
 const NARROW_DEN: u128 = 1 << 13;
@@ -28,8 +28,8 @@ pub struct Lowering<'a> {
 
 impl<'a> Lowering<'a> {
     ghost use Rattle.std.specs.Prelude.{◌<◌};
-    ghost use Rattle.auction_model.specs.Book.{bids_of};
-    ghost use Rattle.auction_model.specs.Package.{is_within};
+    ghost use Rattle.choices.specs.auction_model.specs.Book.{bids_of};
+    ghost use Rattle.choices.specs.auction_model.specs.Package.{is_within};
     ghost use Rattle.value_table.specs.Counted.{seat, counted_bids, counted, IsNeedless, IsNarrow};
 
     /// Which bidder of the book has number `j`.

@@ -1,6 +1,6 @@
 // Lines in numbers of 64 bits, where no sum is larger: they take half the room.
 ghost use Rattle.std.specs.Prelude.{◌≡◌, ℕ, ◌-◌, ◌^◌, ◌≤◌, ◌<◌, length, IfOk, slice_index_or, pos, ◌+ℤ◌, unsigned_abs};
-ghost use Rattle.limits.specs.declared.TheConstants.{MOST_STATES};
+ghost use Rattle.choices.specs.limits.specs.declared.TheConstants.{MOST_STATES};
 ghost use Rattle.value_table.specs.Counted.{counted_bids, counted, IsCountedLine, IsNarrow};
 
 use crate::lowering::Lowering;

@@ -2,14 +2,14 @@
 // left, and a bid of `count` lots raises block `q` from block `q - count` of the line below. A block is left out where its
 // corners show that the bid changes nothing in it.
 ghost use Rattle.std.specs.Prelude.{◌≡◌, ℕ, ◌-◌, ◌≤◌, ◌<◌, ◌↔◌, IsTrue, length, slice_index_or, pos, ◌+ℤ◌, ◌≤ℤ◌, unsigned_abs, map};
-ghost use Rattle.auction_model.specs.Package.{is_within};
-ghost use Rattle.auction_model.specs.Place.{states_of, widths_of};
-ghost use Rattle.auction_model.specs.Steps.{raised};
-ghost use Rattle.limits.specs.declared.TheConstants.{MOST_STATES};
+ghost use Rattle.choices.specs.auction_model.specs.Package.{is_within};
+ghost use Rattle.choices.specs.auction_model.specs.Place.{states_of, widths_of};
+ghost use Rattle.choices.specs.auction_model.specs.Steps.{raised};
+ghost use Rattle.choices.specs.limits.specs.declared.TheConstants.{MOST_STATES};
 ghost use Rattle.value_table.specs.Growing.{Grows, HasCorners};
 
 use crate::amount::Amount;
-use lots::{Package, Supply, used_categories};
+use choices::lots::{Package, Supply, used_categories};
 
 /// Counts one more bid that wants lots of the first of some categories alone: in the places with enough of it, which are one run.
 fn raise_one<A: Amount>(

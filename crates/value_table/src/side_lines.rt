@@ -1,9 +1,9 @@
 // The lines of both sides of a book, worked out one by one in place.
 ghost use Rattle.std.specs.Prelude.{◌≡◌, ℕ, ◌-◌, ◌≤◌, ◌<◌, length, pos, slice_index_or};
-ghost use Rattle.auction_model.specs.Book.{bids_of, menu_of, net_of};
-ghost use Rattle.auction_model.specs.Place.{states_of, left_at};
-ghost use Rattle.auction_model.specs.Steps.{IsFirstNumber};
-ghost use Rattle.auction_model.specs.Table.{IsLine};
+ghost use Rattle.choices.specs.auction_model.specs.Book.{bids_of, menu_of, net_of};
+ghost use Rattle.choices.specs.auction_model.specs.Place.{states_of, left_at};
+ghost use Rattle.choices.specs.auction_model.specs.Steps.{IsFirstNumber};
+ghost use Rattle.choices.specs.auction_model.specs.Table.{IsLine};
 ghost use Rattle.value_table.specs.SideLines.{IsLeftLine, IsRightLine};
 ghost use Rattle.value_table.specs.SideValues.{IsRightEntry};
 ghost use Rattle.value_table.specs.Turned.{in_order, worths_in_order};
@@ -11,8 +11,8 @@ ghost use Rattle.value_table.specs.Turned.{in_order, worths_in_order};
 use crate::lines::put_line;
 use crate::lowering::Lowering;
 use crate::tracing::first_number;
-use bid_book::BidBook;
-use limits::MOST_BIDDERS;
+use choices::bid_book::BidBook;
+use choices::limits::MOST_BIDDERS;
 
 /// Makes `line` the line of the bidders after `k - 1` from that of the bidders after `k`: line `k - 1` of the exact table of the net
 /// amounts from line `k`. Each has one number for each place of the supply. It takes no memory.

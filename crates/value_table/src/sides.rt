@@ -1,18 +1,18 @@
 // Tables from two sides.
 ghost use Rattle.std.specs.Prelude.{◌≡◌, ℕ, ◌+◌, ◌^◌, ◌≤◌, ◌<◌, length, IfOk, slice_index_or, pos, unsigned_abs};
-ghost use Rattle.auction_model.specs.Book.{Book, market_of};
-ghost use Rattle.auction_model.specs.Greatest.{IsGreatestValue};
-ghost use Rattle.auction_model.specs.Market.{value_of};
-ghost use Rattle.auction_model.specs.Place.{left_at};
-ghost use Rattle.auction_model.specs.Prices.{allowed_without};
+ghost use Rattle.choices.specs.auction_model.specs.Book.{Book, market_of};
+ghost use Rattle.choices.specs.auction_model.specs.Greatest.{IsGreatestValue};
+ghost use Rattle.choices.specs.auction_model.specs.Market.{value_of};
+ghost use Rattle.choices.specs.auction_model.specs.Place.{left_at};
+ghost use Rattle.choices.specs.auction_model.specs.Prices.{allowed_without};
 ghost use Rattle.value_table.specs.SideValues.{AreSidesOf, IsLeftEntry, IsRightEntry, IsTurnedTable, IsGreatestPair, AreFullLines};
 ghost use Rattle.value_table.specs.TableValue.{IsTableOf, IsPlainWithout};
 
 use crate::lines::all_lines;
 use crate::lowering::Lowering;
 use crate::table::{ValueTable, plain_table, zeros};
-use bid_book::BidBook;
 use choices::Grid;
+use choices::bid_book::BidBook;
 use std::alloc::{AllocError, Global};
 use std::marker::Model;
 

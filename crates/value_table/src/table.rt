@@ -1,19 +1,19 @@
 // Tables.
 ghost use Rattle.std.specs.Prelude.{◌≡◌, ℕ, ◌^◌, ◌≤◌, ◌<◌, [], length, IfOk, slice_index_or, pos, unsigned_abs};
-ghost use Rattle.auction_model.specs.Market.{sum_after};
-ghost use Rattle.auction_model.specs.Menu.{fits_after};
-ghost use Rattle.auction_model.specs.Greatest.{IsFirstGreatest, IsWinning};
-ghost use Rattle.auction_model.specs.Book.{net_of, market_of};
-ghost use Rattle.auction_model.specs.Lowered.{lowered};
-ghost use Rattle.auction_model.specs.Table.{entry_at, IsEntry};
-ghost use Rattle.limits.specs.declared.TheConstants.{MOST_BIDDERS};
+ghost use Rattle.choices.specs.auction_model.specs.Market.{sum_after};
+ghost use Rattle.choices.specs.auction_model.specs.Menu.{fits_after};
+ghost use Rattle.choices.specs.auction_model.specs.Greatest.{IsFirstGreatest, IsWinning};
+ghost use Rattle.choices.specs.auction_model.specs.Book.{net_of, market_of};
+ghost use Rattle.choices.specs.auction_model.specs.Lowered.{lowered};
+ghost use Rattle.choices.specs.auction_model.specs.Table.{entry_at, IsEntry};
+ghost use Rattle.choices.specs.limits.specs.declared.TheConstants.{MOST_BIDDERS};
 ghost use Rattle.value_table.specs.BookTable.{menu_without, IsInRange};
 ghost use Rattle.value_table.specs.TableValue.{IsTableOf, IsPlain, IsPlainWithout};
 
 use crate::lines::{all_lines, last_entry, lines_without};
 use crate::lowering::Lowering;
 use crate::tracing::trace_lines;
-use bid_book::BidBook;
+use choices::bid_book::BidBook;
 use choices::{Choice, Grid};
 use std::alloc::{AllocError, Global};
 use std::marker::Model;

@@ -1,2 +1,3 @@
 pub mod Sources
 pub mod VickreyValue
+pub use Rattle.value_table

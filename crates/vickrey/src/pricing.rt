@@ -1,18 +1,18 @@
 // The Vickrey price of each winner.
 ghost use Rattle.std.specs.Prelude.{◌≡◌, ◌≤◌, ◌<◌, length, IfOk, IsTrue};
-ghost use Rattle.auction_model.specs.Market.{uses};
-ghost use Rattle.auction_model.specs.Book.{market_of};
-ghost use Rattle.auction_model.specs.Greatest.{IsWinning};
-ghost use Rattle.choices.specs.Singles.{winners_after, IsSingle, AreSingles};
+ghost use Rattle.value_table.specs.auction_model.specs.Market.{uses};
+ghost use Rattle.value_table.specs.auction_model.specs.Book.{market_of};
+ghost use Rattle.value_table.specs.auction_model.specs.Greatest.{IsWinning};
+ghost use Rattle.value_table.specs.choices.specs.Singles.{winners_after, IsSingle, AreSingles};
 ghost use Rattle.value_table.specs.TableValue.{IsTableOf, IsPlain};
 ghost use Rattle.vickrey.specs.Sources.{IsSourceOf};
 ghost use Rattle.vickrey.specs.VickreyValue.{IsTableWithout, AreTablesWithout};
 
 use crate::Vickrey;
 use crate::source::Source;
-use bid_book::BidBook;
-use choices::{Choice, Single};
 use std::alloc::{AllocError, Global};
+use value_table::bid_book::BidBook;
+use value_table::choices::{Choice, Single};
 use value_table::{Sides, ValueTable};
 
 /// A winner alone, and the table without it.

@@ -1,13 +1,13 @@
 // From what the values without a winner are taken.
 ghost use Rattle.std.specs.Prelude.{◌≤◌, ◌<◌, ◌^◌, length, unsigned_abs};
-ghost use Rattle.auction_model.specs.Book.{Book, market_of};
-ghost use Rattle.auction_model.specs.Greatest.{IsGreatestValue};
-ghost use Rattle.auction_model.specs.Market.{value_of};
-ghost use Rattle.auction_model.specs.Prices.{allowed_without};
+ghost use Rattle.value_table.specs.auction_model.specs.Book.{Book, market_of};
+ghost use Rattle.value_table.specs.auction_model.specs.Greatest.{IsGreatestValue};
+ghost use Rattle.value_table.specs.auction_model.specs.Market.{value_of};
+ghost use Rattle.value_table.specs.auction_model.specs.Prices.{allowed_without};
 ghost use Rattle.value_table.specs.TableValue.{IsTableOf, IsPlain, IsPlainWithout};
 ghost use Rattle.vickrey.specs.Sources.{IsSourceOf};
 
-use bid_book::BidBook;
+use value_table::bid_book::BidBook;
 use value_table::{Sides, ValueTable};
 
 /// What is worked out of a book already: its sides, or its table of all bids alone.

@@ -3,10 +3,10 @@ use Rattle.std.proofs.Common.{inl, inr, ◌⊎◌, ◌≡◌, ℕ, zero, suc, �
 use Rattle.std.specs.Prelude.{codes}
 use Rattle.std.specs.List.{AllByRecursion}
 use Rattle.std.proofs.lemmas.List.{append-nil, take_at, take_all, length-replicate}
-use Rattle.line_text.proofs.Runs.{Runs, Reads, runs_append}
-use Rattle.auction_model.specs.Book.{Bidder, Book, bidder_of, no_bidder}
-use Rattle.auction_model.specs.Prices.{AreWeights}
-use Rattle.book_form.specs.BookForm.{IsBook, IsName}
+use Rattle.bid_book.specs.line_text.proofs.Runs.{Runs, Reads, runs_append}
+use Rattle.bid_book.specs.auction_model.specs.Book.{Bidder, Book, bidder_of, no_bidder}
+use Rattle.bid_book.specs.auction_model.specs.Prices.{AreWeights}
+use Rattle.bid_book.specs.book_form.specs.BookForm.{IsBook, IsName}
 use Rattle.weights_file.specs.declared.read.Stage.{Stage}
 use Rattle.weights_file.specs.declared.read.Stage.TheVariants.{Start, Listing, Ended}
 use Rattle.weights_file.specs.WeightsForm.{IsWeight, Line, weight_line, weight_lines, lines}

@@ -1,7 +1,7 @@
 -- The stages of reading weights, and which lines bring the reader from one to the next. They serve the reader's own contracts; what
 -- bytes say of weights is said without them.
 use Rattle.std.specs.Prelude.{◌≡◌, ◌⊎◌, ℕ, ◌+◌, ◌<◌, ◌≤◌, Option, None, List, [], ◌∷◌, ◌++◌, codes, length}
-use Rattle.auction_model.specs.Book.{Book, bidder_of}
+use Rattle.bid_book.specs.auction_model.specs.Book.{Book, bidder_of}
 use Rattle.weights_file.specs.WeightsForm.{IsWeight, weight_line}
 use Rattle.weights_file.specs.declared.WeightStop.{WeightStop}
 use Rattle.weights_file.specs.declared.WeightStop.TheVariants as weights

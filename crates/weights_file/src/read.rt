@@ -1,6 +1,6 @@
 // The reader of a file of weights.
 ghost use Rattle.std.specs.Prelude.{Err, IfOk, [], codes, length, ℕ, ◌<◌, ◌≡◌, ◌≢◌};
-ghost use Rattle.line_text.specs.LineText.{faulty, stated};
+ghost use Rattle.bid_book.specs.line_text.specs.LineText.{faulty, stated};
 ghost use Rattle.weights_file.specs.Stages.{Step, Weighs};
 ghost use Rattle.weights_file.specs.WeightsForm.{WeightsSay};
 ghost use Rattle.weights_file.specs.declared.read.LineStop.TheVariants.{Memory};
@@ -8,7 +8,7 @@ ghost use Rattle.weights_file.specs.declared.read.LineStop.TheVariants.{Memory};
 use crate::line::line_weight;
 use crate::{WeightStop, Weights};
 use bid_book::BidBook;
-use line_text::line_len;
+use bid_book::line_text::line_len;
 use std::alloc::{AllocError, Global};
 
 /// What the lines so far say.

@@ -1,7 +1,7 @@
 // Bids that are put into those of a bidder, and taken out.
 ghost use Rattle.std.specs.Prelude.{◌≡◌, ℕ, ◌<◌, ◌≤◌, ◌↔◌, All, IsOk, IsTrue, OnErr, OnOk, length, map, slice_index_or, slice_set, take};
 ghost use Rattle.std.specs.List.{insert, remove};
-ghost use Rattle.auction_model.specs.Book.{no_bid};
+ghost use Rattle.lots.specs.auction_model.specs.Book.{no_bid};
 ghost use Rattle.bid_book.specs.Better.{BeatsAmong};
 ghost use Rattle.bid_book.specs.Changes.{InPackageOrder, IsPlaceIn};
 ghost use Rattle.bid_book.specs.Fields.{bid_value};
@@ -10,8 +10,8 @@ ghost use Rattle.bid_book.specs.Moved.{AreSettled, IsPutIn};
 use crate::book::Entry;
 use crate::book::better::better_among;
 use crate::read::entries::comes_before;
-use limits::MOST_BIDS;
 use lots::Package;
+use lots::limits::MOST_BIDS;
 use std::alloc::AllocError;
 
 /// What happened to the bid of a number.

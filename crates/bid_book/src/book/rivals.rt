@@ -1,5 +1,5 @@
 // Guesses which earlier bid of a bidder makes the next one needless. Nothing is proved of a guess: whoever asks tests it.
-use limits::{MOST_CATEGORIES, MOST_STATES};
+use lots::limits::{MOST_CATEGORIES, MOST_STATES};
 use lots::{Package, Supply};
 use std::alloc::{AllocError, Global};
 

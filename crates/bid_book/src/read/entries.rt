@@ -1,8 +1,8 @@
 // The lines of bidders and of their bids.
 ghost use Rattle.std.specs.Prelude.{IfNone, IfOk, IfSome, IsFalse, IsTrue, None, OnOk, Some, codes, length, ℕ, ◌++◌, ◌<◌, ◌↔◌, ◌≡◌, ◌≢◌};
 ghost use Rattle.std.specs.List.{AllByRecursion};
-ghost use Rattle.auction_model.specs.Book.{Book, BookBid};
-ghost use Rattle.auction_model.specs.Package.{ComesBefore, is_within};
+ghost use Rattle.lots.specs.auction_model.specs.Book.{Book, BookBid};
+ghost use Rattle.lots.specs.auction_model.specs.Package.{ComesBefore, is_within};
 ghost use Rattle.book_form.specs.BookForm.{IsBid, IsName};
 ghost use Rattle.book_form.specs.BookLines.{bid_line};
 ghost use Rattle.bid_book.specs.Fields.{HasNet, bid_value};
@@ -13,7 +13,7 @@ use crate::book::rivals::Rivals;
 use crate::read::fields::{is_name, lot_counts, numbers_behind};
 use crate::stop::LineStop;
 use crate::{BidBook, LimitKind, Name};
-use limits::{MOST_BIDDERS, MOST_BIDS};
+use lots::limits::{MOST_BIDDERS, MOST_BIDS};
 use lots::{Bid, Package, Supply};
 use std::alloc::Global;
 

@@ -4,14 +4,14 @@ ghost use Rattle.std.specs.List.{AllByRecursion};
 ghost use Rattle.book_form.specs.BookForm.{IsOffer};
 ghost use Rattle.book_form.specs.BookLines.{supply_line};
 ghost use Rattle.bid_book.specs.Stages.{Step, excess};
-ghost use Rattle.limits.specs.declared.TheConstants.{MOST_PRICE};
+ghost use Rattle.lots.specs.limits.specs.declared.TheConstants.{MOST_PRICE};
 
 use crate::read::Stage;
 use crate::read::fields::{lot_counts, numbers_behind};
 use crate::stop::LineStop;
 use crate::{BidBook, LimitKind};
-use limits::MOST_PRICE;
 use lots::Supply;
+use lots::limits::MOST_PRICE;
 use std::alloc::Global;
 
 /// Takes the first line.

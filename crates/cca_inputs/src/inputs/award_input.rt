@@ -1,7 +1,7 @@
 // Awards as inputs.
 use crate::{FileKind, Input, Status};
-use award_file::{Award, read_award};
-use limits::AWARD_BYTES;
+use log_file::award_file::{Award, read_award};
+use log_file::limits::AWARD_BYTES;
 use std::alloc::Global;
 
 /// The settings of an auction.
@@ -9,7 +9,7 @@ use std::alloc::Global;
 pub struct AwardInput;
 
 impl Input for AwardInput {
-    ghost use Rattle.limits.specs.declared.TheConstants.{AWARD_BYTES};
+    ghost use Rattle.log_file.specs.limits.specs.declared.TheConstants.{AWARD_BYTES};
     ghost use Rattle.cca_inputs.specs.Answers.{AwardAnswers};
     ghost use Rattle.cca_inputs.specs.Outcome.{value, stops};
     ghost use Rattle.cca_inputs.specs.declared.status.FileKind.TheVariants as kinds;

@@ -1,7 +1,7 @@
 // Books as inputs.
 use crate::{FileKind, Input, Status};
-use bid_book::{BidBook, read_book};
-use limits::BOOK_BYTES;
+use log_file::bid_book::{BidBook, read_book};
+use log_file::limits::BOOK_BYTES;
 use std::alloc::Global;
 
 /// A book of bids.
@@ -9,7 +9,7 @@ use std::alloc::Global;
 pub struct BookInput;
 
 impl Input for BookInput {
-    ghost use Rattle.limits.specs.declared.TheConstants.{BOOK_BYTES};
+    ghost use Rattle.log_file.specs.limits.specs.declared.TheConstants.{BOOK_BYTES};
     ghost use Rattle.cca_inputs.specs.Answers.{BookAnswers};
     ghost use Rattle.cca_inputs.specs.Outcome.{value, stops};
     ghost use Rattle.cca_inputs.specs.declared.status.FileKind.TheVariants.{Book};

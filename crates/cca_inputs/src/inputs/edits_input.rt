@@ -1,8 +1,8 @@
 // Edits of a book as inputs.
 use crate::{FileKind, Input, Status};
-use bid_book::BidBook;
 use edits_file::{Edits, read_edits};
-use limits::EDITS_BYTES;
+use log_file::bid_book::BidBook;
+use log_file::limits::EDITS_BYTES;
 use std::alloc::Global;
 
 /// The edits of a book.
@@ -15,8 +15,8 @@ pub struct EditsInput<'a> {
 impl<'a> Input for EditsInput<'a> {
     ghost use Rattle.std.specs.Prelude.{◌≡◌, length};
     ghost use Rattle.std.specs.List.{AllByRecursion};
-    ghost use Rattle.limits.specs.declared.TheConstants.{EDITS_BYTES};
-    ghost use Rattle.review.specs.Edits.{edit_lots};
+    ghost use Rattle.log_file.specs.limits.specs.declared.TheConstants.{EDITS_BYTES};
+    ghost use Rattle.edits_file.specs.review.specs.Edits.{edit_lots};
     ghost use Rattle.cca_inputs.specs.Answers.{EditsAnswers};
     ghost use Rattle.cca_inputs.specs.Outcome.{value, stops};
     ghost use Rattle.cca_inputs.specs.declared.status.FileKind.TheVariants as kinds;

@@ -1,7 +1,7 @@
 // Logs of an award as inputs.
 use crate::{FileKind, Input, Status};
-use award_file::Award;
-use limits::LOG_BYTES;
+use log_file::award_file::Award;
+use log_file::limits::LOG_BYTES;
 use log_file::{Events, read_log};
 use std::alloc::Global;
 
@@ -13,7 +13,7 @@ pub struct LogInput<'a> {
 }
 
 impl<'a> Input for LogInput<'a> {
-    ghost use Rattle.limits.specs.declared.TheConstants.{LOG_BYTES};
+    ghost use Rattle.log_file.specs.limits.specs.declared.TheConstants.{LOG_BYTES};
     ghost use Rattle.cca_inputs.specs.Answers.{LogAnswers};
     ghost use Rattle.cca_inputs.specs.Outcome.{value, stops};
     ghost use Rattle.cca_inputs.specs.declared.status.FileKind.TheVariants.{Log};

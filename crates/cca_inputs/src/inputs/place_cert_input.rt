@@ -1,6 +1,6 @@
 // Certificates of a placement as inputs.
 use crate::{FileKind, Input, Status};
-use limits::CERT_BYTES;
+use log_file::limits::CERT_BYTES;
 use place_cert::{PlaceCertificate, read_places};
 use slot_places::Slots;
 use std::alloc::Global;
@@ -14,7 +14,7 @@ pub struct PlaceCertInput<'a> {
 
 impl<'a> PlaceCertInput<'a> {
     ghost use Rattle.std.specs.Prelude.{◌≡◌, ◌≤◌, length};
-    ghost use Rattle.limits.specs.declared.TheConstants.{MOST_PLACED};
+    ghost use Rattle.log_file.specs.limits.specs.declared.TheConstants.{MOST_PLACED};
 
     // How many bidders the placement has.
     fn bidders(&self) -> u16
@@ -27,7 +27,7 @@ impl<'a> PlaceCertInput<'a> {
 
 impl<'a> Input for PlaceCertInput<'a> {
     ghost use Rattle.std.specs.Prelude.{◌≡◌, length};
-    ghost use Rattle.limits.specs.declared.TheConstants.{CERT_BYTES};
+    ghost use Rattle.log_file.specs.limits.specs.declared.TheConstants.{CERT_BYTES};
     ghost use Rattle.place_cert.specs.CertValues.{place_cert_value};
     ghost use Rattle.cca_inputs.specs.Answers.{PlaceCertAnswers};
     ghost use Rattle.cca_inputs.specs.Outcome.{value, stops};

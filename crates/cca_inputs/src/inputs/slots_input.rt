@@ -1,6 +1,6 @@
 // Slots as inputs.
 use crate::{FileKind, Input, Status};
-use limits::SLOTS_BYTES;
+use log_file::limits::SLOTS_BYTES;
 use slot_places::{Slots, read_slots};
 use std::alloc::Global;
 
@@ -9,7 +9,7 @@ use std::alloc::Global;
 pub struct SlotsInput;
 
 impl Input for SlotsInput {
-    ghost use Rattle.limits.specs.declared.TheConstants.{SLOTS_BYTES};
+    ghost use Rattle.log_file.specs.limits.specs.declared.TheConstants.{SLOTS_BYTES};
     ghost use Rattle.cca_inputs.specs.Answers.{SlotsAnswers};
     ghost use Rattle.cca_inputs.specs.Outcome.{value, stops};
     ghost use Rattle.cca_inputs.specs.declared.status.FileKind.TheVariants as kinds;

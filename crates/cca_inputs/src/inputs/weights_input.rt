@@ -1,7 +1,7 @@
 // Weights of the bidders of a book as inputs.
 use crate::{FileKind, Input, Status};
-use bid_book::BidBook;
-use limits::WEIGHTS_BYTES;
+use log_file::bid_book::BidBook;
+use log_file::limits::WEIGHTS_BYTES;
 use std::alloc::Global;
 use weights_file::{Weights, read_weights};
 
@@ -13,9 +13,9 @@ pub struct WeightsInput<'a> {
 }
 
 impl<'a> Input for WeightsInput<'a> {
-    ghost use Rattle.limits.specs.declared.TheConstants.{WEIGHTS_BYTES};
-    ghost use Rattle.auction_model.specs.Prices.{AreWeights};
-    ghost use Rattle.cert_laws.specs.Tests.{bidders_of};
+    ghost use Rattle.log_file.specs.limits.specs.declared.TheConstants.{WEIGHTS_BYTES};
+    ghost use Rattle.log_file.specs.auction_model.specs.Prices.{AreWeights};
+    ghost use Rattle.stream_check.specs.cert_laws.specs.Tests.{bidders_of};
     ghost use Rattle.cca_inputs.specs.Answers.{WeightsAnswers};
     ghost use Rattle.cca_inputs.specs.Outcome.{value, stops};
     ghost use Rattle.cca_inputs.specs.declared.status.FileKind.TheVariants as kinds;

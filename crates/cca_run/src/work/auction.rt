@@ -1,21 +1,21 @@
 // What the log of an auction gives.
 ghost use Rattle.std.specs.Prelude.{◌≡◌, ◌<◌, ◌^◌, [], ◌∷◌, Ok, Some};
 ghost use Rattle.std.specs.List.{AllByRecursion};
-ghost use Rattle.auction_rules.specs.Lawful.{HasCategories};
+ghost use Rattle.big_auction.specs.auction_rules.specs.Lawful.{HasCategories};
 ghost use Rattle.cca_inputs.specs.declared.status.FileKind.{FileKind};
 ghost use Rattle.cca_run.specs.Gives.{AuctionGives, RepliesGive, replay_status};
 ghost use Rattle.cca_run.specs.Works.{HasBook, IsWork};
 
 use crate::work::{Stop, Work};
 use crate::{FileKind, Status};
-use award_file::Award;
-use bid_book::{BidBook, write_book};
+use auction_outcome::wide_num::Text;
+use big_auction::award_file::Award;
+use big_auction::log_file::Events;
 use cca_inputs::FileText;
-use limits::LimitKind;
-use log_file::Events;
+use cca_inputs::bid_book::{BidBook, write_book};
+use cca_inputs::limits::LimitKind;
 use log_replay::{Replay, ReplayStop, replay};
 use std::alloc::Global;
-use wide_num::Text;
 
 /// The lines of the replies to a log and the text of its book, or those lines and why it has none.
 pub fn replayed(alloc: Global, award: Award, log: &Events) -> Result<Work, Stop>

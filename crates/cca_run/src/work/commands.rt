@@ -13,13 +13,13 @@ use crate::work::reviewing::reviewed;
 use crate::work::verdict::accepted;
 use crate::work::win::win_of;
 use crate::work::{Stop, Work};
-use bid_book::BidBook;
-use cca_base::Files;
+use big_auction::log_file::packages_of_log;
+use cca_inputs::bid_book::BidBook;
+use cca_inputs::cca_base::Files;
 use cca_inputs::{
     AwardInput, BookInput, Command, EditsInput, LogInput, PlaceCertInput, PriceForm, SlotsInput,
     WeightsInput, check_input, read_input,
 };
-use log_file::packages_of_log;
 use std::alloc::Global;
 
 fn winners(alloc: Global, book: &BidBook) -> Result<Work, Stop>

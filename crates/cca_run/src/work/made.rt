@@ -7,11 +7,11 @@ ghost use Rattle.cca_run.specs.Works.{IsWork};
 
 use crate::FileKind;
 use crate::work::{Stop, Work};
+use auction_outcome::wide_num::Text;
 use big_auction::{Made, make};
 use cca_inputs::FileText;
+use cca_inputs::text_lines::add_decimal;
 use std::alloc::{AllocError, Global};
-use text_lines::add_decimal;
-use wide_num::Text;
 
 // How many bidders each made auction has.
 const BIDDERS: u128 = 12;

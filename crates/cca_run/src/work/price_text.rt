@@ -1,22 +1,22 @@
 // What is printed of the prices of a book.
 ghost use Rattle.std.specs.Prelude.{◌<◌, ◌^◌, ℕ, IfOk, length};
 ghost use Rattle.std.specs.List.{AllByRecursion};
-ghost use Rattle.cert_laws.specs.Sound.{cert_point, cert_prices};
-ghost use Rattle.cert_laws.specs.Tests.{Holds, bidders_of, states};
-ghost use Rattle.cert_text.specs.CertValues.{cert_value, IsFor};
-ghost use Rattle.core_price.specs.Turns.{turns_of};
-ghost use Rattle.outcome.specs.Turns.{CanPrintTurn};
+ghost use Rattle.place_price.specs.cert_laws.specs.Sound.{cert_point, cert_prices};
+ghost use Rattle.place_price.specs.cert_laws.specs.Tests.{Holds, bidders_of, states};
+ghost use Rattle.cca_inputs.specs.cert_text.specs.CertValues.{cert_value, IsFor};
+ghost use Rattle.place_outcome.specs.core_price.specs.Turns.{turns_of};
+ghost use Rattle.place_outcome.specs.outcome.specs.Turns.{CanPrintTurn};
 ghost use Rattle.cca_run.specs.Gives.{ArePriceLines, ArePrinted, AreRounds, IsPriceJson};
 
-use bid_book::BidBook;
+use auction_outcome::wide_num::Text;
 use cca_inputs::PriceForm;
-use cert_facts::facts;
-use cert_text::Certificate;
-use choices::Choice;
-use core_price::Turn;
-use outcome::{outcome_json, outcome_text, rounds_text};
+use cca_inputs::bid_book::BidBook;
+use cca_inputs::cert_facts::facts;
+use cca_inputs::cert_text::Certificate;
+use cca_inputs::choices::Choice;
+use place_outcome::core_price::Turn;
+use place_outcome::outcome::{outcome_json, outcome_text, rounds_text};
 use std::alloc::{AllocError, Global};
-use wide_num::Text;
 
 /// The lines of the turns, where they are asked for.
 pub fn rounds_part(

@@ -1,9 +1,9 @@
 // Prices of a book, with their certificate.
 ghost use Rattle.std.specs.Prelude.{◌≡◌, ℕ, [], ◌∷◌, IfOk, Err};
-ghost use Rattle.limits.specs.declared.LimitKind.{LimitKind};
-ghost use Rattle.auction_model.specs.Prices.{AreWeights};
-ghost use Rattle.cert_laws.specs.Tests.{bidders_of};
-ghost use Rattle.core_price.specs.declared.priced.PriceStop.{PriceStop};
+ghost use Rattle.cca_inputs.specs.limits.specs.declared.LimitKind.{LimitKind};
+ghost use Rattle.auction_outcome.specs.auction_model.specs.Prices.{AreWeights};
+ghost use Rattle.place_price.specs.cert_laws.specs.Tests.{bidders_of};
+ghost use Rattle.place_outcome.specs.core_price.specs.declared.priced.PriceStop.{PriceStop};
 ghost use Rattle.cca_inputs.specs.Outcome.{done, stopped};
 ghost use Rattle.cca_inputs.specs.declared.status.FileKind.{FileKind};
 ghost use Rattle.cca_inputs.specs.declared.status.Status.{Status};
@@ -13,14 +13,14 @@ ghost use Rattle.cca_run.specs.Works.{IsWork};
 use crate::work::price_text::price_text;
 use crate::work::{Stop, Work};
 use crate::{FileKind, Status};
-use bid_book::BidBook;
-use book_price::price_book;
+use auction_outcome::wide_num::Text;
+use cca_inputs::bid_book::BidBook;
+use cca_inputs::cert_text::write_cert;
+use cca_inputs::limits::LimitKind;
 use cca_inputs::{FileText, PriceForm};
-use cert_text::write_cert;
-use core_price::PriceStop;
-use limits::LimitKind;
+use place_outcome::core_price::PriceStop;
+use place_price::book_price::price_book;
 use std::alloc::{AllocError, Global};
-use wide_num::Text;
 
 /// The printed prices, and the text of their certificate.
 #[derive(Drop)]

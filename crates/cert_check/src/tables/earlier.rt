@@ -1,19 +1,19 @@
 // The bids that come before those of the choice in the order of ties: none of them may reach the value.
 ghost use Rattle.std.specs.Prelude.{◌≡◌, ◌↔◌, ℕ, ◌-◌, ◌^◌, ◌<◌, ◌≤◌, [], length, slice_index_or, pos, ◌+ℤ◌, ◌<ℤ◌, IsTrue, unsigned_abs};
-ghost use Rattle.auction_model.specs.Package.{is_within, less};
-ghost use Rattle.auction_model.specs.Place.{left_at, place_of};
-ghost use Rattle.auction_model.specs.Market.{is_number_before, number_of};
-ghost use Rattle.auction_model.specs.Book.{bids_of, lots_of, net_of, market_of};
-ghost use Rattle.cert_form.specs.CertText.{IsTable};
+ghost use Rattle.cert_laws.specs.auction_model.specs.Package.{is_within, less};
+ghost use Rattle.cert_laws.specs.auction_model.specs.Place.{left_at, place_of};
+ghost use Rattle.cert_laws.specs.auction_model.specs.Market.{is_number_before, number_of};
+ghost use Rattle.cert_laws.specs.auction_model.specs.Book.{bids_of, lots_of, net_of, market_of};
+ghost use Rattle.cert_laws.specs.cert_form.specs.CertText.{IsTable};
 ghost use Rattle.cert_laws.specs.Tests.{bidders_of, states};
-ghost use Rattle.cert_form.specs.Certificate.{CertValue};
+ghost use Rattle.cert_laws.specs.cert_form.specs.Certificate.{CertValue};
 ghost use Rattle.cert_check.specs.Fields.{cert_headed};
 ghost use Rattle.cert_check.specs.Places.{IsFirstFailing};
 ghost use Rattle.cert_check.specs.EarlierBids.{StaysBelow, AllStayBelow, NoneEarlier, IsLeft};
 
 use crate::judging::number;
-use bid_book::BidBook;
-use choices::{Grid, place_after, worth};
+use cert_text::bid_book::BidBook;
+use cert_text::choices::{Grid, place_after, worth};
 
 /// Whether bid `i` of bidder `j`, where it fits what the place `rest` leaves, stays below `bound` with the line's entry for what
 /// is left then.

@@ -1,6 +1,6 @@
 // The rules of a whole table.
 ghost use Rattle.std.specs.Prelude.{◌≡◌, ℕ, ◌≤◌, ◌<◌, [], length, slice_index_or, IsTrue};
-ghost use Rattle.cert_form.specs.CertText.{IsTable};
+ghost use Rattle.cert_laws.specs.cert_form.specs.CertText.{IsTable};
 ghost use Rattle.cert_laws.specs.Tests.{bidders_of, states};
 ghost use Rattle.cert_check.specs.Faults.{FirstFault};
 ghost use Rattle.cert_check.specs.Places.{IsFirstFailing};
@@ -8,7 +8,7 @@ ghost use Rattle.cert_check.specs.LineTests.{IsWhole, ObeysIn, RulesAt, TestsTab
 
 use crate::tables::lines::{last_line_fault, two_lines_fault};
 use crate::tables::offers::Offers;
-use choices::Grid;
+use cert_text::choices::Grid;
 
 /// Whether two tables have the same line.
 fn share_line(table: &Grid, other: &Grid, k: usize) -> bool

@@ -1,9 +1,9 @@
 // Lines that never fall: where more is left of each category, they have at least as much. On such a line the rule of a bid follows
 // from that of a bid that is no larger and worth at least as much.
 ghost use Rattle.std.specs.Prelude.{◌≡◌, ◌≤◌, ◌<◌, length, IsTrue};
-ghost use Rattle.auction_model.specs.Place.{states_of, widths_of};
+ghost use Rattle.cert_laws.specs.auction_model.specs.Place.{states_of, widths_of};
 ghost use Rattle.cert_check.specs.Growth.{Grows, RisesBy};
-ghost use Rattle.limits.specs.declared.TheConstants.{MOST_STATES};
+ghost use Rattle.cert_text.specs.limits.specs.declared.TheConstants.{MOST_STATES};
 
 /// Whether no number is below the one `width` places before it.
 fn rises_by(line: &[i128], width: usize) -> bool

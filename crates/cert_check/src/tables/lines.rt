@@ -1,7 +1,7 @@
 // The rules of one line of a table.
 ghost use Rattle.std.specs.Prelude.{◌≡◌, ℕ, suc, ◌^◌, ◌≤◌, ◌<◌, IsTrue, List, [], length, slice_index_or, ℤ, pos, unsigned_abs};
-ghost use Rattle.auction_model.specs.Book.{bids_of};
-ghost use Rattle.cert_form.specs.CertText.{IsTable};
+ghost use Rattle.cert_laws.specs.auction_model.specs.Book.{bids_of};
+ghost use Rattle.cert_laws.specs.cert_form.specs.CertText.{IsTable};
 ghost use Rattle.cert_laws.specs.Tests.{bidders_of, states};
 ghost use Rattle.cert_check.specs.Faults.{FirstFault};
 ghost use Rattle.cert_check.specs.LineTests.{offered, KeepsNone, KeepsZero, KeepsBid, KeepsSome, ObeysIn};
@@ -11,8 +11,8 @@ use crate::tables::growth::is_growing;
 use crate::tables::offers::Offers;
 use crate::tables::rule::{LinePair, LineRule};
 use crate::tables::walk::{block_fault, run_fault};
-use limits::MOST_STATES;
-use lots::used_categories;
+use cert_text::limits::MOST_STATES;
+use cert_text::lots::used_categories;
 
 /// The greatest number with which the rules are tested in 64 bits.
 const MOST_NARROW: u128 = 1 << 61;

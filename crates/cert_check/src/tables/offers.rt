@@ -1,10 +1,10 @@
 // The bids that a table is tested for.
 ghost use Rattle.std.specs.Prelude.{◌≡◌, ◌^◌, ◌<◌, ◌≤◌, length, ◌-ℤ◌, ◌*ℤ◌, unsigned_abs};
-ghost use Rattle.auction_model.specs.Book.{bids_of};
+ghost use Rattle.cert_laws.specs.auction_model.specs.Book.{bids_of};
 ghost use Rattle.cert_laws.specs.Tests.{bidders_of};
 ghost use Rattle.cert_check.specs.Worths.{HasSmallWorths};
 
-use bid_book::BidBook;
+use cert_text::bid_book::BidBook;
 
 /// The bids that a table is tested for. Bidder `skip` has none, and 0 skips nobody. A bid is worth the denominator times its net
 /// amount, less what its bidder gains: its net amount where the denominator is 1 and nobody gains.

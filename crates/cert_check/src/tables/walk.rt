@@ -2,9 +2,9 @@
 // that category left. Where the package fits, the place of the rest is lower by the place of the package. So behind the last
 // category of which the package has some, the places are one run.
 ghost use Rattle.std.specs.Prelude.{◌≡◌, ◌↔◌, ℕ, ◌+◌, ◌^◌, ◌≤◌, ◌<◌, length, ◌+ℤ◌, ◌≤ℤ◌, unsigned_abs, IsTrue};
-ghost use Rattle.auction_model.specs.Place.{states_of, place_of, widths_of};
+ghost use Rattle.cert_laws.specs.auction_model.specs.Place.{states_of, place_of, widths_of};
 ghost use Rattle.cert_check.specs.Faults.{FirstFault, CoversRun, CoversBlock};
-ghost use Rattle.wide_num.specs.Sums.{nth};
+ghost use Rattle.cert_laws.specs.wide_num.specs.Sums.{nth};
 ghost use Rattle.cert_check.specs.Narrow.{IsSmall};
 
 use crate::tables::rule::LineRule;

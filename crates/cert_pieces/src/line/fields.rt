@@ -1,7 +1,7 @@
 // Whole numbers of a piece, one behind the other.
 ghost use Rattle.std.specs.Prelude.{◌≡◌, ◌≤◌, ◌<◌, ◌^◌, ℕ, List, ◌++◌, length, get_or, ℤ, Bool, IfSome, IsTrue};
 ghost use Rattle.cert_pieces.specs.declared.line.form.Form.{Form};
-ghost use Rattle.line_text.specs.LineText.{IsLine};
+ghost use Rattle.cert_text.specs.line_text.specs.LineText.{IsLine};
 ghost use Rattle.cert_pieces.specs.Fields.{IsField, behind_space};
 ghost use Rattle.cert_pieces.specs.LineParts.{IsPart};
 ghost use Rattle.cert_pieces.specs.Pieces.{between};

@@ -1,6 +1,6 @@
 // Which number may stand behind others.
 ghost use Rattle.std.specs.Prelude.{◌≡◌, ◌≤◌, ◌<◌, ◌^◌, ◌↔◌, ℕ, List, length, IsTrue, false, Bool, ℤ, pos, ◌≤ℤ◌, ◌<ℤ◌, ◌+ℤ◌, unsigned_abs};
-ghost use Rattle.cert_form.specs.Lines.{FitNumbers, members};
+ghost use Rattle.cert_text.specs.cert_form.specs.Lines.{FitNumbers, members};
 ghost use Rattle.cert_pieces.specs.Forms.{numbers_of, MayBegin, Keeps, last_of, Decides};
 ghost use Rattle.cert_pieces.specs.Tallies.{IsKept};
 

@@ -1,16 +1,16 @@
 // The kinds of lines of a certificate.
 ghost use Rattle.std.specs.Prelude.{◌≡◌, ◌≤◌, ◌<◌, ◌↔◌, ◌∷◌, length, codes, IsTrue, IfOk, IfErr, MatchOption, [], false, pos};
 ghost use Rattle.cert_form.specs.Lines.{kind, these, signed, chosen, members, AreNumbers};
-ghost use Rattle.text_lines.specs.Range.{any_out};
+ghost use Rattle.cert_form.specs.text_lines.specs.Range.{any_out};
 ghost use Rattle.cert_form.specs.CertText.{line, as_numbers, IsChoice, AreMembers};
-ghost use Rattle.text_lines.specs.Range.{AllInRange};
+ghost use Rattle.cert_form.specs.text_lines.specs.Range.{AllInRange};
 ghost use Rattle.cert_text.specs.Readers.{IsLineAt, Leads, Halts, LeadsLike, HaltsLike, LeadsChosen, HaltsChosen, LeadsCounted, HaltsCounted, HaltsSmall, IsCount, IsNoCount, AreSmall, AreNotSmall};
 
 use crate::CertStop;
 use crate::read::lines::{LineNumbers, take_line};
+use cert_form::wide_num::NumList;
 use choices::{Choice, Numbers};
 use std::alloc::{AllocError, Global};
-use wide_num::NumList;
 
 /// Signed numbers that were read, and where the next line begins.
 #[derive(Drop)]

@@ -1,14 +1,14 @@
 // Lines of a word and numbers.
 ghost use Rattle.std.specs.Prelude.{◌≡◌, ◌≤◌, ◌↔◌, ◌++◌, length, take, List, IsTrue, IfOk, IfErr, [], ℤ};
-ghost use Rattle.text_lines.specs.Numeral.{numbers_text};
+ghost use Rattle.cert_form.specs.text_lines.specs.Numeral.{numbers_text};
 ghost use Rattle.cert_text.specs.Readers.{IsLineAt, IsRefused};
-ghost use Rattle.text_lines.specs.Fields.{HasLine};
+ghost use Rattle.cert_form.specs.text_lines.specs.Fields.{HasLine};
 
 use crate::CertStop;
-use line_text::line_len;
+use cert_form::line_text::line_len;
+use cert_form::text_lines::{NumbersStop, numbers_behind};
+use cert_form::wide_num::NumList;
 use std::alloc::Global;
-use text_lines::{NumbersStop, numbers_behind};
-use wide_num::NumList;
 
 /// The numbers of a line, and where the next line begins. Where one is out of range the list has only as many numbers.
 #[derive(Drop)]

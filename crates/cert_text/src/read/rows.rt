@@ -2,7 +2,7 @@
 ghost use Rattle.std.specs.Prelude.{◌≡◌, ◌≤◌, ◌∷◌, length, IfOk, IfErr, [], map};
 ghost use Rattle.cert_form.specs.Lines.{kind, signed, rows_plan};
 ghost use Rattle.cert_form.specs.CertText.{line, row_lines, IsRow, AreRows};
-ghost use Rattle.wide_num.specs.Range.{InRange};
+ghost use Rattle.cert_form.specs.wide_num.specs.Range.{InRange};
 ghost use Rattle.cert_text.specs.Parts.{row_value};
 ghost use Rattle.cert_text.specs.PartReads.{row_plan, own_row};
 ghost use Rattle.cert_text.specs.Readers.{Leads, Halts};

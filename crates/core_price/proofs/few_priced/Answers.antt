@@ -4,7 +4,7 @@ use Rattle.std.proofs.lemmas.Int.{to_z-of_z}
 use Rattle.std.specs.Int.{w128}
 use Rattle.std.specs.List.{IsDistinct}
 use Rattle.std.specs.Prelude.{eqb}
-use Rattle.far_num.specs.declared.Row.{Row}
+use Rattle.blocking.specs.far_num.specs.declared.Row.{Row}
 use Rattle.core_price.specs.Rows.{asked_choices, asked_rows, block_choices, block_rows, prices_of}
 use Rattle.core_price.specs.SoFar.{CanTurn, HasEnded}
 use Rattle.core_price.proofs.WeightLaws.{can-weigh}

@@ -1,7 +1,7 @@
 -- Too many winners, or memory is wanting.
 use Rattle.std.proofs.Common.{◌∙◌, ap, length, sym}
 use Rattle.std.proofs.lemmas.Bool.{not_from_false}
-use Rattle.row_laws.specs.Winners.{winners_in}
+use Rattle.blocking.specs.row_laws.specs.Winners.{winners_in}
 use Rattle.core_price.specs.Weights.{FewWin}
 use Rattle.core_price.proofs.StartLaws.{count}
 use Rattle.core_price.proofs.StopLaws.{memory-stop}

@@ -1,17 +1,17 @@
 // The parts of a placement certificate without each winner.
 ghost use Rattle.std.specs.Prelude.{◌≡◌, ◌≤◌, length, IfOk, IfErr, [], pos};
-ghost use Rattle.cert_form.specs.CertText.{as_numbers};
-ghost use Rattle.cert_form.specs.Lines.{ordered_part_plan, ordered_parts_plan, unless_zero};
+ghost use Rattle.cert_text.specs.cert_form.specs.CertText.{as_numbers};
+ghost use Rattle.cert_text.specs.cert_form.specs.Lines.{ordered_part_plan, ordered_parts_plan, unless_zero};
 ghost use Rattle.cert_text.specs.Readers.{Leads, Halts};
-ghost use Rattle.limits.specs.declared.TheConstants.{MOST_PLACED};
+ghost use Rattle.cert_text.specs.limits.specs.declared.TheConstants.{MOST_PLACED};
 ghost use Rattle.place_cert.specs.Parts.{part_value, part_order, AreParts};
 ghost use Rattle.place_cert.specs.PlaceReads.{own_part, part_lines, AddsPart};
 ghost use Rattle.place_cert.specs.PlaceText.{IsOrderedWithout};
 
 use crate::read::pieces::{take_ordered, take_table};
 use crate::{PlaceWithout, PlaceWithouts};
+use cert_text::choices::Choice;
 use cert_text::{CertStop, take_winner};
-use choices::Choice;
 use std::alloc::Global;
 
 /// A part that was read, and where the next line begins.

@@ -1,15 +1,15 @@
 // An order with its choice, and tables over sets of bidders.
 ghost use Rattle.std.specs.Prelude.{◌≡◌, ◌≤◌, ◌∷◌, ◌^◌, length, codes, IfOk, IfErr, []};
-ghost use Rattle.cert_form.specs.CertText.{line, table_lines, IsChoice};
-ghost use Rattle.cert_form.specs.Lines.{kind, these, set_table_plan};
+ghost use Rattle.cert_text.specs.cert_form.specs.CertText.{line, table_lines, IsChoice};
+ghost use Rattle.cert_text.specs.cert_form.specs.Lines.{kind, these, set_table_plan};
 ghost use Rattle.cert_text.specs.Readers.{Leads, Halts};
 ghost use Rattle.cert_text.specs.StagePlans.{closing_lines, closing_plan};
-ghost use Rattle.limits.specs.declared.TheConstants.{MOST_PLACED};
+ghost use Rattle.cert_text.specs.limits.specs.declared.TheConstants.{MOST_PLACED};
 ghost use Rattle.place_cert.specs.PlaceReads.{LeadsOrdered, HaltsOrdered};
 ghost use Rattle.place_cert.specs.PlaceText.{HasSets};
 
+use cert_text::choices::{Choice, Numbers};
 use cert_text::{CertStop, Shape, TableRead, take_choice, take_closing, take_each, take_named};
-use choices::{Choice, Numbers};
 use std::alloc::Global;
 
 /// An order and a choice that were read, and where the next line begins.

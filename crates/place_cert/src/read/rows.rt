@@ -1,7 +1,7 @@
 // The rows of a placement certificate.
 ghost use Rattle.std.specs.Prelude.{◌≡◌, ◌≤◌, length, IfOk, IfErr, []};
-ghost use Rattle.cert_form.specs.CertText.{IsChoice, IsRow};
-ghost use Rattle.cert_form.specs.Lines.{ordered_rows_plan};
+ghost use Rattle.cert_text.specs.cert_form.specs.CertText.{IsChoice, IsRow};
+ghost use Rattle.cert_text.specs.cert_form.specs.Lines.{ordered_rows_plan};
 ghost use Rattle.cert_text.specs.Readers.{Leads, Halts};
 ghost use Rattle.place_cert.specs.Parts.{row_value, row_order, AreRows};
 ghost use Rattle.place_cert.specs.PlaceReads.{own_row, row_lines, row_plan};

@@ -1,9 +1,9 @@
 // The stages of a placement certificate's text.
 ghost use Rattle.std.specs.Prelude.{◌≡◌, ◌≤◌, length, IfOk, IfErr, []};
-ghost use Rattle.cert_form.specs.CertText.{IsChoice};
-ghost use Rattle.text_lines.specs.Range.{AllInRange};
+ghost use Rattle.cert_text.specs.cert_form.specs.CertText.{IsChoice};
+ghost use Rattle.cert_text.specs.text_lines.specs.Range.{AllInRange};
 ghost use Rattle.cert_text.specs.Readers.{Leads, Halts};
-ghost use Rattle.limits.specs.declared.TheConstants.{MOST_PLACED};
+ghost use Rattle.cert_text.specs.limits.specs.declared.TheConstants.{MOST_PLACED};
 ghost use Rattle.place_cert.specs.Parts.{AreParts, AreRows};
 ghost use Rattle.place_cert.specs.PlaceReads.{payment_lines, payment_plan, placing_lines, placing_plan};
 ghost use Rattle.place_cert.specs.PlaceText.{HasSets};
@@ -12,10 +12,10 @@ use crate::read::parts::take_parts;
 use crate::read::pieces::{take_ordered, take_table};
 use crate::read::rows::take_rows;
 use crate::{PlaceRows, PlaceWithouts};
+use cert_text::choices::{Choice, Grid, Numbers};
+use cert_text::wide_num::NumList;
 use cert_text::{CertStop, take_count, take_signed};
-use choices::{Choice, Grid, Numbers};
 use std::alloc::Global;
-use wide_num::NumList;
 
 /// The head's order and choice with its table, and the same without each winner, and where the next line begins.
 #[derive(Drop)]

@@ -1,5 +1,5 @@
 use Rattle.std.specs.Prelude.{None, Some}
-use Rattle.auction_model.specs.Book.{market_of}
+use Rattle.row_laws.specs.auction_model.specs.Book.{market_of}
 use Rattle.print_form.proofs.JsonLaws.{last-plain, last-turns, same-json}
 use Rattle.print_form.proofs.one_outcome_json.Goals as goal
 

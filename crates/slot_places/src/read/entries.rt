@@ -8,10 +8,10 @@ ghost use Rattle.slot_places.specs.Stages.{Adds, AddsBidder, AddsPlace, IsEntran
 use crate::read::fields::{read_within, two_fields};
 use crate::stop::LineStop;
 use crate::{MOST_PLACED, Place, Slots};
-use bid_book::{Name, name_text};
-use limits::{LimitKind, MOST_AMOUNT};
+use choices::bid_book::{Name, name_text};
+use choices::limits::{LimitKind, MOST_AMOUNT};
+use choices::text_lines::read_at_most;
 use std::alloc::Global;
-use text_lines::read_at_most;
 
 /// Takes the line of a bidder or of a bid.
 pub fn take_entry(alloc: Global, slots: &mut Slots, line: &[u8]) -> Result<(), LineStop>

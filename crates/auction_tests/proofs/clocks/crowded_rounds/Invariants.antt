@@ -1,5 +1,5 @@
 -- The clock stays one of the award.
-use Rattle.clock_stage.specs.Kept.{IsFor}
+use Rattle.big_auction.specs.clock_stage.specs.Kept.{IsFor}
 use Rattle.auction_tests.proofs.clocks.crowded_rounds.Given as goal
 
 abbrev pub invariant-loop-round : goal.invariant-loop-round

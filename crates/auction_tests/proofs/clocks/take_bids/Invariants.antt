@@ -1,5 +1,5 @@
 -- The clock stays one of the award.
-use Rattle.clock_stage.specs.Kept.{IsFor}
+use Rattle.big_auction.specs.clock_stage.specs.Kept.{IsFor}
 use Rattle.auction_tests.proofs.clocks.take_bids.Given as goal
 
 abbrev pub invariant-loop-bidder : goal.invariant-loop-bidder

@@ -1,8 +1,8 @@
 use Rattle.std.proofs.Common.{◌≡◌, ℕ, None, List, length, map, sym, ap, subst, ◌∙◌, arith}
 use Rattle.std.proofs.lemmas.Result.{err_from_is_err_and}
-use Rattle.book_form.specs.BookForm.{IsOffer}
-use Rattle.book_form.specs.BookLines.{supply_excess}
-use Rattle.lots.specs.Limits.{IsSupply}
+use Rattle.bid_book.specs.book_form.specs.BookForm.{IsOffer}
+use Rattle.bid_book.specs.book_form.specs.BookLines.{supply_excess}
+use Rattle.auction_rules.specs.lots.specs.Limits.{IsSupply}
 use Rattle.award_file.specs.declared.read.categories.Category.{Category as Read}
 use Rattle.award_file.specs.Award.{IsAward, IsSteps, steps_with}
 use Rattle.award_file.specs.Parts.{counts, terms_value}

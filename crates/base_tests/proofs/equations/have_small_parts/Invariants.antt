@@ -1,4 +1,4 @@
-use Rattle.far_num.specs.Pairs.{far_at, near_at}
+use Rattle.lin_solve.specs.far_num.specs.Pairs.{far_at, near_at}
 use Rattle.std.proofs.Common.{unsigned_abs, ℕ, ◌<◌, ◌≤◌}
 use Rattle.base_tests.proofs.equations.have_small_parts.Given as goal
 

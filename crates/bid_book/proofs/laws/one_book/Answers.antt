@@ -1,4 +1,4 @@
-use Rattle.line_text.proofs.OneAnswer.{one_answer}
+use Rattle.book_form.specs.line_text.proofs.OneAnswer.{one_answer}
 use Rattle.book_form.specs.BookForm.{IsBook}
 use Rattle.book_form.specs.BookLines.{lines}
 use Rattle.bid_book.specs.Stages.{Step, excess}

@@ -1,6 +1,6 @@
 use Rattle.std.proofs.Common.{sym, ◌∙◌}
-use Rattle.line_text.specs.LineText.{stated}
-use Rattle.line_text.proofs.OneAnswer.{one_answer}
+use Rattle.book_form.specs.line_text.specs.LineText.{stated}
+use Rattle.book_form.specs.line_text.proofs.OneAnswer.{one_answer}
 use Rattle.book_form.specs.BookForm.{IsBook}
 use Rattle.book_form.specs.BookLines.{lines}
 use Rattle.bid_book.specs.Stages.{Step, excess}

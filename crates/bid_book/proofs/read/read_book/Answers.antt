@@ -1,7 +1,7 @@
 use Rattle.std.proofs.Common.{◌≡◌, ◌-◌, Err, ap, sym, ◌∙◌, subst, length, take, drop, arith, length-drop}
 use Rattle.std.proofs.lemmas.List.{take_all}
-use Rattle.line_text.specs.LineText.{FaultAt}
-use Rattle.line_text.proofs.Runs.{line_taken, line_exceeds, line_refused, line_missing, all_read}
+use Rattle.book_form.specs.line_text.specs.LineText.{FaultAt}
+use Rattle.book_form.specs.line_text.proofs.Runs.{line_taken, line_exceeds, line_refused, line_missing, all_read}
 use Rattle.book_form.specs.BookForm.{IsBook}
 use Rattle.book_form.specs.BookLines.{lines}
 use Rattle.bid_book.specs.Stages.{Step, excess}

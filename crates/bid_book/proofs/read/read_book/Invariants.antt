@@ -1,5 +1,5 @@
 use Rattle.std.proofs.Common.{◌≤◌, ◌-◌, length}
-use Rattle.line_text.proofs.Runs.{SoFar}
+use Rattle.book_form.specs.line_text.proofs.Runs.{SoFar}
 use Rattle.bid_book.specs.Stages.{Step, excess}
 use Rattle.bid_book.proofs.Reading.{begin}
 use Rattle.bid_book.proofs.read.read_book.Given as goal

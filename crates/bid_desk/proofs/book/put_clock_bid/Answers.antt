@@ -1,6 +1,6 @@
 -- The price of at most 40 lots is an amount.
 use Rattle.std.proofs.Common.{map, arith}
-use Rattle.clock_stage.specs.Kept.{categories_in}
+use Rattle.relative_cap.specs.clock_stage.specs.Kept.{categories_in}
 use Rattle.relative_cap.specs.OwnRounds.{bid_value}
 use Rattle.relative_cap.proofs.AmountLaws.{price-most}
 use Rattle.bid_desk.proofs.BookLaws.{put-kept}

@@ -1,8 +1,8 @@
 -- A kept list is one of entries in order.
 use Rattle.std.proofs.Common.{length, map, List, subst, sym}
 use Rattle.std.specs.List.{All}
-use Rattle.auction_model.specs.PackageTests.{InOrder}
-use Rattle.lots.specs.declared.«package».Bid.{Bid}
+use Rattle.relative_cap.specs.auction_model.specs.PackageTests.{InOrder}
+use Rattle.relative_cap.specs.lots.specs.declared.«package».Bid.{Bid}
 use Rattle.relative_cap.specs.Asked.{IsEntry}
 use Rattle.relative_cap.specs.OwnRounds.{entry_lots}
 use Rattle.bid_desk.proofs.EntryLaws.{kept-entries, kept-order}

@@ -1,5 +1,5 @@
 use Rattle.std.proofs.Common.{◌≡◌, ◌++◌, OnOk}
-use Rattle.auction_rules.specs.declared.Event.{Event}
+use Rattle.clock_stage.specs.auction_rules.specs.declared.Event.{Event}
 use Rattle.big_auction.specs.LogText.{event_text}
 use Rattle.big_auction.specs.Parts.{counts_of, figures_of}
 use Rattle.big_auction.proofs.Drawing.{next-next}

@@ -3,7 +3,7 @@ use Rattle.std.proofs.lemmas.Int.{to_z-of_z}
 use Rattle.std.proofs.lemmas.Bool.{ne_eqb}
 use mir.Val.{to_z, of_z}
 use mir.Syntax.{w128}
-use Rattle.auction_model.specs.Market.{number_of, uses}
+use Rattle.row_laws.specs.auction_model.specs.Market.{number_of, uses}
 use Rattle.row_laws.specs.Winners.{idle_row, bits_after}
 use Rattle.row_laws.proofs.Bits.{bits-skip, bits-small}
 use Rattle.blocking.proofs.row.row_members.Goals as goal

@@ -1,6 +1,6 @@
 use Rattle.std.proofs.Common.{◌≡◌}
-use Rattle.auction_model.specs.Lowered.{of_bidder}
-use Rattle.auction_model.specs.Prices.{sum_over}
+use Rattle.row_laws.specs.auction_model.specs.Lowered.{of_bidder}
+use Rattle.row_laws.specs.auction_model.specs.Prices.{sum_over}
 use Rattle.row_laws.specs.Winners.{idle_row}
 use Rattle.blocking.proofs.row.row_paid.Given as goal
 

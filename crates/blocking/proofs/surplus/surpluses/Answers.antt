@@ -1,7 +1,7 @@
 use Rattle.std.proofs.Common.{◌≡◌, suc, append-nil, ◌+◌, ◌++◌, [], drop, arith, rules, sym, ap, ◌∙◌, pos, slice_index_or, ◌-ℤ◌, ◌*ℤ◌}
 use Rattle.std.proofs.lemmas.Int.{ints, to_z-of_z}
 use Rattle.std.proofs.Math.ListN.{drop_of_length-le}
-use Rattle.auction_model.specs.Market.{worth_in}
+use Rattle.row_laws.specs.auction_model.specs.Market.{worth_in}
 use Rattle.row_laws.specs.Surplus.{surpluses_after, surpluses_of}
 use Rattle.row_laws.proofs.Surplus.{surpluses-pushed}
 use mir.Val.{to_z, of_z}

@@ -1,5 +1,5 @@
 use Rattle.std.proofs.Common.{◌≡◌, Err, ap, refl, sym, subst, rules}
-use Rattle.limits.specs.declared.TheConstants.{CERT_BYTES}
+use Rattle.log_file.specs.limits.specs.declared.TheConstants.{CERT_BYTES}
 use Rattle.cca_inputs.specs.Checked.{StopsCheck}
 use Rattle.cca_inputs.specs.Reading.{InputStops}
 use Rattle.cca_inputs.specs.Stops.{read_status}

@@ -1,7 +1,7 @@
 use Rattle.std.proofs.Common.{ℕ, List, map, sym, subst, arith}
 use Rattle.std.specs.Prelude.{IsTrue}
-use Rattle.auction_model.specs.Market.{uses}
-use Rattle.cert_form.specs.Certificate.{part_of}
+use Rattle.cert_laws.specs.auction_model.specs.Market.{uses}
+use Rattle.cert_laws.specs.cert_form.specs.Certificate.{part_of}
 use Rattle.cert_laws.specs.Tests.{IsPart, bidders_of}
 use Rattle.cert_text.specs.Parts.{row_value, without_value}
 use Rattle.cert_text.specs.CertValues.{cert_value}

@@ -1,5 +1,5 @@
 use Rattle.std.proofs.Common.{List, []}
-use Rattle.cert_form.specs.Certificate.{RowValue}
+use Rattle.cert_laws.specs.cert_form.specs.Certificate.{RowValue}
 use Rattle.cert_laws.specs.Tests.{C7, bidders_of}
 use Rattle.cert_check.specs.Columns.{AreFirsts, AreFirstSums}
 use Rattle.cert_check.specs.Fields.{cert_with}

@@ -1,8 +1,8 @@
 use Rattle.std.proofs.Common.{◌∙◌, IsTrue, sym, ap, subst, arith}
-use Rattle.auction_model.specs.Book.{market_of, menu_of, net_of}
-use Rattle.auction_model.specs.Market.{value_of}
-use Rattle.auction_model.specs.Menu.{is_known_after}
-use Rattle.cert_form.specs.Certificate.{WithoutValue}
+use Rattle.cert_laws.specs.auction_model.specs.Book.{market_of, menu_of, net_of}
+use Rattle.cert_laws.specs.auction_model.specs.Market.{value_of}
+use Rattle.cert_laws.specs.auction_model.specs.Menu.{is_known_after}
+use Rattle.cert_laws.specs.cert_form.specs.Certificate.{WithoutValue}
 use Rattle.cert_text.specs.CertValues.{cert_value}
 use Rattle.cert_facts.proofs.Known.{number-in, part-known, price-fits, price-is}
 use Rattle.cert_facts.proofs.shown.vickrey.Goals as goal

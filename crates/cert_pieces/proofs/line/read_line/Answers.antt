@@ -2,9 +2,9 @@ use Rattle.std.proofs.Common.{◌≡◌, ℕ, ◌+◌, ◌≤◌, List, ◌++◌
 use Rattle.cert_pieces.specs.declared.line.Outcome.TheVariants.{Open}
 use Rattle.cert_pieces.specs.Pieces.{between}
 use Rattle.cert_pieces.specs.LineParts.{IsPart, Becomes}
-use Rattle.line_text.proofs.Lines.{line_append}
+use Rattle.cert_text.specs.line_text.proofs.Lines.{line_append}
 use Rattle.cert_pieces.proofs.Runs.{between_join, part_join, part_next, line_next, reads_stop}
-use Rattle.line_text.specs.LineText.{IsLine}
+use Rattle.cert_text.specs.line_text.specs.LineText.{IsLine}
 use Rattle.cert_pieces.proofs.line.read_line.Goals as goal
 
 pub take-outcome-requires-clause-part : goal.take-outcome-requires-clause-part

@@ -1,5 +1,5 @@
 use Rattle.std.proofs.Common.{◌≡◌, ◌≤◌, ◌-◌, ℕ, List, ◌++◌, length}
-use Rattle.line_text.specs.LineText.{IsLine}
+use Rattle.cert_text.specs.line_text.specs.LineText.{IsLine}
 use Rattle.cert_pieces.specs.Pieces.{between}
 use Rattle.cert_pieces.specs.LineParts.{IsPart}
 use Rattle.cert_pieces.proofs.line.read_line.Given as goal

@@ -2,7 +2,7 @@ use Rattle.std.proofs.Common.{◌≡◌, subst, sym, rules, FitsSigned}
 use Rattle.std.specs.Prelude.{pos, ◌≤◌, ℕ}
 use Rattle.std.specs.Int.{w128}
 use Rattle.std.proofs.lemmas.Int.{to_z-of_z}
-use Rattle.cert_form.specs.Lines.{FitNumbers}
+use Rattle.cert_text.specs.cert_form.specs.Lines.{FitNumbers}
 use Rattle.cert_pieces.proofs.Plans.{rows_bidder}
 use Rattle.cert_pieces.specs.declared.due.Due.{Due}
 use Rattle.cert_pieces.specs.Dues.{Follows, numbers_due, IsKnown}

@@ -1,6 +1,6 @@
 use Rattle.std.proofs.Common.{◌≡◌, ◌≤◌}
-use Rattle.cert_form.specs.Certificate.{CertValue}
-use Rattle.cert_form.specs.CertText.{as_numbers, IsCertificate}
+use Rattle.cert_text.specs.cert_form.specs.Certificate.{CertValue}
+use Rattle.cert_text.specs.cert_form.specs.CertText.{as_numbers, IsCertificate}
 use Rattle.cert_pieces.specs.Dues.{from_part}
 use Rattle.cert_pieces.specs.LinesLeft.{parts_left}
 use Rattle.cert_pieces.specs.Order.{NoneFrom}

@@ -1,9 +1,9 @@
 use Rattle.std.proofs.Common.{◌≡◌, ◌∙◌, arith, rules, length, pos, ℤ, negsuc, ◌<◌, ◌≤◌, ◌^◌, ◌≤ℤ◌, unsigned_abs, slice_index_or}
 use Rattle.std.proofs.lemmas.Int.{ints}
-use Rattle.auction_model.specs.Book.{market_of}
-use Rattle.row_laws.specs.Winners.{winners_in}
-use Rattle.core_price.proofs.LookLaws.{can-look}
-use Rattle.book_price.proofs.Worths.{value-most}
+use Rattle.place_price.specs.auction_model.specs.Book.{market_of}
+use Rattle.place_price.specs.row_laws.specs.Winners.{winners_in}
+use Rattle.place_price.specs.core_price.proofs.LookLaws.{can-look}
+use Rattle.place_price.specs.book_price.proofs.Worths.{value-most}
 use Rattle.cert_tests.proofs.prices.look.Goals as goal
 
 small-size : (z : ℤ) → pos 0 ≤ℤ z → z ≤ℤ pos 1000000 → unsigned_abs z < 2 ^ 109

@@ -1,7 +1,7 @@
 use Rattle.std.proofs.Common.{◌∙◌, ap, replicate, subst, sym}
-use Rattle.cert_laws.specs.Tests.{bidders_of}
-use Rattle.auction_model.specs.Prices.{AreWeights}
-use Rattle.book_price.proofs.Ones.{ones-weigh}
+use Rattle.place_price.specs.cert_laws.specs.Tests.{bidders_of}
+use Rattle.place_price.specs.auction_model.specs.Prices.{AreWeights}
+use Rattle.place_price.specs.book_price.proofs.Ones.{ones-weigh}
 use Rattle.cert_tests.proofs.prices.priced_alike.Goals as goal
 
 pub price_book-requires : goal.price_book-requires

@@ -1,5 +1,5 @@
 use Rattle.std.proofs.Common.{◌≡◌, ◌∙◌, arith, length, rules}
-use Rattle.cert_laws.specs.Tests.{bidders_of}
+use Rattle.place_price.specs.cert_laws.specs.Tests.{bidders_of}
 use Rattle.cert_tests.proofs.prices.priced_by.Goals as goal
 
 pub price_book-requires : goal.price_book-requires

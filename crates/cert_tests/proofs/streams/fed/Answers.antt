@@ -1,8 +1,8 @@
 use Rattle.std.proofs.Common.{◌≡◌, ◌≤◌, ◌-◌, ◌++◌, List, ℕ, length, take, drop, sym, ap, subst, ◌∙◌, arith, length-take}
 use Rattle.std.proofs.Math.Seq.{take-add}
-use Rattle.auction_model.specs.Book.{Book}
-use Rattle.cert_laws.specs.Tests.{bidders_of, states}
-use Rattle.cert_pieces.specs.Rooms.{room_size}
+use Rattle.place_price.specs.auction_model.specs.Book.{Book}
+use Rattle.place_price.specs.cert_laws.specs.Tests.{bidders_of, states}
+use Rattle.stream_check.specs.cert_pieces.specs.Rooms.{room_size}
 use Rattle.stream_check.specs.Standing.{StandsFor}
 use Rattle.cert_tests.proofs.streams.fed.Goals as goal
 

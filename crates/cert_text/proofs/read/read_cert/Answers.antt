@@ -1,5 +1,5 @@
 use Rattle.std.proofs.Common.{sym, subst, rules}
-use Rattle.line_text.specs.LineText.{stated}
+use Rattle.cert_form.specs.line_text.specs.LineText.{stated}
 use Rattle.cert_form.specs.Certificate.{CertValue}
 use Rattle.cert_form.specs.Says.{CertSays}
 use Rattle.cert_form.specs.CertText.{IsCertificate}

@@ -1,6 +1,6 @@
 use Rattle.std.proofs.Common.{◌≡◌, ℕ, ◌+◌, drop}
-use Rattle.row_laws.specs.Winners.{members_of}
-use Rattle.row_laws.specs.Winners.{has_bit, row_of}
+use Rattle.blocking.specs.row_laws.specs.Winners.{members_of}
+use Rattle.blocking.specs.row_laws.specs.Winners.{has_bit, row_of}
 use Rattle.core_price.proofs.bidders.members_of.Given as goal
 
 -- the members among the bidders that were passed, and the bits of the others

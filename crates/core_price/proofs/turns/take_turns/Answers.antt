@@ -3,10 +3,10 @@ use Rattle.std.proofs.Common.{◌≡◌, [], ◌∷◌, ◌++◌, ◌<◌, ◌^�
 use Rattle.std.proofs.lemmas.Int.{to_z-of_z}
 use Rattle.std.specs.Int.{w128}
 use Rattle.std.specs.declared.option.Option.TheVariants.{Some}
-use Rattle.auction_model.specs.Prices.{IsUnblocked}
+use Rattle.nearest_point.specs.auction_model.specs.Prices.{IsUnblocked}
 use Rattle.blocking.specs.declared.look.Block.{Block}
 use Rattle.blocking.specs.Look.{IsBlock}
-use Rattle.row_laws.specs.Winners.{for_bidders, winners_in}
+use Rattle.blocking.specs.row_laws.specs.Winners.{for_bidders, winners_in}
 use Rattle.core_price.specs.Answers.{IsAnswer}
 use Rattle.core_price.specs.SoFar.{IsSoFar}
 use Rattle.core_price.specs.Turns.{point_of}

@@ -1,8 +1,8 @@
 use Rattle.std.proofs.Common.{◌≡◌, ◌-◌, Err, Some, None, ap, sym, ◌∙◌, subst, length, take, drop, arith, length-drop}
 use Rattle.std.specs.List.{AllByRecursion}
 use Rattle.std.proofs.lemmas.List.{take_all}
-use Rattle.line_text.specs.LineText.{FaultAt}
-use Rattle.line_text.proofs.Runs.{line_taken, line_exceeds, line_refused, line_missing, all_read}
+use Rattle.review.specs.line_text.specs.LineText.{FaultAt}
+use Rattle.review.specs.line_text.proofs.Runs.{line_taken, line_exceeds, line_refused, line_missing, all_read}
 use Rattle.review.specs.Edits.{edit_lots}
 use Rattle.review.specs.declared.edit.Edit.{Edit}
 use Rattle.edits_file.specs.EditsForm.{AreNamedEdits, edits_of, lines}

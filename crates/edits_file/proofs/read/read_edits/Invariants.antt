@@ -1,5 +1,5 @@
 use Rattle.std.proofs.Common.{◌≡◌, ◌≤◌, ◌-◌, length}
-use Rattle.line_text.proofs.Runs.{SoFar}
+use Rattle.review.specs.line_text.proofs.Runs.{SoFar}
 use Rattle.edits_file.proofs.Reading.{NamedStage, NamedStep, named_excess, begin, held}
 use Rattle.edits_file.proofs.read.read_edits.Given as goal
 

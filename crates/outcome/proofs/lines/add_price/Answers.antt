@@ -2,8 +2,8 @@ use Rattle.std.proofs.Common.{◌≡◌, ◌∙◌, ap, ◌++◌, ◌∷◌, [],
 use Rattle.std.specs.Int.{w128}
 use Rattle.std.proofs.lemmas.Int.{to_z-of_z}
 use Rattle.std.specs.Fmt.{decimal, signed_decimal}
-use Rattle.auction_model.specs.Book.{bidder_of, bid_of}
-use Rattle.text_lines.specs.Decimals.{decimals_text}
+use Rattle.core_price.specs.auction_model.specs.Book.{bidder_of, bid_of}
+use Rattle.print_form.specs.text_lines.specs.Decimals.{decimals_text}
 use Rattle.outcome.specs.Fractions.{fraction_text}
 use Rattle.outcome.proofs.LineLaws.{regroup}
 use Rattle.outcome.proofs.lines.add_price.Goals as goal

@@ -1,8 +1,8 @@
 use Rattle.std.proofs.Common.{sym, subst, rules}
-use Rattle.line_text.specs.LineText.{stated}
+use Rattle.cert_text.specs.line_text.specs.LineText.{stated}
 use Rattle.place_cert.specs.CertValues.{PlaceStopsAt}
 use Rattle.place_cert.specs.Parts.{place_cert_from}
-use Rattle.cert_form.specs.PlaceCert.{PlaceCertValue}
+use Rattle.cert_text.specs.cert_form.specs.PlaceCert.{PlaceCertValue}
 use Rattle.place_cert.specs.PlaceSays.{PlaceCertSays}
 use Rattle.place_cert.specs.PlaceText.{IsPlaceCertificate}
 use Rattle.place_cert.proofs.WholeText.{version_stops, opening_stops, placing_stops, payment_stops, closing_stops, end_stops, text_read, made}

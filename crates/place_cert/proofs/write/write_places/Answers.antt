@@ -1,6 +1,6 @@
 use Rattle.std.proofs.Common.{◌∙◌, ap, subst, sym, ◌++◌, ◌∷◌, [], List, ℕ, ℤ, codes}
 use Rattle.std.specs.List.{AllByRecursion}
-use Rattle.cert_form.specs.CertText.{line}
+use Rattle.cert_text.specs.cert_form.specs.CertText.{line}
 use Rattle.cert_text.specs.Written.{bytes_of, Adds}
 use Rattle.place_cert.specs.PlaceReads.{part_lines}
 use Rattle.place_cert.specs.Written.{lines_of_head, lines_of_rows, ArePartsInRange, IsRowInRange}

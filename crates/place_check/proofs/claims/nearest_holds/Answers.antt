@@ -3,11 +3,11 @@ use Rattle.std.proofs.lemmas.Int.{to_z-of_z}
 use Rattle.std.proofs.lemmas.List.{length-map}
 use mir.Val.{SFits}
 use mir.Syntax.{w128}
-use Rattle.auction_model.specs.Prices.{alike}
+use Rattle.cert_check.specs.auction_model.specs.Prices.{alike}
 use Rattle.place_cert.specs.CertValues.{place_cert_value}
 use Rattle.place_cert.specs.Parts.{row_value}
 use Rattle.place_cert.specs.declared.certificate.PlaceRow.{PlaceRow}
-use Rattle.slot_places.specs.Board.{market_of}
+use Rattle.place_laws.specs.slot_places.specs.Board.{market_of}
 use Rattle.place_check.proofs.PlaceLaws.{second-sign, second-sum}
 use Rattle.place_check.proofs.RowLaws.{count-rows, row-place}
 use Rattle.place_check.proofs.claims.nearest_holds.Goals as goal

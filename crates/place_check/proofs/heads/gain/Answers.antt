@@ -3,9 +3,9 @@ use Rattle.std.proofs.lemmas.Bool.{cond-true}
 use Rattle.std.proofs.lemmas.Int.{to_z-of_z}
 use mir.Val.{SFits}
 use mir.Syntax.{w128}
-use Rattle.auction_model.specs.Lowered.{of_bidder}
-use Rattle.auction_model.specs.Market.{uses, worth_in}
-use Rattle.slot_places.specs.Board.{market_of}
+use Rattle.cert_check.specs.auction_model.specs.Lowered.{of_bidder}
+use Rattle.cert_check.specs.auction_model.specs.Market.{uses, worth_in}
+use Rattle.place_laws.specs.slot_places.specs.Board.{market_of}
 use Rattle.cert_check.proofs.PartLaws.{wins-some}
 use Rattle.cert_check.proofs.SumLaws.{in-range}
 use Rattle.place_check.proofs.PartLaws.{cert-kept}

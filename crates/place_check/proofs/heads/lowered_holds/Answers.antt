@@ -3,9 +3,9 @@ use Rattle.std.specs.Prelude.{IsTrue, ◌↔◌}
 use Rattle.std.proofs.lemmas.Int.{to_z-of_z}
 use mir.Val.{SFits}
 use mir.Syntax.{w128}
-use Rattle.auction_model.specs.Lowered.{of_bidder}
-use Rattle.auction_model.specs.Prices.{sum_over, everyone}
-use Rattle.slot_places.specs.Board.{board_without, market_of}
+use Rattle.cert_check.specs.auction_model.specs.Lowered.{of_bidder}
+use Rattle.cert_check.specs.auction_model.specs.Prices.{sum_over, everyone}
+use Rattle.place_laws.specs.slot_places.specs.Board.{board_without, market_of}
 use Rattle.place_laws.specs.PlaceTests.{lowered_in}
 use Rattle.place_cert.specs.CertValues.{place_cert_value}
 use Rattle.place_check.specs.OfferRules.{worth_with, SetTableAt, HasSmallWorths}

@@ -1,6 +1,6 @@
 use Rattle.std.proofs.Common.{◌∙◌, sym, ap, arith, not}
 use Rattle.std.proofs.lemmas.Bool.{iff_false, eq-eqb}
-use Rattle.auction_model.specs.Market.{number_of}
+use Rattle.cert_check.specs.auction_model.specs.Market.{number_of}
 use Rattle.place_cert.specs.CertValues.{place_cert_value}
 use Rattle.cert_check.proofs.PartLaws.{wins-some}
 use Rattle.place_check.proofs.PlaceLaws.{part-past, part-loser, part-winner}

@@ -1,5 +1,5 @@
 use Rattle.std.proofs.Common.{◌≡◌, ◌≤◌, ◌*◌, ◌^◌, map, unsigned_abs}
-use Rattle.cert_laws.specs.MarketTests.{sum_holding}
+use Rattle.cert_check.specs.cert_laws.specs.MarketTests.{sum_holding}
 use Rattle.place_cert.specs.Parts.{row_value}
 use Rattle.cert_check.specs.Multipliers.{multiplier_of}
 use Rattle.place_check.proofs.sums.sum_of.Given as goal

@@ -1,8 +1,8 @@
 use Rattle.std.proofs.Common.{◌≡◌, ◌≤◌, ◌*◌, ◌^◌, ◌≤ℤ◌, pos, not, unsigned_abs}
-use Rattle.slot_places.specs.Board.{market_of}
-use Rattle.auction_model.specs.Market.{worth_in}
-use Rattle.auction_model.specs.Prices.{sum_over}
-use Rattle.cert_form.specs.Certificate.{is_member}
+use Rattle.place_laws.specs.slot_places.specs.Board.{market_of}
+use Rattle.cert_check.specs.auction_model.specs.Market.{worth_in}
+use Rattle.cert_check.specs.auction_model.specs.Prices.{sum_over}
+use Rattle.cert_check.specs.cert_form.specs.Certificate.{is_member}
 use Rattle.place_check.proofs.sums.won_beside.Given as goal
 
 abbrev pub invariant-loop-k : goal.invariant-loop-k

@@ -1,9 +1,9 @@
 use Rattle.std.proofs.Common.{rules}
 use Rattle.std.proofs.lemmas.Result.{on_ok_weaker}
-use Rattle.cert_laws.specs.Sound.{cert_point}
-use Rattle.place_cert.specs.CertValues.{place_cert_value}
-use Rattle.place_laws.specs.PlaceSound.{prices_in}
-use Rattle.slot_places.specs.Board.{market_of}
+use Rattle.outcome.specs.cert_laws.specs.Sound.{cert_point}
+use Rattle.place_check.specs.place_cert.specs.CertValues.{place_cert_value}
+use Rattle.place_check.specs.place_laws.specs.PlaceSound.{prices_in}
+use Rattle.place_check.specs.slot_places.specs.Board.{market_of}
 use Rattle.place_outcome.proofs.Printing.{slice-lines, slice-rest}
 use Rattle.place_outcome.proofs.lines.+add_winners.Goals as goal
 

@@ -2,14 +2,14 @@ use Rattle.std.proofs.Common.{◌≡◌, ◌∙◌, ap, sym, ◌++◌, ◌∷◌
 use Rattle.std.specs.Int.{w128}
 use Rattle.std.proofs.lemmas.Int.{to_z-of_z}
 use Rattle.std.specs.Fmt.{decimal, signed_decimal}
-use Rattle.cert_laws.specs.Sound.{cert_point}
-use Rattle.auction_model.specs.Market.{number_of}
+use Rattle.outcome.specs.cert_laws.specs.Sound.{cert_point}
+use Rattle.outcome.specs.auction_model.specs.Market.{number_of}
 use Rattle.outcome.specs.Fractions.{fraction_text}
 use Rattle.outcome.proofs.LineLaws.{regroup}
-use Rattle.place_cert.specs.CertValues.{place_cert_value}
-use Rattle.place_laws.specs.PlaceSound.{prices_in}
-use Rattle.slot_places.specs.Board.{market_of}
-use Rattle.slot_places.specs.Slots.{bid_of, bidder_of}
+use Rattle.place_check.specs.place_cert.specs.CertValues.{place_cert_value}
+use Rattle.place_check.specs.place_laws.specs.PlaceSound.{prices_in}
+use Rattle.place_check.specs.slot_places.specs.Board.{market_of}
+use Rattle.place_check.specs.slot_places.specs.Slots.{bid_of, bidder_of}
 use Rattle.place_outcome.proofs.Printing.{price-of, winner-line}
 use Rattle.place_outcome.proofs.lines.add_winner.Goals as goal
 

@@ -1,12 +1,12 @@
 use Rattle.std.proofs.Common.{◌≡◌, ◌≢◌, ◌∙◌, ◌<◌, ◌≤◌, ◌+◌, ◌-◌, sym, ap, arith, get_or, length, take, map, [], ◌∷◌, ◌++◌}
 use Rattle.std.proofs.lemmas.List.{map-append, take_all}
-use Rattle.auction_model.proofs.ListLaws.{each-push}
-use Rattle.choices.specs.declared.chooser.Single.{Single}
-use Rattle.choices.specs.Singles.{winners_after, IsSingle}
+use Rattle.book_price.specs.auction_model.proofs.ListLaws.{each-push}
+use Rattle.book_price.specs.choices.specs.declared.chooser.Single.{Single}
+use Rattle.book_price.specs.choices.specs.Singles.{winners_after, IsSingle}
 use Rattle.place_price.proofs.Allowed.{lawful}
 use Rattle.place_price.proofs.Parts.{more-parts}
-use Rattle.slot_places.specs.Board.{market_of}
-use Rattle.vickrey.proofs.VickreyLaws.{winners-skip, winners-take}
+use Rattle.place_check.specs.slot_places.specs.Board.{market_of}
+use Rattle.book_price.specs.vickrey.proofs.VickreyLaws.{winners-skip, winners-take}
 use Rattle.place_price.proofs.alone.each_winner.Goals as goal
 use Rattle.place_price.proofs.alone.each_winner.Goals.{then-number-ne0+in_ok-one+in_ok-push+in_ok-push-2, else-number-ne0}
 

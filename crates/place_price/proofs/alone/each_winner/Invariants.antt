@@ -1,9 +1,9 @@
 use Rattle.std.proofs.Common.{◌≡◌, take, map}
 use Rattle.std.specs.List.{AllByRecursion}
-use Rattle.choices.specs.declared.chooser.Single.{Single}
-use Rattle.choices.specs.Singles.{winners_after, IsSingle}
+use Rattle.book_price.specs.choices.specs.declared.chooser.Single.{Single}
+use Rattle.book_price.specs.choices.specs.Singles.{winners_after, IsSingle}
 use Rattle.place_price.specs.PlacedParts.{ArePartsOf}
-use Rattle.slot_places.specs.Board.{market_of}
+use Rattle.place_check.specs.slot_places.specs.Board.{market_of}
 use Rattle.place_price.proofs.alone.each_winner.Given as goal
 
 abbrev pub invariant-loop-k : goal.invariant-loop-k

@@ -1,12 +1,12 @@
 use Rattle.std.proofs.Common.{◌≡◌, ◌∙◌, refl, subst, sym, List}
 use Rattle.book_price.proofs.LastTurn.{point-is_last}
-use Rattle.core_price.specs.Priced.{IsPriced}
-use Rattle.core_price.specs.Turns.{EndsWith, last_turn}
-use Rattle.core_price.specs.declared.priced.Turn.{Turn}
-use Rattle.place_cert.specs.CertValues.{place_cert_value}
+use Rattle.book_price.specs.core_price.specs.Priced.{IsPriced}
+use Rattle.book_price.specs.core_price.specs.Turns.{EndsWith, last_turn}
+use Rattle.book_price.specs.core_price.specs.declared.priced.Turn.{Turn}
+use Rattle.place_check.specs.place_cert.specs.CertValues.{place_cert_value}
 use Rattle.place_price.proofs.FoundLaws.{run-of}
 use Rattle.place_price.specs.Ones.{ones}
-use Rattle.slot_places.specs.Board.{market_of}
+use Rattle.place_check.specs.slot_places.specs.Board.{market_of}
 use Rattle.place_price.proofs.pricing.priced_places.Goals as goal
 
 pub returns-clause-run : goal.returns-clause-run

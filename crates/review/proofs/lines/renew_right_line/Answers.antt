@@ -1,5 +1,5 @@
 use Rattle.std.proofs.Common.{◌≡◌, ◌≢◌, ◌+◌, ◌-◌, ◌<◌, ℕ, List, ℤ, [], length, drop, get_or, set, sym, ap, subst, ◌∙◌, arith, Vec, Global}
-use Rattle.auction_model.specs.Place.{states_of}
+use Rattle.value_table.specs.auction_model.specs.Place.{states_of}
 use Rattle.value_table.specs.SideLines.{IsRightLine}
 use Rattle.std.specs.Vec.{with_items}
 use Rattle.std.proofs.lemmas.List.{take_at}

@@ -1,6 +1,6 @@
 -- What is left decides.
 use Rattle.std.proofs.Common.{◌≡◌, ◌+◌, drop}
-use Rattle.auction_model.specs.PackageTests.{first_over}
+use Rattle.value_table.specs.auction_model.specs.PackageTests.{first_over}
 use Rattle.review.proofs.replies.first_over.Given as goal
 
 abbrev pub invariant-loop-category : goal.invariant-loop-category

@@ -1,9 +1,9 @@
 use Rattle.std.proofs.Common.{◌≡◌, ◌-◌, ◌<◌, length, get_or, sym, ap, ◌∙◌, arith}
-use Rattle.auction_model.specs.Book.{bids_of, no_bid}
-use Rattle.bid_book.specs.Changes.{with_bids}
-use Rattle.bid_book.proofs.PutLaws.{book-order}
+use Rattle.value_table.specs.auction_model.specs.Book.{bids_of, no_bid}
+use Rattle.value_table.specs.bid_book.specs.Changes.{with_bids}
+use Rattle.value_table.specs.bid_book.proofs.PutLaws.{book-order}
 use Rattle.review.proofs.RemoveLaws.{without-removed}
-use Rattle.bid_book.proofs.PackageOrder.{lots_at}
+use Rattle.value_table.specs.bid_book.proofs.PackageOrder.{lots_at}
 use Rattle.review.proofs.review.take_out.Goals as goal
 
 pub returns-in-Some : goal.returns-in-Some

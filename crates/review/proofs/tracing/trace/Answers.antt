@@ -2,16 +2,16 @@ use Rattle.std.proofs.Common.{◌≡◌, ◌∙◌, ◌≤◌, ◌<◌, ◌+◌,
 use Rattle.std.proofs.lemmas.Int.{to_z-of_z}
 use Rattle.std.proofs.lemmas.List.{append-nil, get_or_default, take_all, take_more_set}
 use Rattle.std.proofs.Math.ListN.{length-set}
-use Rattle.auction_model.specs.Book.{market_of, menu_of, net_of}
-use Rattle.auction_model.specs.Greatest.{IsFirstGreatest, IsWinning}
-use Rattle.auction_model.specs.Market.{sum_after}
-use Rattle.auction_model.specs.Menu.{fits_after}
-use Rattle.auction_model.specs.Place.{left_at, states_of}
-use Rattle.auction_model.specs.Steps.{IsFirstNumber}
-use Rattle.auction_model.specs.Table.{IsEntry}
-use Rattle.auction_model.proofs.PlaceLaws.{states-positive, left_at-whole}
-use Rattle.auction_model.proofs.TraceLaws.{first-last}
-use Rattle.auction_model.proofs.WalkLaws.{walk-by}
+use Rattle.value_table.specs.auction_model.specs.Book.{market_of, menu_of, net_of}
+use Rattle.value_table.specs.auction_model.specs.Greatest.{IsFirstGreatest, IsWinning}
+use Rattle.value_table.specs.auction_model.specs.Market.{sum_after}
+use Rattle.value_table.specs.auction_model.specs.Menu.{fits_after}
+use Rattle.value_table.specs.auction_model.specs.Place.{left_at, states_of}
+use Rattle.value_table.specs.auction_model.specs.Steps.{IsFirstNumber}
+use Rattle.value_table.specs.auction_model.specs.Table.{IsEntry}
+use Rattle.value_table.specs.auction_model.proofs.PlaceLaws.{states-positive, left_at-whole}
+use Rattle.value_table.specs.auction_model.proofs.TraceLaws.{first-last}
+use Rattle.value_table.specs.auction_model.proofs.WalkLaws.{walk-by}
 use Rattle.value_table.specs.SideLines.{IsRightLine}
 use Rattle.review.specs.ReviewValue.{AreRightLines, lines_of}
 use Rattle.review.proofs.LineSets.{count-of, entry-read, line-read, read-own}

@@ -1,6 +1,6 @@
 use Rattle.std.proofs.Common.{List, ℕ, ◌++◌, ◌∙◌, ap}
-use Rattle.auction_model.specs.Book.{Book}
-use Rattle.print_form.specs.WinText.{win_text}
+use Rattle.review.specs.auction_model.specs.Book.{Book}
+use Rattle.outcome.specs.print_form.specs.WinText.{win_text}
 use Rattle.review_text.proofs.LineLaws.{all_done, none_yet, one_more}
 use Rattle.review_text.proofs.text.review_text.Goals as goal
 

@@ -1,5 +1,5 @@
 use Rattle.std.proofs.Common.{◌≡◌, ℕ, zero, suc, List, [], ◌∷◌, get_or, ℤ, pos, refl}
-use Rattle.value_table.proofs.Plain.{plain-range}
+use Rattle.cca_run.specs.value_table.proofs.Plain.{plain-range}
 use Rattle.run_tests.proofs.listing.leaves_a_bidder_out.Goals as goal
 
 no_surplus : (k : ℕ) → get_or (pos 0 ∷ pos 0 ∷ pos 0 ∷ pos 0 ∷ pos 0 ∷ []) k (pos 0) ≡ pos 0

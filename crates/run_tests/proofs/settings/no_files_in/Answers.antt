@@ -1,5 +1,5 @@
 use Rattle.std.proofs.Common.{◌∙◌, string_bytes, map, get_or}
-use Rattle.cca_base.proofs.KnownNames.{each-known}
+use Rattle.cca_run.specs.cca_base.proofs.KnownNames.{each-known}
 use Rattle.run_tests.proofs.settings.no_files_in.Goals as goal
 
 pub returns : goal.returns

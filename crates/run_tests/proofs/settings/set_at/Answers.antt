@@ -1,6 +1,6 @@
 use Rattle.std.proofs.Common.{◌≡◌, ◌∙◌, Bool, List, ℕ, string_bytes, map, get_or, length, ap, sym, subst, ◌<◌}
 use Rattle.std.proofs.lemmas.List.{get_or-map, length-map}
-use Rattle.cca_base.specs.MemFiles.{mem_folder}
+use Rattle.cca_run.specs.cca_base.specs.MemFiles.{mem_folder}
 use Rattle.run_tests.proofs.settings.set_at.Goals as goal
 
 pub set-requires : goal.set-requires

@@ -1,7 +1,7 @@
 use Rattle.std.proofs.Common.{◌≡◌, ◌-◌, Err, ap, sym, ◌∙◌, subst, length, take, drop, arith, length-drop}
 use Rattle.std.proofs.lemmas.List.{take_all}
-use Rattle.line_text.specs.LineText.{FaultAt}
-use Rattle.line_text.proofs.Runs.{line_taken, line_exceeds, line_refused, line_missing, all_read}
+use Rattle.choices.specs.line_text.specs.LineText.{FaultAt}
+use Rattle.choices.specs.line_text.proofs.Runs.{line_taken, line_exceeds, line_refused, line_missing, all_read}
 use Rattle.slot_places.specs.SlotForm.{IsSlotText, slot_lines}
 use Rattle.slot_places.specs.Stages.{Step, excess}
 use Rattle.slot_places.proofs.Reading.{IsSound, begin, finish, reads}

@@ -1,5 +1,5 @@
 use Rattle.std.proofs.Common.{◌≤◌, ◌-◌, length}
-use Rattle.line_text.proofs.Runs.{SoFar}
+use Rattle.choices.specs.line_text.proofs.Runs.{SoFar}
 use Rattle.slot_places.specs.Stages.{Step, excess}
 use Rattle.slot_places.proofs.Reading.{begin}
 use Rattle.slot_places.proofs.read.read_slots.Given as goal

@@ -1,5 +1,5 @@
 use Rattle.std.proofs.Common.{◌≡◌, ◌∙◌, Some, refl, arith}
-use Rattle.limits.specs.declared.LimitKind.TheVariants.{Lots}
+use Rattle.choices.specs.limits.specs.declared.LimitKind.TheVariants.{Lots}
 use Rattle.slot_places.specs.declared.read.Stage.TheVariants.{Listing}
 use Rattle.slot_places.specs.Stages.{opened}
 use Rattle.slot_places.proofs.EntryLaws.{many_lots}

@@ -1,4 +1,4 @@
-use Rattle.auction_model.specs.Market.{value_of}
+use Rattle.choices.specs.auction_model.specs.Market.{value_of}
 use Rattle.slot_places.specs.Board.{market_of}
 use Rattle.slot_places.specs.Slots.{amount_of}
 use Rattle.slot_places.proofs.WithoutLaws.{first-none, table-none}

@@ -3,11 +3,11 @@ use Rattle.std.specs.Prelude.{ℤ, slice_index_or}
 use Rattle.std.proofs.lemmas.Int.{to_z-of_z}
 use mir.Val.{SFits}
 use mir.Syntax.{w128}
-use Rattle.auction_model.specs.Lowered.{of_bidder}
-use Rattle.auction_model.specs.Place.{states_of}
-use Rattle.auction_model.specs.Prices.{weight_of, sum_over, everyone}
-use Rattle.auction_model.specs.Table.{entry_at}
-use Rattle.cert_laws.specs.Tests.{states, full}
+use Rattle.cert_check.specs.auction_model.specs.Lowered.{of_bidder}
+use Rattle.cert_check.specs.auction_model.specs.Place.{states_of}
+use Rattle.cert_check.specs.auction_model.specs.Prices.{weight_of, sum_over, everyone}
+use Rattle.cert_check.specs.auction_model.specs.Table.{entry_at}
+use Rattle.cert_facts.specs.cert_laws.specs.Tests.{states, full}
 use Rattle.stream_check.proofs.LoweredCome.{pay-there, line-there, keeps-sum}
 use Rattle.stream_check.proofs.claims.keeps_sum.Goals as goal
 

@@ -1,6 +1,6 @@
 use Rattle.std.proofs.Common.{◌+◌, ◌*◌, ℕ, ◌∙◌, ap}
-use Rattle.auction_model.specs.Prices.{weight_of}
-use Rattle.cert_laws.specs.Tests.{bidders_of, states}
+use Rattle.cert_check.specs.auction_model.specs.Prices.{weight_of}
+use Rattle.cert_facts.specs.cert_laws.specs.Tests.{bidders_of, states}
 use Rattle.cert_pieces.specs.declared.due.Due.TheVariants.{Entries}
 use Rattle.cert_pieces.specs.declared.due.Table.TheVariants.{Lowered}
 use Rattle.stream_check.proofs.LoweredCome.{late-one}

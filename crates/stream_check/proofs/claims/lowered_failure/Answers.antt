@@ -1,7 +1,7 @@
 use Rattle.std.proofs.Common.{◌≡◌, ◌-◌, ◌*◌, ◌≤◌, length, sym, subst, arith}
-use Rattle.auction_model.specs.Book.{Book}
-use Rattle.auction_model.specs.Prices.{weight_of}
-use Rattle.cert_laws.specs.Tests.{bidders_of, states}
+use Rattle.cert_check.specs.auction_model.specs.Book.{Book}
+use Rattle.cert_check.specs.auction_model.specs.Prices.{weight_of}
+use Rattle.cert_facts.specs.cert_laws.specs.Tests.{bidders_of, states}
 use Rattle.cert_check.specs.Partway.{IsJudged}
 use Rattle.cert_pieces.specs.declared.due.Table.TheVariants.{Lowered}
 use Rattle.cert_pieces.specs.Rooms.{room_size}

@@ -1,8 +1,8 @@
 use Rattle.std.proofs.Common.{◌∙◌, List, length, refl, sym, ap, subst}
 use Rattle.std.specs.Prelude.{ℤ}
-use Rattle.auction_model.specs.Book.{Book}
-use Rattle.auction_model.specs.Prices.{weight_of}
-use Rattle.cert_laws.specs.Tests.{C5, bidders_of}
+use Rattle.cert_check.specs.auction_model.specs.Book.{Book}
+use Rattle.cert_check.specs.auction_model.specs.Prices.{weight_of}
+use Rattle.cert_facts.specs.cert_laws.specs.Tests.{C5, bidders_of}
 use Rattle.cert_check.specs.Places.{IsFirstFailing}
 use Rattle.cert_check.proofs.VerdictLaws.{asks-C5}
 use Rattle.stream_check.proofs.ClaimCome.{pay-own, pay-holds, pay-shows}

@@ -3,15 +3,15 @@ use Rattle.std.specs.Prelude.{ℤ, IsTrue, ◌-ℤ◌, ◌+ℤ◌, length}
 use Rattle.std.proofs.lemmas.Int.{to_z-of_z}
 use mir.Val.{SFits}
 use mir.Syntax.{w128}
-use Rattle.auction_model.specs.Book.{bids_of, market_of, menu_of, net_of}
-use Rattle.auction_model.specs.Market.{value_of}
-use Rattle.auction_model.specs.Menu.{is_known_after}
-use Rattle.auction_model.proofs.BookMarket.{fits-known}
+use Rattle.cert_check.specs.auction_model.specs.Book.{bids_of, market_of, menu_of, net_of}
+use Rattle.cert_check.specs.auction_model.specs.Market.{value_of}
+use Rattle.cert_check.specs.auction_model.specs.Menu.{is_known_after}
+use Rattle.cert_check.specs.auction_model.proofs.BookMarket.{fits-known}
 use Rattle.cert_check.proofs.PartLaws.{wins-some}
-use Rattle.cert_form.specs.CertText.{InRange}
-use Rattle.cert_form.specs.Certificate.{part_of}
-use Rattle.cert_laws.specs.Tests.{bidders_of, states}
-use Rattle.choices.specs.declared.chooser.Single.{Single}
+use Rattle.cert_facts.specs.cert_form.specs.CertText.{InRange}
+use Rattle.cert_facts.specs.cert_form.specs.Certificate.{part_of}
+use Rattle.cert_facts.specs.cert_laws.specs.Tests.{bidders_of, states}
+use Rattle.cert_facts.specs.choices.specs.declared.chooser.Single.{Single}
 use Rattle.stream_check.proofs.NextLaws.{part-choice}
 use Rattle.stream_check.proofs.facts.single_in.Goals as goal
 

@@ -1,5 +1,5 @@
 use Rattle.std.proofs.Common.{arith}
-use Rattle.cert_laws.specs.Tests.{bidders_of, states}
+use Rattle.cert_facts.specs.cert_laws.specs.Tests.{bidders_of, states}
 use Rattle.stream_check.proofs.FactLaws.{singles-done}
 use Rattle.stream_check.proofs.facts.singles_in.Goals as goal
 

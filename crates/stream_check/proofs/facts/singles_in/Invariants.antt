@@ -1,5 +1,5 @@
 use Rattle.std.proofs.Common.{◌≡◌, ◌++◌, drop}
-use Rattle.cert_form.specs.Certificate.{CertValue}
+use Rattle.cert_facts.specs.cert_form.specs.Certificate.{CertValue}
 use Rattle.stream_check.specs.WholeRoom.{HasAll}
 use Rattle.stream_check.proofs.FactLaws.{singles_behind}
 use Rattle.stream_check.proofs.facts.singles_in.Given as goal

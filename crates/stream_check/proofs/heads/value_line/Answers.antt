@@ -2,7 +2,7 @@ use Rattle.std.proofs.Common.{◌∙◌, sym, refl, rules}
 use Rattle.std.proofs.lemmas.Int.{to_z-of_z}
 use mir.Val.{SFits}
 use mir.Syntax.{w128}
-use Rattle.auction_model.specs.Prices.{weight_of}
+use Rattle.cert_check.specs.auction_model.specs.Prices.{weight_of}
 use Rattle.cert_check.proofs.VerdictLaws.{asks-C1}
 use Rattle.stream_check.proofs.HeadCome.{den-there, value-there, value-holds, value-shows}
 use Rattle.stream_check.proofs.heads.value_line.Goals as goal

@@ -1,4 +1,4 @@
-use Rattle.auction_model.specs.Prices.{weight_of}
+use Rattle.cert_check.specs.auction_model.specs.Prices.{weight_of}
 use Rattle.stream_check.proofs.NextLaws.{plain}
 use Rattle.stream_check.proofs.judging.nothing_new.Goals as goal
 

@@ -3,8 +3,8 @@ use Rattle.std.specs.Prelude.{ℤ}
 use Rattle.std.proofs.lemmas.Int.{to_z-of_z}
 use mir.Val.{SFits}
 use mir.Syntax.{w128}
-use Rattle.cert_form.specs.Certificate.{RowValue}
-use Rattle.cert_laws.specs.Tests.{bidders_of}
+use Rattle.cert_facts.specs.cert_form.specs.Certificate.{RowValue}
+use Rattle.cert_facts.specs.cert_laws.specs.Tests.{bidders_of}
 use Rattle.cert_pieces.specs.declared.due.Due.TheVariants.{Multipliers}
 use Rattle.cert_pieces.specs.LinesLeft.{row_at}
 use Rattle.stream_check.proofs.MemberCome.{row-whole, pair-there, pair-totals, pair-inside}

@@ -1,6 +1,6 @@
 use Rattle.std.proofs.Common.{◌≡◌, ◌∙◌, ◌≤◌, ℕ, List, length, length-take, take, ap, arith}
 use Rattle.std.specs.Prelude.{ℤ}
-use Rattle.cert_laws.specs.Tests.{bidders_of, states}
+use Rattle.cert_facts.specs.cert_laws.specs.Tests.{bidders_of, states}
 use Rattle.cert_pieces.specs.LinesLeft.{row_at}
 use Rattle.stream_check.proofs.MemberCome.{members-there, members-most, row-whole, segment-few, take-front}
 use Rattle.stream_check.proofs.RowCome.{take-few}

@@ -3,13 +3,13 @@ use Rattle.std.specs.Prelude.{ℤ, IsTrue, slice_index_or}
 use Rattle.std.proofs.lemmas.Int.{to_z-of_z}
 use mir.Val.{SFits, to_z, of_z}
 use mir.Syntax.{w128}
-use Rattle.auction_model.specs.Market.{value_of}
-use Rattle.auction_model.specs.Place.{states_of}
-use Rattle.auction_model.specs.Table.{entry_at}
-use Rattle.cert_laws.specs.Tests.{states, full}
-use Rattle.auction_model.specs.Book.{market_of, menu_of}
-use Rattle.auction_model.proofs.BookMarket.{fits-known}
-use Rattle.cert_form.specs.Certificate.{part_of}
+use Rattle.cert_check.specs.auction_model.specs.Market.{value_of}
+use Rattle.cert_check.specs.auction_model.specs.Place.{states_of}
+use Rattle.cert_check.specs.auction_model.specs.Table.{entry_at}
+use Rattle.cert_facts.specs.cert_laws.specs.Tests.{states, full}
+use Rattle.cert_check.specs.auction_model.specs.Book.{market_of, menu_of}
+use Rattle.cert_check.specs.auction_model.proofs.BookMarket.{fits-known}
+use Rattle.cert_facts.specs.cert_form.specs.Certificate.{part_of}
 use Rattle.stream_check.proofs.PartCome.{lines-named, lines-inside, lines-choice, lines-kept, lines-part, lines-there, tops}
 use Rattle.stream_check.proofs.parts.keeps_top.Goals as goal
 

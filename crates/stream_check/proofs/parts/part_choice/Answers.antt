@@ -1,8 +1,8 @@
 use Rattle.std.proofs.Common.{◌≡◌, ◌∙◌, ℕ, List, ap, subst, take}
 use Rattle.std.specs.Prelude.{IsTrue, ◌↔◌}
-use Rattle.auction_model.specs.Book.{market_of}
-use Rattle.auction_model.specs.Market.{number_of}
-use Rattle.cert_form.specs.Certificate.{part_of}
+use Rattle.cert_check.specs.auction_model.specs.Book.{market_of}
+use Rattle.cert_check.specs.auction_model.specs.Market.{number_of}
+use Rattle.cert_facts.specs.cert_form.specs.Certificate.{part_of}
 use Rattle.stream_check.proofs.PartCome.{part-there, part-kept, part-named, choice-shows}
 use Rattle.stream_check.proofs.parts.part_choice.Goals as goal
 

@@ -1,9 +1,9 @@
 use Rattle.std.proofs.Common.{◌≡◌, ◌∙◌, ◌-◌, ◌*◌, ◌<◌, ◌≤◌, length, sym, subst}
 use Rattle.std.proofs.lemmas.Bool.{false≢true}
-use Rattle.auction_model.specs.Book.{Book}
+use Rattle.cert_check.specs.auction_model.specs.Book.{Book}
 use Rattle.cert_check.specs.LineTests.{RulesAt}
-use Rattle.cert_form.specs.Certificate.{part_of}
-use Rattle.cert_laws.specs.Tests.{bidders_of, states}
+use Rattle.cert_facts.specs.cert_form.specs.Certificate.{part_of}
+use Rattle.cert_facts.specs.cert_laws.specs.Tests.{bidders_of, states}
 use Rattle.cert_pieces.specs.declared.due.Table.TheVariants.{Part}
 use Rattle.cert_pieces.specs.Rooms.{room_size}
 use Rattle.stream_check.specs.Rules.{HasTwoLines, IsFirstBetween, lines_tested}

@@ -1,6 +1,6 @@
 use Rattle.std.proofs.Common.{◌∙◌, List, length, ap, arith, length-take}
 use Rattle.std.specs.Prelude.{ℤ}
-use Rattle.cert_form.proofs.Written.{long_numbers}
+use Rattle.cert_facts.specs.cert_form.proofs.Written.{long_numbers}
 use Rattle.stream_check.proofs.room.put_choice.Goals as goal
 
 pub put_numbers-requires-clause-count : goal.put_numbers-requires-clause-count

@@ -4,7 +4,7 @@ use Rattle.std.proofs.lemmas.Int.{to_z-of_z}
 use Rattle.std.proofs.lemmas.List.{length-set}
 use mir.Val.{SFits}
 use mir.Syntax.{w128}
-use Rattle.cert_form.proofs.Written.{long_numbers}
+use Rattle.cert_facts.specs.cert_form.proofs.Written.{long_numbers}
 use Rattle.stream_check.proofs.NumberLaws.{number-at, most-at, put-more, same-list}
 use Rattle.stream_check.proofs.room.put_numbers.Goals as goal
 

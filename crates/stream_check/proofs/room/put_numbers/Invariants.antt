@@ -1,5 +1,5 @@
 use Rattle.std.proofs.Common.{◌≡◌, ◌<◌, ℕ, List, length, get_or}
-use Rattle.cert_form.specs.CertText.{as_numbers}
+use Rattle.cert_facts.specs.cert_form.specs.CertText.{as_numbers}
 use Rattle.stream_check.proofs.room.put_numbers.Given as goal
 
 abbrev pub invariant-loop-k : goal.invariant-loop-k

@@ -1,8 +1,8 @@
 use Rattle.std.proofs.Common.{◌∙◌, ℕ, List, length, inr, sym, ap, subst, take}
 use Rattle.std.specs.Prelude.{ℤ, IsTrue, ◌↔◌}
-use Rattle.auction_model.specs.Book.{Book}
-use Rattle.cert_form.specs.CertText.{AllInRange, AreMembers}
-use Rattle.cert_laws.specs.Tests.{IsTightRow, bidders_of}
+use Rattle.cert_check.specs.auction_model.specs.Book.{Book}
+use Rattle.cert_facts.specs.cert_form.specs.CertText.{AllInRange, AreMembers}
+use Rattle.cert_facts.specs.cert_laws.specs.Tests.{IsTightRow, bidders_of}
 use Rattle.cert_pieces.specs.LinesLeft.{row_at}
 use Rattle.stream_check.proofs.RowCome.{row_at-kept}
 use Rattle.stream_check.proofs.RowTests.{row-some, row-inside, row-pay, row-choice}

@@ -1,7 +1,7 @@
 use Rattle.std.proofs.Common.{◌≤◌, refl, sym, subst, arith}
-use Rattle.auction_model.specs.Book.{Book}
-use Rattle.auction_model.specs.Prices.{weight_of}
-use Rattle.cert_laws.specs.Tests.{C7, bidders_of}
+use Rattle.cert_check.specs.auction_model.specs.Book.{Book}
+use Rattle.cert_check.specs.auction_model.specs.Prices.{weight_of}
+use Rattle.cert_facts.specs.cert_laws.specs.Tests.{C7, bidders_of}
 use Rattle.cert_check.specs.Places.{IsFirstFailing}
 use Rattle.cert_check.specs.Partway.{IsJudged}
 use Rattle.cert_check.proofs.VerdictLaws.{asks-C7}

@@ -1,10 +1,10 @@
 use Rattle.std.proofs.Common.{◌∙◌, ◌≤◌, ℕ, List, length, refl, sym, ap, subst, arith}
 use Rattle.std.specs.Prelude.{ℤ}
-use Rattle.auction_model.specs.Book.{Book}
-use Rattle.auction_model.specs.Prices.{AreWeights, weight_of}
-use Rattle.bid_book.specs.Kept.{IsBidBook}
-use Rattle.cert_form.specs.CertText.{AllInRange}
-use Rattle.cert_laws.specs.Tests.{C8, bidders_of}
+use Rattle.cert_check.specs.auction_model.specs.Book.{Book}
+use Rattle.cert_check.specs.auction_model.specs.Prices.{AreWeights, weight_of}
+use Rattle.cert_facts.specs.bid_book.specs.Kept.{IsBidBook}
+use Rattle.cert_facts.specs.cert_form.specs.CertText.{AllInRange}
+use Rattle.cert_facts.specs.cert_laws.specs.Tests.{C8, bidders_of}
 use Rattle.cert_check.specs.Fields.{AreValuesWithout}
 use Rattle.cert_check.specs.Places.{IsFirstFailing}
 use Rattle.cert_check.proofs.HeadLaws.{values-range}

@@ -4,11 +4,11 @@ use Rattle.std.proofs.lemmas.Bool.{cond-true, cond-false, eq-eqb}
 use Rattle.std.proofs.lemmas.Int.{to_z-of_z}
 use mir.Val.{SFits}
 use mir.Syntax.{w128}
-use Rattle.auction_model.specs.Book.{Book, market_of, menu_of}
-use Rattle.cert_laws.specs.Tests.{bidders_of}
-use Rattle.auction_model.specs.Market.{number_of, uses, value_of}
-use Rattle.auction_model.proofs.BookMarket.{fits-known}
-use Rattle.cert_form.specs.Certificate.{part_of}
+use Rattle.cert_check.specs.auction_model.specs.Book.{Book, market_of, menu_of}
+use Rattle.cert_facts.specs.cert_laws.specs.Tests.{bidders_of}
+use Rattle.cert_check.specs.auction_model.specs.Market.{number_of, uses, value_of}
+use Rattle.cert_check.specs.auction_model.proofs.BookMarket.{fits-known}
+use Rattle.cert_facts.specs.cert_form.specs.Certificate.{part_of}
 use Rattle.cert_check.proofs.PartLaws.{wins-some}
 use Rattle.stream_check.proofs.ClaimCome.{ends-claimed, part-known, part-whole, parts-hold}
 use Rattle.stream_check.proofs.rows.part_value.Goals as goal

@@ -2,7 +2,7 @@ use Rattle.std.proofs.Common.{◌∙◌, arith, rules}
 use Rattle.std.proofs.lemmas.Int.{to_z-of_z}
 use mir.Val.{SFits}
 use mir.Syntax.{w128}
-use Rattle.cert_laws.specs.Tests.{bidders_of}
+use Rattle.cert_facts.specs.cert_laws.specs.Tests.{bidders_of}
 use Rattle.cert_check.specs.Fields.{worth_without}
 use Rattle.cert_check.proofs.Written.{written-more, written-all}
 use Rattle.stream_check.proofs.rows.put_part_values.Goals as goal

@@ -1,5 +1,5 @@
 use Rattle.std.proofs.Common.{◌≡◌, length}
-use Rattle.cert_form.specs.Certificate.{CertValue}
+use Rattle.cert_facts.specs.cert_form.specs.Certificate.{CertValue}
 use Rattle.cert_check.specs.Fields.{worth_without}
 use Rattle.cert_check.proofs.Written.{AreWritten}
 use Rattle.stream_check.specs.Moments.{IsAt}

@@ -1,6 +1,6 @@
 use Rattle.std.proofs.Common.{None, ◌-◌, refl, sym, subst, arith}
 use Rattle.std.proofs.lemmas.Bool.{iff_false}
-use Rattle.auction_model.specs.Prices.{weight_of}
+use Rattle.cert_check.specs.auction_model.specs.Prices.{weight_of}
 use Rattle.stream_check.proofs.RowTests.{row-some, row-inside, row-totals, row-before, row-order, row-fails, more-shows, last-holds, last-totals, rows-done}
 use Rattle.stream_check.specs.Tests.{IsRowsEnd}
 use Rattle.stream_check.proofs.rows.row_line.Goals as goal

@@ -4,7 +4,7 @@ use Rattle.std.proofs.lemmas.Bool.{iff_false}
 use Rattle.std.proofs.lemmas.Int.{to_z-of_z}
 use mir.Val.{SFits}
 use mir.Syntax.{w128}
-use Rattle.auction_model.specs.Prices.{weight_of}
+use Rattle.cert_check.specs.auction_model.specs.Prices.{weight_of}
 use Rattle.stream_check.specs.Tests.{IsRowsEnd}
 use Rattle.stream_check.proofs.RowTests.{count-there, count-next, no-totals, none-of, some-shows, none-holds, rows-done}
 use Rattle.stream_check.proofs.rows.rows_line.Goals as goal

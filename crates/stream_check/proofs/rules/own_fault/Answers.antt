@@ -1,7 +1,7 @@
 use Rattle.std.proofs.Common.{◌≡◌, ◌∙◌, ◌+◌, ◌*◌, suc, Some, arith, ap, subst, sym, ℕ, []}
 use Rattle.std.specs.Prelude.{slice_index_or}
-use Rattle.auction_model.specs.Place.{states_of}
-use Rattle.cert_laws.specs.Tests.{bidders_of, states}
+use Rattle.cert_check.specs.auction_model.specs.Place.{states_of}
+use Rattle.cert_facts.specs.cert_laws.specs.Tests.{bidders_of, states}
 use Rattle.cert_check.specs.Faults.{FirstFault}
 use Rattle.cert_check.specs.LineTests.{RulesAt}
 use Rattle.cert_check.proofs.PartLines.{fault-rules}

@@ -1,5 +1,5 @@
 use Rattle.std.proofs.Common.{◌-◌, ◌*◌, subst}
-use Rattle.cert_laws.specs.Tests.{bidders_of, states}
+use Rattle.cert_facts.specs.cert_laws.specs.Tests.{bidders_of, states}
 use Rattle.cert_check.specs.LineTests.{RulesAt}
 use Rattle.stream_check.specs.Rules.{IsFirstBetween, lines_tested}
 use Rattle.stream_check.proofs.RuleLaws.{between-first, between-both, lines-rise}

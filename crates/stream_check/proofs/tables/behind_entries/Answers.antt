@@ -1,6 +1,6 @@
 use Rattle.std.proofs.Common.{◌≡◌, ◌∙◌, ◌+◌, ◌*◌, ◌≤◌, ℕ, subst, sym, ap}
-use Rattle.auction_model.specs.Place.{states_of}
-use Rattle.cert_laws.specs.Tests.{Asks, bidders_of, states}
+use Rattle.cert_check.specs.auction_model.specs.Place.{states_of}
+use Rattle.cert_facts.specs.cert_laws.specs.Tests.{Asks, bidders_of, states}
 use Rattle.cert_check.specs.Partway.{IsJudged, IsLate}
 use Rattle.stream_check.proofs.tables.behind_entries.Goals as goal
 

@@ -1,6 +1,6 @@
 use Rattle.std.proofs.Common.{◌+◌, ◌*◌, pos, replicate, refl, arith}
-use Rattle.auction_model.specs.Prices.{weight_of}
-use Rattle.cert_laws.specs.Tests.{bidders_of, states}
+use Rattle.cert_check.specs.auction_model.specs.Prices.{weight_of}
+use Rattle.cert_facts.specs.cert_laws.specs.Tests.{bidders_of, states}
 use Rattle.cert_check.proofs.Worths.{plain-small, plain-worth}
 use Rattle.cert_check.proofs.HeadLines.{past-C3}
 use Rattle.cert_pieces.specs.declared.due.Table.TheVariants.{Head}

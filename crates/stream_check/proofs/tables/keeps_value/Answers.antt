@@ -3,11 +3,11 @@ use Rattle.std.specs.Prelude.{ℤ, IsTrue, slice_index_or, unsigned_abs}
 use Rattle.std.proofs.lemmas.Int.{to_z-of_z}
 use mir.Val.{SFits}
 use mir.Syntax.{w128}
-use Rattle.auction_model.specs.Book.{market_of}
-use Rattle.auction_model.specs.Place.{states_of}
-use Rattle.auction_model.specs.Prices.{weight_of}
-use Rattle.auction_model.specs.Table.{entry_at}
-use Rattle.cert_laws.specs.Tests.{states, full}
+use Rattle.cert_check.specs.auction_model.specs.Book.{market_of}
+use Rattle.cert_check.specs.auction_model.specs.Place.{states_of}
+use Rattle.cert_check.specs.auction_model.specs.Prices.{weight_of}
+use Rattle.cert_check.specs.auction_model.specs.Table.{entry_at}
+use Rattle.cert_facts.specs.cert_laws.specs.Tests.{states, full}
 use Rattle.stream_check.proofs.KeepsCome.{keeps-top, keeps-none, value-there, choice-there, line-there, line-long, line-small, choice-allowed}
 use Rattle.stream_check.proofs.TableCome.{line-inside}
 use Rattle.cert_pieces.specs.declared.due.Table.TheVariants.{Head}

@@ -1,7 +1,7 @@
 use Rattle.std.proofs.Common.{◌≡◌, ◌∙◌, ◌+◌, ap, arith, suc}
-use Rattle.auction_model.specs.Place.{states_of}
-use Rattle.auction_model.proofs.LineLaws.{line-last}
-use Rattle.auction_model.proofs.LinesLaws.{table-from_lines}
+use Rattle.choices.specs.auction_model.specs.Place.{states_of}
+use Rattle.choices.specs.auction_model.proofs.LineLaws.{line-last}
+use Rattle.choices.specs.auction_model.proofs.LinesLaws.{table-from_lines}
 use Rattle.value_table.specs.Counted.{counted_bids, counted}
 use Rattle.value_table.proofs.lines.all_lines.Goals as goal
 

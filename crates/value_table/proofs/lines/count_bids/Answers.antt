@@ -1,6 +1,6 @@
 use Rattle.std.proofs.Common.{◌≡◌, ◌∙◌, ◌+◌, ◌-◌, ◌^◌, refl, arith, rules}
 use Rattle.std.proofs.lemmas.Int.{to_z-of_z}
-use Rattle.auction_model.proofs.BidderLaws.{bidder-none, bidder-more, bidder-all}
+use Rattle.choices.specs.auction_model.proofs.BidderLaws.{bidder-none, bidder-more, bidder-all}
 use Rattle.value_table.proofs.NumberParts.{plain-small, plain-raised}
 use Rattle.value_table.proofs.Sizes.{line-small}
 use Rattle.value_table.proofs.CornerLaws.{line-grows, part-grows, plain-grows}

@@ -1,5 +1,5 @@
 use Rattle.std.proofs.Common.{◌-◌}
-use Rattle.auction_model.proofs.LineLaws.{IsLineUpTo}
+use Rattle.choices.specs.auction_model.proofs.LineLaws.{IsLineUpTo}
 use Rattle.value_table.specs.Counted.{counted_bids, counted}
 use Rattle.value_table.proofs.lines.count_bids.Given as goal
 

@@ -1,7 +1,7 @@
 use Rattle.std.proofs.Common.{◌≡◌, ◌∙◌, sym, ap, subst, arith, refl, length, map, List, [], ◌∷◌, ◌++◌, ℤ, suc, Vec, Global, length-append}
 use Rattle.std.proofs.lemmas.List.{map-append}
-use Rattle.auction_model.specs.Table.{AreLinesTo}
-use Rattle.auction_model.proofs.LinesLaws.{lines-more}
+use Rattle.choices.specs.auction_model.specs.Table.{AreLinesTo}
+use Rattle.choices.specs.auction_model.proofs.LinesLaws.{lines-more}
 use Rattle.value_table.specs.Counted.{counted_bids, counted}
 use Rattle.value_table.proofs.TableLines.{entries}
 use Rattle.value_table.proofs.lines.grid_of.Goals as goal

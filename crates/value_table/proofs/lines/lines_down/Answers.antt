@@ -1,6 +1,6 @@
 use Rattle.std.proofs.Common.{◌≡◌, ◌∙◌, ◌<◌, ◌-◌, ◌+◌, sym, ap, subst, arith, rules, get_or, length, map, List, [], ◌∷◌, suc, ℤ, Vec, Global}
 use Rattle.std.proofs.lemmas.List.{get_or-map, length-map}
-use Rattle.auction_model.proofs.LinesLaws.{line-first, lines-some}
+use Rattle.choices.specs.auction_model.proofs.LinesLaws.{line-first, lines-some}
 use Rattle.value_table.proofs.TableLines.{entries}
 use Rattle.value_table.specs.Counted.{counted_bids, counted, IsCountedLine, AreCountedLines}
 use Rattle.value_table.proofs.lines.lines_down.Goals as goal

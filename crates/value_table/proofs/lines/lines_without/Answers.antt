@@ -1,8 +1,8 @@
 use Rattle.std.proofs.Common.{◌≡◌, ◌∙◌, ◌≤◌, ◌+◌, ◌++◌, [], ◌∷◌, sym, subst, refl, arith, get_or, suc}
-use Rattle.auction_model.specs.Book.{menu_of}
-use Rattle.auction_model.specs.Table.{IsLine, AreLinesTo}
-use Rattle.auction_model.proofs.LinesLaws.{lines-more, table-from_lines}
-use Rattle.auction_model.proofs.SkipLaws.{line-past_skip, line-at_skip}
+use Rattle.choices.specs.auction_model.specs.Book.{menu_of}
+use Rattle.choices.specs.auction_model.specs.Table.{IsLine, AreLinesTo}
+use Rattle.choices.specs.auction_model.proofs.LinesLaws.{lines-more, table-from_lines}
+use Rattle.choices.specs.auction_model.proofs.SkipLaws.{line-past_skip, line-at_skip}
 use Rattle.value_table.specs.Turned.{in_order}
 use Rattle.value_table.specs.Counted.{counted_bids, counted}
 use Rattle.value_table.proofs.lines.lines_without.Goals as goal

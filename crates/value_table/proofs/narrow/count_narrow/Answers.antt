@@ -1,4 +1,4 @@
-use Rattle.auction_model.specs.Place.{states_of}
+use Rattle.choices.specs.auction_model.specs.Place.{states_of}
 use Rattle.std.proofs.Common.{◌≤◌, ap, ◌∙◌, inl, inr, sym, subst, arith, get_or, length, pos}
 use Rattle.std.proofs.lemmas.Bool.{cases_lt}
 use Rattle.std.proofs.lemmas.List.{get_or_past}

@@ -1,6 +1,6 @@
 use Rattle.std.proofs.Common.{ℕ, ℤ, ◌<◌, ◌≤◌, length, ap, ◌≡◌, ◌∙◌, ◌+◌, ◌-◌, ◌^◌, refl, arith, rules}
 use Rattle.std.proofs.lemmas.Int.{to_z-of_z, fits_signed_from_abs}
-use Rattle.auction_model.proofs.BidderLaws.{bidder-none, bidder-more, bidder-all}
+use Rattle.choices.specs.auction_model.proofs.BidderLaws.{bidder-none, bidder-more, bidder-all}
 use Rattle.value_table.proofs.NarrowLaws.{line-narrow, worth-narrow}
 use Rattle.value_table.proofs.NumberParts.{plain-small, plain-raised}
 use Rattle.value_table.proofs.CornerLaws.{line-grows, part-grows, plain-grows}

@@ -1,10 +1,10 @@
 use Rattle.std.proofs.Common.{◌≡◌, ◌∙◌, ◌<◌, ◌≤◌, ◌+◌, ◌-◌, ◌*◌, ◌+ℤ◌, ◌≤ℤ◌, ℕ, sym, ap, subst, refl, arith, rules, get_or, length, map, pos, List, drop, take}
 use Rattle.std.proofs.Math.Nat.{mul-le-mul_right}
 use Rattle.std.proofs.lemmas.List.{take_rest, length-map}
-use Rattle.auction_model.specs.Place.{states_of, widths_of}
-use Rattle.auction_model.specs.Steps.{raised}
-use Rattle.auction_model.proofs.PlaceLaws.{place-below}
-use Rattle.auction_model.proofs.RunLaws.{width-first, widths-count, widths-rest, width-at_most, states-first, raised-before, block-done, block-rest}
+use Rattle.choices.specs.auction_model.specs.Place.{states_of, widths_of}
+use Rattle.choices.specs.auction_model.specs.Steps.{raised}
+use Rattle.choices.specs.auction_model.proofs.PlaceLaws.{place-below}
+use Rattle.choices.specs.auction_model.proofs.RunLaws.{width-first, widths-count, widths-rest, width-at_most, states-first, raised-before, block-done, block-rest}
 use Rattle.value_table.proofs.CornerLaws.{corner-none, corners-part}
 use Rattle.value_table.proofs.NumberParts.{read-put, read-number, small-numbers}
 use Rattle.value_table.specs.Growing.{HasCorners}

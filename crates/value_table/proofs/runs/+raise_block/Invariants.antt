@@ -1,5 +1,5 @@
 use Rattle.std.proofs.Common.{◌≡◌, ℕ, ◌<◌, ◌≤◌, ◌*◌, get_or, map, length, pos}
-use Rattle.auction_model.specs.Steps.{raised}
+use Rattle.choices.specs.auction_model.specs.Steps.{raised}
 use Rattle.value_table.proofs.runs.+raise_block.Given as goal
 
 abbrev pub decreases-raise_block : goal.decreases-raise_block

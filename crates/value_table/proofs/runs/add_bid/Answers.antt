@@ -1,7 +1,7 @@
 use Rattle.std.proofs.Common.{◌≡◌, ◌∙◌, ap, get_or, map, take, pos}
-use Rattle.auction_model.specs.Package.{IsNothingFrom}
-use Rattle.auction_model.specs.Steps.{raised}
-use Rattle.auction_model.proofs.TrimLaws.{raised-trim}
+use Rattle.choices.specs.auction_model.specs.Package.{IsNothingFrom}
+use Rattle.choices.specs.auction_model.specs.Steps.{raised}
+use Rattle.choices.specs.auction_model.proofs.TrimLaws.{raised-trim}
 use Rattle.value_table.proofs.CornerLaws.{trim-corners}
 use Rattle.value_table.proofs.runs.add_bid.Goals as goal
 

@@ -1,9 +1,9 @@
 use Rattle.std.proofs.Common.{◌≡◌, ◌∙◌, ◌<◌, ◌≤◌, ◌+◌, ◌-◌, ◌*◌, ℕ, sym, ap, refl, arith, get_or, length, map, pos, List, drop, take}
 use Rattle.std.proofs.Math.Nat.{mul-le-mul_right}
 use Rattle.std.proofs.lemmas.List.{take_rest, length-map}
-use Rattle.auction_model.specs.Place.{states_of}
-use Rattle.auction_model.specs.Steps.{raised}
-use Rattle.auction_model.proofs.RunLaws.{width-first, widths-count, states-first, raised-before, block-done, block-rest}
+use Rattle.choices.specs.auction_model.specs.Place.{states_of}
+use Rattle.choices.specs.auction_model.specs.Steps.{raised}
+use Rattle.choices.specs.auction_model.proofs.RunLaws.{width-first, widths-count, states-first, raised-before, block-done, block-rest}
 use Rattle.value_table.proofs.NumberParts.{read-put, read-number, small-numbers}
 use borrow.Rule.Slice.PartMut.{mid_len}
 use Rattle.value_table.proofs.runs.raise_two.Goals as goal

@@ -1,5 +1,5 @@
 use Rattle.std.proofs.Common.{◌≡◌, ℕ, ◌<◌, ◌≤◌, ◌*◌, get_or, map, pos}
-use Rattle.auction_model.specs.Steps.{raised}
+use Rattle.choices.specs.auction_model.specs.Steps.{raised}
 use Rattle.value_table.proofs.runs.raise_two.Given as goal
 
 abbrev pub invariant-loop-row : goal.invariant-loop-row

@@ -1,6 +1,6 @@
 use Rattle.std.proofs.Common.{◌≡◌, ◌-◌, ◌+◌, ℕ, true, length, subst, arith}
-use Rattle.auction_model.specs.Book.{menu_of, net_of}
-use Rattle.auction_model.specs.Table.{IsLine}
+use Rattle.choices.specs.auction_model.specs.Book.{menu_of, net_of}
+use Rattle.choices.specs.auction_model.specs.Table.{IsLine}
 use Rattle.value_table.specs.Turned.{in_order, worths_in_order}
 use Rattle.value_table.proofs.LineLaws.{line-left, line-turned}
 use Rattle.value_table.proofs.side_lines.left_line.Goals as goal

@@ -1,7 +1,7 @@
 use Rattle.std.proofs.Common.{◌-◌, false, refl, rules}
 use Rattle.std.proofs.lemmas.Int.{to_z-of_z}
-use Rattle.auction_model.specs.Book.{menu_of, net_of}
-use Rattle.auction_model.specs.Place.{left_at}
+use Rattle.choices.specs.auction_model.specs.Book.{menu_of, net_of}
+use Rattle.choices.specs.auction_model.specs.Place.{left_at}
 use Rattle.value_table.proofs.LineLaws.{entry-lowered, line-lowered, number-plain, zeros-range}
 use mir.Val.{SFits}
 use mir.Syntax.{w128}

@@ -1,5 +1,5 @@
 use Rattle.std.proofs.Common.{◌≡◌, ◌∙◌, ap, refl, ℕ, ℤ, pos, true, List, length, get_or}
-use Rattle.auction_model.specs.Book.{menu_of, net_of}
+use Rattle.choices.specs.auction_model.specs.Book.{menu_of, net_of}
 use Rattle.value_table.specs.Turned.{in_order, worths_in_order}
 use Rattle.value_table.proofs.SideLaws.{table-plain, turned-range}
 use Rattle.value_table.proofs.sides.turned_lines.Goals as goal

@@ -1,14 +1,14 @@
 use Rattle.std.proofs.Common.{◌≡◌, ◌∙◌, ◌≤◌, ◌+◌, ◌-◌, ℕ, ap, arith, rules, get_or, List, [], ◌∷◌, pos, append_assoc, append-nil}
 use Rattle.std.proofs.lemmas.Int.{to_z-of_z}
-use Rattle.auction_model.specs.Place.{left_at, states_of}
-use Rattle.auction_model.specs.Market.{sum_after}
-use Rattle.auction_model.specs.Menu.{fits_after}
-use Rattle.auction_model.specs.Greatest.{IsFirstGreatest}
-use Rattle.auction_model.specs.Table.{IsEntry}
-use Rattle.auction_model.specs.Steps.{IsFirstNumber}
-use Rattle.auction_model.proofs.PlaceLaws.{states-positive, left_at-whole}
-use Rattle.auction_model.proofs.TraceLaws.{first-last}
-use Rattle.auction_model.proofs.WalkLaws.{walk-by}
+use Rattle.choices.specs.auction_model.specs.Place.{left_at, states_of}
+use Rattle.choices.specs.auction_model.specs.Market.{sum_after}
+use Rattle.choices.specs.auction_model.specs.Menu.{fits_after}
+use Rattle.choices.specs.auction_model.specs.Greatest.{IsFirstGreatest}
+use Rattle.choices.specs.auction_model.specs.Table.{IsEntry}
+use Rattle.choices.specs.auction_model.specs.Steps.{IsFirstNumber}
+use Rattle.choices.specs.auction_model.proofs.PlaceLaws.{states-positive, left_at-whole}
+use Rattle.choices.specs.auction_model.proofs.TraceLaws.{first-last}
+use Rattle.choices.specs.auction_model.proofs.WalkLaws.{walk-by}
 use Rattle.value_table.specs.Counted.{counted_bids, counted, IsCountedLine}
 use mir.Val.{SFits}
 use mir.Syntax.{w128}

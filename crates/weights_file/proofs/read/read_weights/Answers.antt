@@ -1,8 +1,8 @@
 use Rattle.std.proofs.Common.{◌≡◌, ◌-◌, Err, ap, sym, ◌∙◌, subst, length, take, drop, refl, arith, length-drop}
 use Rattle.std.proofs.lemmas.List.{take_all}
-use Rattle.line_text.specs.LineText.{FaultAt}
-use Rattle.line_text.proofs.Runs.{line_taken, line_refused, line_missing, all_read}
-use Rattle.auction_model.specs.Prices.{AreWeights}
+use Rattle.bid_book.specs.line_text.specs.LineText.{FaultAt}
+use Rattle.bid_book.specs.line_text.proofs.Runs.{line_taken, line_refused, line_missing, all_read}
+use Rattle.bid_book.specs.auction_model.specs.Prices.{AreWeights}
 use Rattle.weights_file.specs.Stages.{Step, excess}
 use Rattle.weights_file.specs.WeightsForm.{lines}
 use Rattle.weights_file.proofs.Reading.{IsSound, begin, finish, reads}

@@ -1,5 +1,5 @@
 use Rattle.std.proofs.Common.{◌≤◌, ◌-◌, length}
-use Rattle.line_text.proofs.Runs.{SoFar}
+use Rattle.bid_book.specs.line_text.proofs.Runs.{SoFar}
 use Rattle.weights_file.specs.Stages.{Step, excess}
 use Rattle.weights_file.proofs.Reading.{begin}
 use Rattle.weights_file.proofs.read.read_weights.Given as goal

@@ -1,8 +1,8 @@
 use Rattle.std.proofs.Common.{inl, ◌≡◌, ◌++◌, ◌∷◌, [], List, ℕ, Some, None, length, refl, sym, ap, ◌∙◌, subst, arith}
 use Rattle.std.specs.Prelude.{codes}
-use Rattle.auction_model.specs.Book.{Book}
+use Rattle.lots.specs.auction_model.specs.Book.{Book}
 use Rattle.book_form.specs.BookLines.{IsBookWithinLimits}
-use Rattle.limits.specs.declared.LimitKind.TheVariants.{Bidders}
+use Rattle.lots.specs.limits.specs.declared.LimitKind.TheVariants.{Bidders}
 use Rattle.bid_book.specs.Stages.{AddsBidder, bidder_with, with_bidders, last_excess}
 use Rattle.bid_book.proofs.Within.{grown}
 use Rattle.bid_book.proofs.EntryLaws.{bidder_marks, many_bidders, few_bidders, adds_name}

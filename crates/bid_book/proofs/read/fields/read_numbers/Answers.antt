@@ -1,6 +1,6 @@
 use Rattle.std.proofs.Common.{refl}
 use Rattle.std.specs.Fmt.{decimal}
-use Rattle.auction_model.proofs.ListLaws.{each-push}
+use Rattle.lots.specs.auction_model.proofs.ListLaws.{each-push}
 use Rattle.bid_book.proofs.FieldReads.{goes_further, spelled_further}
 use Rattle.bid_book.proofs.read.fields.read_numbers.Goals as goal
 

@@ -1,8 +1,8 @@
 -- The bid is one more line of the log that the desk stands for.
 use Rattle.std.proofs.Common.{◌≡◌, ◌∙◌, true, false, length, ap, refl, sym, rules}
-use Rattle.auction_rules.specs.declared.Event.TheVariants.{Bid}
-use Rattle.auction_rules.specs.declared.Stage.TheVariants as stage
-use Rattle.auction_rules.specs.State.{DeskState}
+use Rattle.relative_cap.specs.auction_rules.specs.declared.Event.TheVariants.{Bid}
+use Rattle.relative_cap.specs.auction_rules.specs.declared.Stage.TheVariants as stage
+use Rattle.relative_cap.specs.auction_rules.specs.State.{DeskState}
 use Rattle.bid_desk.specs.DeskValue.{desk_value}
 use Rattle.bid_desk.proofs.DeskLaws.{clock-stage, bid-state, reached-next}
 use Rattle.bid_desk.proofs.TesterLaws.{testers-running}

@@ -1,8 +1,8 @@
 -- The close is one more line of the log that the desk stands for, unless there was no memory.
 use Rattle.std.proofs.Common.{◌≡◌, ◌∙◌, true, false, ap, sym, subst, inl, inr, refl}
-use Rattle.auction_rules.specs.declared.Event.TheVariants.{Close}
-use Rattle.auction_rules.specs.State.{DeskState, reply_in, state_with}
-use Rattle.clock_stage.specs.ClockState.{ClockState, reply_to_close}
+use Rattle.relative_cap.specs.auction_rules.specs.declared.Event.TheVariants.{Close}
+use Rattle.relative_cap.specs.auction_rules.specs.State.{DeskState, reply_in, state_with}
+use Rattle.relative_cap.specs.clock_stage.specs.ClockState.{ClockState, reply_to_close}
 use Rattle.bid_desk.specs.Closes.{reply_value}
 use Rattle.bid_desk.specs.DeskValue.{desk_value}
 use Rattle.bid_desk.specs.Reached.{IsReached}

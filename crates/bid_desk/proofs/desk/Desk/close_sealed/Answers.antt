@@ -1,7 +1,7 @@
 -- The close is one more line of the log that the desk stands for.
 use Rattle.std.proofs.Common.{◌∙◌, ap, refl}
-use Rattle.auction_rules.specs.declared.Event.TheVariants.{Close}
-use Rattle.auction_rules.specs.State.{DeskState}
+use Rattle.relative_cap.specs.auction_rules.specs.declared.Event.TheVariants.{Close}
+use Rattle.relative_cap.specs.auction_rules.specs.State.{DeskState}
 use Rattle.bid_desk.specs.DeskValue.{desk_value}
 use Rattle.bid_desk.proofs.DeskLaws.{reached-next, sealed-state}
 use Rattle.bid_desk.proofs.desk.Desk.close_sealed.Goals as goal

@@ -1,8 +1,8 @@
 -- The submission is one more line of the log that the desk stands for, unless there was no memory.
 use Rattle.std.proofs.Common.{◌≡◌, ◌∙◌, ◌-◌, ◌<◌, length, ap, inr, refl, sym, rules}
-use Rattle.auction_rules.specs.declared.Event.{Event}
-use Rattle.auction_rules.specs.declared.Event.TheVariants.{Submit}
-use Rattle.auction_rules.specs.State.{DeskState, reply_in, state_with}
+use Rattle.relative_cap.specs.auction_rules.specs.declared.Event.{Event}
+use Rattle.relative_cap.specs.auction_rules.specs.declared.Event.TheVariants.{Submit}
+use Rattle.relative_cap.specs.auction_rules.specs.State.{DeskState, reply_in, state_with}
 use Rattle.bid_desk.specs.DeskValue.{desk_value}
 use Rattle.bid_desk.specs.Lists.{lists_with}
 use Rattle.bid_desk.proofs.DeskLaws.{reached-next}

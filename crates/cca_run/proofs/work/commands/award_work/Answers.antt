@@ -1,7 +1,7 @@
 use Rattle.std.proofs.Common.{refl, sym, ap, subst, ◌∙◌, arith, [], ◌∷◌, Err, rules}
 use Rattle.std.proofs.lemmas.Result.{err_from_is_err_and}
-use Rattle.limits.specs.declared.TheConstants.{AWARD_BYTES, LOG_BYTES}
-use Rattle.log_file.specs.LogReading.{log_records}
+use Rattle.cca_inputs.specs.limits.specs.declared.TheConstants.{AWARD_BYTES, LOG_BYTES}
+use Rattle.big_auction.specs.log_file.specs.LogReading.{log_records}
 use Rattle.cca_inputs.specs.Answers.{AwardAnswers, LogAnswers}
 use Rattle.cca_inputs.specs.Command.{award}
 use Rattle.cca_inputs.specs.declared.status.FileKind.TheVariants.{Award, Log, Cert}

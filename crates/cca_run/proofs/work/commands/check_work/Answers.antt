@@ -1,6 +1,6 @@
 use Rattle.std.proofs.Common.{◌∙◌, refl, arith, [], rules, sym, ap, subst, Err}
 use Rattle.std.proofs.lemmas.Result.{err_from_is_err_and}
-use Rattle.limits.specs.declared.TheConstants.{BOOK_BYTES, CERT_BYTES}
+use Rattle.cca_inputs.specs.limits.specs.declared.TheConstants.{BOOK_BYTES, CERT_BYTES}
 use Rattle.cca_inputs.specs.Answers.{BookAnswers, CertAnswers}
 use Rattle.cca_inputs.specs.Command.{check}
 use Rattle.cca_inputs.specs.declared.status.FileKind.TheVariants.{Book, Cert}

@@ -1,6 +1,6 @@
 use Rattle.std.proofs.Common.{refl, arith, [], length, rules}
-use Rattle.limits.specs.declared.TheConstants.{CERT_BYTES, SLOTS_BYTES}
-use Rattle.place_cert.specs.CertValues.{place_cert_value}
+use Rattle.cca_inputs.specs.limits.specs.declared.TheConstants.{CERT_BYTES, SLOTS_BYTES}
+use Rattle.cca_inputs.specs.place_cert.specs.CertValues.{place_cert_value}
 use Rattle.cca_inputs.specs.Answers.{PlaceCertAnswers, SlotsAnswers}
 use Rattle.cca_inputs.specs.Command.{place_check}
 use Rattle.cca_inputs.specs.declared.status.FileKind.TheVariants.{Cert, Slots}

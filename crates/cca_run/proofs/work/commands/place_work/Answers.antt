@@ -1,5 +1,5 @@
 use Rattle.std.proofs.Common.{refl, arith, [], ◌∷◌, rules}
-use Rattle.limits.specs.declared.TheConstants.{SLOTS_BYTES}
+use Rattle.cca_inputs.specs.limits.specs.declared.TheConstants.{SLOTS_BYTES}
 use Rattle.cca_inputs.specs.Answers.{SlotsAnswers}
 use Rattle.cca_inputs.specs.Command.{place}
 use Rattle.cca_inputs.specs.declared.status.FileKind.TheVariants.{Cert, Slots}

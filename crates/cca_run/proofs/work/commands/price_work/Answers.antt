@@ -1,5 +1,5 @@
 use Rattle.std.proofs.Common.{refl, arith, [], ◌∷◌, rules}
-use Rattle.limits.specs.declared.TheConstants.{BOOK_BYTES}
+use Rattle.cca_inputs.specs.limits.specs.declared.TheConstants.{BOOK_BYTES}
 use Rattle.cca_inputs.specs.Answers.{BookAnswers}
 use Rattle.cca_inputs.specs.Command.{price}
 use Rattle.cca_inputs.specs.declared.status.FileKind.TheVariants.{Book, Cert}

@@ -1,5 +1,5 @@
 use Rattle.std.proofs.Common.{refl, arith, [], ◌∷◌, rules}
-use Rattle.limits.specs.declared.TheConstants.{BOOK_BYTES, WEIGHTS_BYTES}
+use Rattle.cca_inputs.specs.limits.specs.declared.TheConstants.{BOOK_BYTES, WEIGHTS_BYTES}
 use Rattle.cca_inputs.specs.Answers.{BookAnswers, WeightsAnswers}
 use Rattle.cca_inputs.specs.Command.{weigh}
 use Rattle.cca_inputs.specs.declared.status.FileKind.TheVariants.{Book, Cert, Weights}

@@ -1,5 +1,5 @@
 use Rattle.std.proofs.Common.{inl, inr, ◌≡◌, ◌⊎◌, refl, sym, subst}
-use Rattle.place_cert.specs.CertValues.{place_cert_value}
+use Rattle.cca_inputs.specs.place_cert.specs.CertValues.{place_cert_value}
 use Rattle.cca_inputs.specs.Outcome.{stopped_after}
 use Rattle.cca_inputs.specs.Statuses.{IsStop}
 use Rattle.cca_inputs.specs.declared.status.CertKind.TheVariants as certs

@@ -1,5 +1,5 @@
 use Rattle.std.proofs.Common.{◌∙◌, ap, arith, ◌++◌}
-use Rattle.cert_text.specs.CertValues.{cert_value}
+use Rattle.cca_inputs.specs.cert_text.specs.CertValues.{cert_value}
 use Rattle.cca_run.proofs.Priced.{has-facts}
 use Rattle.cca_run.proofs.work.price_text.price_lines.Goals as goal
 

@@ -1,6 +1,6 @@
 use Rattle.std.proofs.Common.{◌≡◌, ◌<◌, ◌≤◌, ℕ, arith, rules}
 use Rattle.std.proofs.lemmas.Int.{to_z-of_z}
-use Rattle.auction_model.specs.Lowered.{of_bidder}
+use Rattle.cert_laws.specs.auction_model.specs.Lowered.{of_bidder}
 use Rattle.cert_laws.specs.Tests.{bidders_of}
 use Rattle.cert_check.specs.Worths.{gain_of}
 use Rattle.cert_check.proofs.LoweredLaws.{can-lower}

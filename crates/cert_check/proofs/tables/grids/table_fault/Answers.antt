@@ -1,6 +1,6 @@
 use Rattle.std.proofs.Common.{◌≡◌, ◌∙◌, ◌+◌, ◌*◌, ◌<◌, ◌≤◌, ap, arith, ℕ, inl, inr, subst, Some, sym}
 use Rattle.std.proofs.lemmas.Bool.{cases_lt}
-use Rattle.auction_model.specs.Place.{states_of}
+use Rattle.cert_laws.specs.auction_model.specs.Place.{states_of}
 use Rattle.cert_laws.specs.Tests.{bidders_of, states}
 use Rattle.cert_check.specs.LineTests.{ObeysIn, RulesAt}
 use Rattle.cert_check.specs.Places.{IsFirstFailing}

@@ -1,9 +1,9 @@
 use Rattle.std.proofs.Common.{◌≡◌, ◌∙◌, ◌+◌, ◌-◌, ◌*◌, ap, arith, rules, ℕ, Some, sym, subst, refl, ◌<ℤ◌, ℤ}
 use Rattle.std.proofs.lemmas.Int.{to_z-of_z, ints}
-use Rattle.auction_model.specs.Place.{states_of}
-use Rattle.auction_model.specs.Table.{entry_at}
-use Rattle.auction_model.proofs.PlaceLaws.{states-positive}
-use Rattle.choices.specs.Lines.{width_of}
+use Rattle.cert_laws.specs.auction_model.specs.Place.{states_of}
+use Rattle.cert_laws.specs.auction_model.specs.Table.{entry_at}
+use Rattle.cert_laws.specs.auction_model.proofs.PlaceLaws.{states-positive}
+use Rattle.cert_text.specs.choices.specs.Lines.{width_of}
 use Rattle.cert_laws.specs.Tests.{bidders_of, states}
 use Rattle.cert_check.specs.LineTests.{TestsTable}
 use Rattle.cert_check.specs.Places.{IsFirstFailing}

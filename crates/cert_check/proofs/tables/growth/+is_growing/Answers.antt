@@ -1,7 +1,7 @@
 use Rattle.std.proofs.Common.{◌≡◌, ◌∙◌, ℕ, ◌+◌, ◌-◌, ◌*◌, inl, inr, ap, subst, arith, refl, get_or, List, drop, take}
 use Rattle.std.proofs.lemmas.Bool.{cases_lt}
-use Rattle.auction_model.specs.Place.{states_of}
-use Rattle.auction_model.proofs.RunLaws.{width-first, widths-count}
+use Rattle.cert_laws.specs.auction_model.specs.Place.{states_of}
+use Rattle.cert_laws.specs.auction_model.proofs.RunLaws.{width-first, widths-count}
 use Rattle.cert_check.specs.Growth.{Grows}
 use Rattle.cert_check.proofs.Blocks.{tail-whole}
 use Rattle.cert_check.proofs.GrowthLaws.{grows-last, grows-list}

@@ -1,5 +1,5 @@
 use Rattle.std.proofs.Common.{◌≡◌, ℕ, ◌<◌, ◌*◌, length, take, drop}
-use Rattle.auction_model.specs.Place.{states_of}
+use Rattle.cert_laws.specs.auction_model.specs.Place.{states_of}
 use Rattle.cert_check.specs.Growth.{Grows, RisesBy}
 use Rattle.cert_check.proofs.tables.growth.+is_growing.Given as goal
 

@@ -1,5 +1,5 @@
 use Rattle.std.proofs.Common.{ℕ, ◌+◌, ◌<◌, ◌≤ℤ◌}
-use Rattle.wide_num.specs.Sums.{nth}
+use Rattle.cert_laws.specs.wide_num.specs.Sums.{nth}
 use Rattle.cert_check.proofs.tables.growth.rises_by.Given as goal
 
 abbrev pub invariant-loop-s : goal.invariant-loop-s

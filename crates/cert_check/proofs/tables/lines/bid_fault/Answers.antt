@@ -1,7 +1,7 @@
 use Rattle.std.proofs.Common.{◌≡◌, ◌∙◌, rules, arith}
 use Rattle.std.proofs.lemmas.Int.{to_z-of_z}
-use Rattle.auction_model.specs.Place.{place_of}
-use Rattle.auction_model.proofs.TrimLaws.{trim-place}
+use Rattle.cert_laws.specs.auction_model.specs.Place.{place_of}
+use Rattle.cert_laws.specs.auction_model.proofs.TrimLaws.{trim-place}
 use Rattle.cert_check.proofs.LineLaws.{block-bid}
 use mir.Val.{SFits, to_z, of_z}
 use mir.Syntax.{w128}

@@ -1,6 +1,6 @@
 use Rattle.std.proofs.Common.{◌≡◌, ℕ, ◌+◌, ◌*◌, ◌-◌, take, refl, ◌≤◌, ◌<◌, length, get_or, drop, ap, sym, ◌∙◌, subst, arith, List}
-use Rattle.auction_model.specs.Place.{states_of, place_of, widths_of}
-use Rattle.auction_model.proofs.RunLaws.{width-first, widths-rest}
+use Rattle.cert_laws.specs.auction_model.specs.Place.{states_of, place_of, widths_of}
+use Rattle.cert_laws.specs.auction_model.proofs.RunLaws.{width-first, widths-rest}
 use Rattle.cert_check.proofs.Blocks.{start-list, more-list, all-list, tail-whole, tail-length, digit-room, digit-shift}
 use Rattle.cert_check.proofs.tables.walk.+block_fault.Goals as goal
 

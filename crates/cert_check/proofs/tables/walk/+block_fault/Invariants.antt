@@ -1,5 +1,5 @@
 use Rattle.std.proofs.Common.{◌≡◌, ◌*◌, ◌+◌, length, get_or, drop}
-use Rattle.auction_model.specs.Place.{states_of}
+use Rattle.cert_laws.specs.auction_model.specs.Place.{states_of}
 use Rattle.cert_check.specs.Faults.{FirstFault, CoversSome}
 use Rattle.cert_check.proofs.tables.walk.+block_fault.Given as goal
 

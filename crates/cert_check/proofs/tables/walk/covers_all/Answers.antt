@@ -1,7 +1,7 @@
 use Rattle.std.proofs.Common.{rules, arith, ℕ, ◌+ℤ◌, ◌≤ℤ◌, get_or, pos, subst, inl, inr}
 use Rattle.std.proofs.lemmas.Int.{to_z-of_z}
 use Rattle.std.proofs.lemmas.Bool.{and_parts, cases_lt}
-use Rattle.wide_num.specs.Sums.{nth}
+use Rattle.cert_laws.specs.wide_num.specs.Sums.{nth}
 use mir.Val.{SFits}
 use mir.Syntax.{w64}
 use Rattle.cert_check.proofs.tables.walk.covers_all.Goals as goal

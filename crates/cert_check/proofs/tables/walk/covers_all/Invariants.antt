@@ -1,5 +1,5 @@
 use Rattle.std.proofs.Common.{ℕ, ◌<◌, ◌+ℤ◌, ◌≤ℤ◌, IsTrue}
-use Rattle.wide_num.specs.Sums.{nth}
+use Rattle.cert_laws.specs.wide_num.specs.Sums.{nth}
 use Rattle.cert_check.proofs.tables.walk.covers_all.Given as goal
 
 abbrev pub invariant-loop-i : goal.invariant-loop-i

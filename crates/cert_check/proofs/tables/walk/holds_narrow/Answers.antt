@@ -1,8 +1,8 @@
 use Rattle.std.proofs.Common.{rules, arith, ap, ◌∙◌, ◌≡◌, ℤ, List, ◌+◌, ◌-◌, length, take, drop}
 use Rattle.std.proofs.lemmas.Int.{to_z-of_z, ints}
 use Rattle.std.proofs.lemmas.List.{length-drop, length-take-le}
-use Rattle.auction_model.proofs.PartReads.{read-part}
-use Rattle.wide_num.specs.Sums.{nth}
+use Rattle.cert_laws.specs.auction_model.proofs.PartReads.{read-part}
+use Rattle.cert_laws.specs.wide_num.specs.Sums.{nth}
 use mir.Val.{SFits}
 use mir.Syntax.{w64}
 use Rattle.cert_check.proofs.tables.walk.holds_narrow.Goals as goal

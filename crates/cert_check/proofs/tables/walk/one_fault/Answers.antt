@@ -1,7 +1,7 @@
 use Rattle.std.proofs.lemmas.Nat.{mul-le}
 use Rattle.std.proofs.Common.{◌^◌, ◌≡◌, ℕ, ◌+◌, ◌*◌, ◌≤◌, ◌<◌, length, get_or, drop, ap, sym, ◌∙◌, subst, arith, List}
-use Rattle.auction_model.specs.Place.{states_of}
-use Rattle.auction_model.proofs.RunLaws.{width-first, widths-count, width-at_most, states-first}
+use Rattle.cert_laws.specs.auction_model.specs.Place.{states_of}
+use Rattle.cert_laws.specs.auction_model.proofs.RunLaws.{width-first, widths-count, width-at_most, states-first}
 use Rattle.cert_check.specs.Faults.{FirstFault, CoversRun}
 use Rattle.cert_check.proofs.Blocks.{last-list, place-one}
 use Rattle.cert_check.proofs.tables.walk.one_fault.Goals as goal

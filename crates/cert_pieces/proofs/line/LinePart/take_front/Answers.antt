@@ -1,6 +1,6 @@
 use Rattle.std.proofs.Common.{◌++◌, subst}
-use Rattle.line_text.specs.LineText.{IsLine}
-use Rattle.line_text.proofs.Lines.{line_append}
+use Rattle.cert_text.specs.line_text.specs.LineText.{IsLine}
+use Rattle.cert_text.specs.line_text.proofs.Lines.{line_append}
 use Rattle.cert_pieces.specs.Pieces.{between}
 use Rattle.cert_pieces.proofs.Runs.{between_join, part_join}
 use Rattle.cert_pieces.proofs.line.LinePart.take_front.Goals as goal

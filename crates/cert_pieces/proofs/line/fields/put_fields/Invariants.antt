@@ -1,5 +1,5 @@
 use Rattle.std.proofs.Common.{◌≡◌, ◌≤◌, ◌-◌, ℕ, List, Bool, ◌++◌, length}
-use Rattle.line_text.specs.LineText.{IsLine}
+use Rattle.cert_text.specs.line_text.specs.LineText.{IsLine}
 use Rattle.cert_pieces.specs.declared.line.form.Form.TheVariants.{Signed}
 use Rattle.cert_pieces.specs.Fields.{behind_space}
 use Rattle.cert_pieces.specs.Pieces.{between}

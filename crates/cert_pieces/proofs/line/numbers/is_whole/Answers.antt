@@ -1,6 +1,6 @@
 use Rattle.std.proofs.Common.{subst, sym, refl}
 use Rattle.std.specs.Prelude.{◌↔◌, IsTrue, nat_eq, true}
-use Rattle.cert_form.specs.Lines.{FitNumbers}
+use Rattle.cert_text.specs.cert_form.specs.Lines.{FitNumbers}
 use Rattle.cert_pieces.specs.declared.line.form.Form.{Form}
 use Rattle.cert_pieces.specs.Forms.{numbers_of, MayBegin}
 use Rattle.cert_pieces.proofs.Following.{nothing_whole, just_whole, just_one, two_whole, two_there}

@@ -1,8 +1,8 @@
 -- Each way of a close keeps what a clock keeps, and a clock that stands for a log then stands for it with the close.
 use Rattle.std.proofs.Common.{◌≡◌, ◌∙◌, ◌++◌, ◌∷◌, [], Bool, true, false, ap, sym, subst, inl, inr, arith}
 use Rattle.std.proofs.lemmas.Grind.{common_steps}
-use Rattle.auction_rules.specs.Terms.{Terms}
-use Rattle.auction_rules.specs.State.{Round}
+use Rattle.award_file.specs.auction_rules.specs.Terms.{Terms}
+use Rattle.award_file.specs.auction_rules.specs.State.{Round}
 use Rattle.clock_stage.specs.declared.closes.Closing.{Closing}
 use Rattle.clock_stage.specs.declared.closes.Closing.TheVariants.{Next, Ends}
 use Rattle.clock_stage.specs.ClockState.{ClockState, clock_with}

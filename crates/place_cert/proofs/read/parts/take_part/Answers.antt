@@ -1,7 +1,7 @@
 use Rattle.std.proofs.Common.{[], ◌∷◌, rules}
 use Rattle.std.specs.Prelude.{codes}
-use Rattle.cert_form.specs.Lines.{kind, these, chosen, set_table_plan}
-use Rattle.cert_form.specs.CertText.{line, table_lines}
+use Rattle.cert_text.specs.cert_form.specs.Lines.{kind, these, chosen, set_table_plan}
+use Rattle.cert_text.specs.cert_form.specs.CertText.{line, table_lines}
 use Rattle.cert_text.specs.PartReads.{without_kind, without_line}
 use Rattle.cert_text.proofs.PlanSteps.{same_kind}
 use Rattle.place_cert.specs.PlaceReads.{ordered_kinds, ordered_lines}

@@ -2,8 +2,8 @@ use Rattle.std.proofs.Common.{[], ◌∷◌, rules, FitsSigned}
 use Rattle.std.specs.Int.{w128}
 use Rattle.std.specs.Prelude.{codes}
 use Rattle.std.proofs.lemmas.Int.{to_z-of_z}
-use Rattle.cert_form.specs.Lines.{kind, signed, chosen, members}
-use Rattle.cert_form.specs.CertText.{line, as_numbers}
+use Rattle.cert_text.specs.cert_form.specs.Lines.{kind, signed, chosen, members}
+use Rattle.cert_text.specs.cert_form.specs.CertText.{line, as_numbers}
 use Rattle.cert_text.proofs.PlanSteps.{same_kind}
 use Rattle.place_cert.specs.PlaceReads.{ordered_kinds, ordered_lines}
 use Rattle.place_cert.proofs.ThreePieces.{first_halts, second_halts, third_halts, all_lead}

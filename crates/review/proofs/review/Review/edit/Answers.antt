@@ -1,7 +1,7 @@
 use Rattle.std.proofs.Common.{◌≡◌, ◌-◌, ℕ, List, length, sym, ap, subst, ◌∙◌, rules, arith}
 use Rattle.std.proofs.lemmas.Grind.{common_steps}
-use Rattle.auction_model.specs.Book.{Book}
-use Rattle.auction_model.proofs.BookMarket.{winning-count}
+use Rattle.value_table.specs.auction_model.specs.Book.{Book}
+use Rattle.value_table.specs.auction_model.proofs.BookMarket.{winning-count}
 use Rattle.review.specs.declared.edit.EditReply.TheVariants as reply
 use Rattle.review.specs.Edits.{edit_bidder, edit_reply, edited}
 use Rattle.review.specs.ReviewValue.{AreLeftLines, AreRightLines, lines_of}

@@ -1,10 +1,10 @@
 use Rattle.std.proofs.Common.{◌≡◌, ◌-◌, ◌<◌, [], ℕ, ℤ, List, length, get_or, ap, subst, ◌∙◌, arith, rules, vec_len}
 use Rattle.std.proofs.lemmas.Int.{to_z-of_z}
-use Rattle.auction_model.specs.Book.{market_of, menu_of, net_of}
-use Rattle.auction_model.specs.Market.{value_of}
-use Rattle.auction_model.specs.Place.{left_at, states_of}
-use Rattle.auction_model.specs.Table.{IsEntry}
-use Rattle.auction_model.proofs.PlaceLaws.{states-positive, left_at-whole}
+use Rattle.value_table.specs.auction_model.specs.Book.{market_of, menu_of, net_of}
+use Rattle.value_table.specs.auction_model.specs.Market.{value_of}
+use Rattle.value_table.specs.auction_model.specs.Place.{left_at, states_of}
+use Rattle.value_table.specs.auction_model.specs.Table.{IsEntry}
+use Rattle.value_table.specs.auction_model.proofs.PlaceLaws.{states-positive, left_at-whole}
 use Rattle.review.specs.ReviewValue.{ReviewValue, lines_of}
 use Rattle.review.proofs.EditLaws.{greatest-is}
 use Rattle.review.proofs.LineSets.{count-of, entry-read, read-own}

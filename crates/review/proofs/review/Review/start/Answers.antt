@@ -1,5 +1,5 @@
 use Rattle.std.proofs.Common.{◌≡◌, ◌+◌, ℕ, ℤ, List, length, pos, replicate, sym, ap, subst, ◌∙◌}
-use Rattle.auction_model.specs.Place.{states_of}
+use Rattle.value_table.specs.auction_model.specs.Place.{states_of}
 use Rattle.review.specs.ReviewValue.{AreRightLines, lines_of}
 use Rattle.review.proofs.LineSets.{zero_line, zero-left, zero-right}
 use Rattle.review.proofs.review.Review.start.Goals as goal

@@ -2,7 +2,7 @@ use Rattle.std.proofs.Common.{◌≡◌, ◌≢◌, ◌<◌, true, length, get_o
 use Rattle.std.proofs.lemmas.Bool.Decides.{Decides-eqb}
 use Rattle.std.proofs.lemmas.Slice.Eq.{slice_eq-Decides}
 use Rattle.slot_places.specs.Slots.{SlotBidder, no_bidder}
-use Rattle.bid_book.proofs.Within.{each_at}
+use Rattle.choices.specs.bid_book.proofs.Within.{each_at}
 use Rattle.slot_places.proofs.EntryLaws.{unused_more, name_at}
 use Rattle.slot_places.proofs.read.entries.is_used.Goals as goal
 

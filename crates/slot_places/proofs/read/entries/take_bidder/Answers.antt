@@ -1,6 +1,6 @@
 use Rattle.std.proofs.Common.{inl, ◌≡◌, ◌++◌, ◌∷◌, [], List, ℕ, Some, None, length, refl, sym, ap, ◌∙◌, subst, arith}
 use Rattle.std.specs.Prelude.{codes}
-use Rattle.limits.specs.declared.LimitKind.TheVariants.{Bidders}
+use Rattle.choices.specs.limits.specs.declared.LimitKind.TheVariants.{Bidders}
 use Rattle.slot_places.specs.Slots.{SlotList}
 use Rattle.slot_places.specs.SlotForm.{AreSlotsWithinLimits}
 use Rattle.slot_places.specs.Stages.{AddsBidder, bidder_with, with_bidders, excess_of}

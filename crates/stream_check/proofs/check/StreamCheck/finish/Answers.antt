@@ -1,5 +1,5 @@
 use Rattle.std.proofs.Common.{subst}
-use Rattle.auction_model.specs.Prices.{weight_of}
+use Rattle.cert_check.specs.auction_model.specs.Prices.{weight_of}
 use Rattle.cert_check.specs.Verdicts.{IsVerdict}
 use Rattle.stream_check.specs.Standing.{StandsWith}
 use Rattle.stream_check.proofs.CheckLaws.{to-reader, says-stop, reads-book}

@@ -1,10 +1,10 @@
 use Rattle.std.proofs.Common.{sym, subst, rules}
 use Rattle.std.proofs.lemmas.Int.{to_z-of_z}
-use Rattle.auction_model.specs.Book.{net_of}
-use Rattle.auction_model.specs.Greatest.{IsFirstGreatest}
-use Rattle.auction_model.specs.Lowered.{lowered}
-use Rattle.auction_model.specs.Market.{sum_after}
-use Rattle.auction_model.specs.Menu.{fits_after}
+use Rattle.choices.specs.auction_model.specs.Book.{net_of}
+use Rattle.choices.specs.auction_model.specs.Greatest.{IsFirstGreatest}
+use Rattle.choices.specs.auction_model.specs.Lowered.{lowered}
+use Rattle.choices.specs.auction_model.specs.Market.{sum_after}
+use Rattle.choices.specs.auction_model.specs.Menu.{fits_after}
 use Rattle.value_table.specs.BookTable.{menu_without, IsBookTable}
 use Rattle.value_table.specs.TableValue.{TableValue}
 use mir.Val.{SFits}

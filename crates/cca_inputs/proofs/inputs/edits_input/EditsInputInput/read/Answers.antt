@@ -1,5 +1,5 @@
 use Rattle.std.proofs.Common.{refl, sym, ap, Err, subst, ◌⊎◌, ◌≡◌}
-use Rattle.line_text.specs.LineText.{stated}
+use Rattle.place_cert.specs.line_text.specs.LineText.{stated}
 use Rattle.cca_inputs.specs.Answers.{EditsAnswers}
 use Rattle.cca_inputs.specs.Outcome.{stops, value}
 use Rattle.cca_inputs.specs.Statuses.{IsStop}

@@ -1,5 +1,5 @@
 use Rattle.std.proofs.Common.{refl, sym, subst, length, ◌⊎◌, ◌≡◌}
-use Rattle.line_text.specs.LineText.{stated}
+use Rattle.place_cert.specs.line_text.specs.LineText.{stated}
 use Rattle.place_cert.specs.CertValues.{place_cert_value}
 use Rattle.cca_inputs.specs.Answers.{PlaceCertAnswers}
 use Rattle.cca_inputs.specs.Outcome.{stops}
