@@ -11,7 +11,7 @@ use Rattle.std.specs.Str.{bytes_eq}
 use Rattle.std.specs.List.{AllByRecursion}
 use Rattle.cca_base.specs.Given.{Given, bytes_under}
 use Rattle.cca_base.specs.Entries.{with_calls, with_gave}
-use Rattle.cca_base.specs.Files.{Folder, Stands, AgreesWith, given_since, Agrees, KeepsFiles, GaveAll, GaveMore, Becomes}
+use Rattle.cca_base.specs.Files.{Folder, Stands, AgreesWith, given_since, Agrees, KeepsFiles, GaveAll, GaveMore, Content, GaveOf, GaveSome, Becomes}
 
 abbrev pub Contents : Type 0
 Contents = List ℕ → Option (List ℕ)
@@ -155,6 +155,10 @@ agrees_both files a b c first next one other =
     agrees_by files a c (next.since ++ first.since) (gave_both a b c first next)
     (both (AgreesWith files) next.since first.since (all_by files b c next.since next.gave other) (all_by files a b first.since first.gave one))
 
+-- the same where as much was given by another moment
+pub agrees_same : (files : Contents) (a b c : Folder) → c.gave ≡ b.gave → Agrees files a b → Agrees files a c
+agrees_same files a b c same agrees = record { each = subst (λ (l : List Given). AllByRecursion (AgreesWith files) (take (length l - length a.gave) l)) (sym same) agrees.each }
+
 -- one load, as a list of what was given
 pub agrees_load : (files : Contents) (a b : Folder) (g : Given) → b.gave ≡ g ∷ a.gave → Agrees files a b → AgreesWith files g
 agrees_load files a b g is agrees = let all = all_by files a b (g ∷ []) is agrees in all.0
@@ -288,6 +292,49 @@ module _ (name : List ℕ) (a b c : Folder) (bytes buffer : List ℕ) (room n : 
       let s = seen files agrees in
       is_file (files name) (λ f. limit < length f) s.0 s.1 (omega (arith, s.3.within, within, over))
 
+  -- one more load, whatever it gave, and whether it was kept or not
+  pub front_next : GaveSome name a c
+  front_next = record {
+    bytes = bytes ++ take n buffer;
+    gave = record {
+      agree = λ files hold.
+          let is : files name ≡ Some (bytes ++ (take n buffer ++ [])) = hold.0 ∙ ap (λ (l : List ℕ). Some (bytes ++ l)) (sym (append-nil (take n buffer))) in
+          joined files (bytes ++ (take n buffer ++ [])) is (front.enough files (take n buffer ++ []) is)
+          (stands_behind bytes (take n buffer) [] room (λ more has. absurd (omega (arith, more))));
+    };
+  }
+
+-- bytes that hold what the loads of a front gave are its own
+pub front_some : (name : List ℕ) (a b : Folder) (bytes : List ℕ) → GaveFront name a b bytes → GaveSome name a b
+front_some name a b bytes front = record {
+  bytes = bytes;
+  gave = record { agree = λ files hold. front.enough files [] (hold.0 ∙ ap Some (sym (append-nil bytes))) };
+}
+
+-- and so are those of a file that was given whole
+pub all_of : (name : List ℕ) (a b : Folder) (bytes : List ℕ) → GaveAll name a b bytes → GaveOf (record { name = name; bytes = bytes } ∷ []) a b
+all_of name a b bytes gave = record { agree = λ files hold. gave.enough files hold.0 }
+
+pub all_some : (name : List ℕ) (a b : Folder) (bytes : List ℕ) → GaveAll name a b bytes → GaveSome name a b
+all_some name a b bytes gave = record { bytes = bytes; gave = all_of name a b bytes gave }
+
+-- where nothing was given
+pub of_none : (a : Folder) → GaveOf [] a a
+of_none a = record { agree = λ files hold. agrees_still files a }
+
+-- two calls, one after the other, gave of what each gave of
+pub of_both : (xs ys : List Content) (a b c : Folder) → GaveOf xs a b → GaveOf ys b c → KeepsFiles a b → KeepsFiles b c → GaveOf (xs ++ ys) a c
+of_both xs ys a b c one other first next = record {
+  agree = λ files hold.
+      agrees_both files a b c first next (one.agree files (fronts (held_in files) xs ys hold)) (other.agree files (backs (held_in files) xs ys hold));
+}
+  where
+    held_in : Contents → Content → Type 0
+    held_in files x = files x.name ≡ Some x.bytes
+
 -- the same where as much was given by another moment
-pub agrees_same : (files : Contents) (a b c : Folder) → c.gave ≡ b.gave → Agrees files a b → Agrees files a c
-agrees_same files a b c same agrees = record { each = subst (λ (l : List Given). AllByRecursion (AgreesWith files) (take (length l - length a.gave) l)) (sym same) agrees.each }
+pub of_same : (xs : List Content) (a b c : Folder) → c.gave ≡ b.gave → GaveOf xs a b → GaveOf xs a c
+of_same xs a b c same of = record { agree = λ files hold. agrees_same files a b c same (of.agree files hold) }
+
+pub some_same : (name : List ℕ) (a b c : Folder) → c.gave ≡ b.gave → GaveSome name a b → GaveSome name a c
+some_same name a b c same some = record { bytes = some.bytes; gave = of_same (record { name = name; bytes = some.bytes } ∷ []) a b c same some.gave }
