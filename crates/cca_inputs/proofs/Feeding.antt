@@ -5,8 +5,8 @@ use Rattle.log_file.specs.limits.specs.declared.TheConstants.{CERT_BYTES}
 use Rattle.place_cert.specs.line_text.specs.LineText.{Said, stated, faulty, beyond}
 use Rattle.log_file.specs.auction_model.specs.Book.{Book as BookValue}
 use Rattle.log_file.specs.auction_model.specs.Prices.{weight_of}
-use Rattle.cca_base.specs.Files.{Folder, GaveMore, KeepsFiles}
-use Rattle.cca_base.proofs.Given.{GaveFront, front_all, front_more, front_none, front_over, next_load}
+use Rattle.cca_base.specs.Files.{Folder, GaveMore, GaveSome, KeepsFiles}
+use Rattle.cca_base.proofs.Given.{GaveFront, front_all, front_more, front_next, front_none, front_over, next_load}
 use Rattle.place_cert.specs.cert_form.specs.Certificate.{CertValue}
 use Rattle.place_cert.specs.cert_form.specs.Says.{CertSays}
 use Rattle.stream_check.specs.cert_laws.specs.Sound.{IsSound}
@@ -86,6 +86,10 @@ module _ (book : BookValue) (weights name : List ℕ) (old mid new : Folder) (ro
     book_is = s.book_is;
     weights_are = s.weights_are;
   }
+
+  -- with one more load, whatever it gave, some bytes of the name hold what was given
+  pub fed-some : GaveSome name old new
+  fed-some = front_next name old mid new s.text buffer size n le s.front kept behind-text
 
   -- more bytes came than a certificate may have
   pub fed-over : at ≤ CERT_BYTES → CERT_BYTES - at < n → GaveMore name old new CERT_BYTES

@@ -1,11 +1,11 @@
 -- Why an input has no value.
-use Rattle.std.proofs.Common.{inl, inr, ◌≡◌, ℕ, ◌≤◌, List, length, refl, arith}
+use Rattle.std.proofs.Common.{inl, inr, ◌≡◌, ℕ, ◌≤◌, List, [], length, refl, arith}
 use Rattle.std.specs.Prelude.{IfErr, IsSome, Result, Ok, Err, ◌⊎◌}
 use Rattle.cca_base.specs.Faults.{Rose}
 use Rattle.cca_base.specs.Files.{CountsOnly, Folder, GaveAll, GaveMore}
 use Rattle.cca_base.specs.declared.read.ReadStop.{ReadStop}
 use Rattle.cca_base.specs.declared.read.ReadStop.TheVariants as read
-use Rattle.cca_base.proofs.Given.{keeps_still, some_file}
+use Rattle.cca_base.proofs.Given.{front_none, front_some, keeps_still, some_file}
 use Rattle.cca_inputs.specs.Reading.{InputStops, OnlyLoads}
 use Rattle.cca_inputs.specs.Statuses.{IsStop}
 use Rattle.cca_inputs.specs.Stops.{read_status}
@@ -40,4 +40,9 @@ module _ (kind : FileKind) (most : ℕ) (halts : List ℕ → Status → Type 0)
 
 -- before any load
 pub loads-none : (name : List ℕ) (old : Folder) → OnlyLoads name old old
-loads-none name old = record { kept = keeps_still old; count = record { here = omega arith; elsewhere = λ other ne. refl }; appends = refl }
+loads-none name old = record {
+  kept = keeps_still old;
+  count = record { here = omega arith; elsewhere = λ other ne. refl };
+  appends = refl;
+  some = front_some name old old [] (front_none name old);
+}

@@ -2,7 +2,7 @@
 use Rattle.std.specs.Prelude.{◌≡◌, ◌⊎◌, ◌≤◌, ◌<◌, ◌+◌, ℕ, IsSome, Option, Some, List, length}
 use Rattle.log_file.specs.limits.specs.declared.LimitKind.TheVariants.{Bytes}
 use Rattle.cca_base.specs.Faults.{Rose}
-use Rattle.cca_base.specs.Files.{Agrees, CountsOnly, Folder, GaveAll, KeepsFiles}
+use Rattle.cca_base.specs.Files.{Agrees, CountsOnly, Folder, GaveAll, GaveSome, KeepsFiles}
 use Rattle.cca_inputs.specs.Statuses.{IsStop}
 use Rattle.cca_inputs.specs.declared.status.FileKind.{FileKind}
 use Rattle.cca_inputs.specs.declared.status.Status.{Status}
@@ -31,8 +31,9 @@ InputStops kind most halts name old new status =
     ⊎ (IsStop status
     × ((files : List ℕ → Option (List ℕ)) → Agrees files old new → Halts most halts (files name) status)))
 
--- no file changed, and only the count of failed loads of this name may have risen
+-- No file changed, only the count of failed loads of this name may have risen, and what was given is what some bytes of the name hold.
 pub record OnlyLoads (name : List ℕ) (old new : Folder) : Type 0 where
   pub kept : KeepsFiles old new
   pub count : CountsOnly name old.load_faults new.load_faults
   pub appends : new.append_faults ≡ old.append_faults
+  pub some : GaveSome name old new

@@ -3,7 +3,7 @@ ghost use Rattle.std.specs.Prelude.{◌≡◌, ◌≢◌, ◌≤◌, ◌<◌, �
 ghost use Rattle.log_file.specs.limits.specs.declared.TheConstants.{CERT_BYTES};
 ghost use Rattle.log_file.specs.auction_model.specs.Prices.{AreWeights};
 ghost use Rattle.cca_base.specs.Faults.{Rose};
-ghost use Rattle.cca_base.specs.Files.{CountsOnly, GaveMore, KeepsFiles};
+ghost use Rattle.cca_base.specs.Files.{CountsOnly, GaveMore, GaveSome, KeepsFiles};
 ghost use Rattle.stream_check.specs.cert_laws.specs.Tests.{bidders_of, states};
 ghost use Rattle.stream_check.specs.cert_pieces.specs.Rooms.{room_size};
 ghost use Rattle.stream_check.specs.Standing.{StandsFor};
@@ -59,6 +59,7 @@ fn fed<'a, F: Files>(
     ensures room { length room.new ≡ length room.old }
     ensures too_long { result ≡ Err ReadStop.TooLong
         → GaveMore name.now (F.folder files.old) (F.folder files.new) CERT_BYTES }
+    ensures some { GaveSome name.now (F.folder files.old) (F.folder files.new) }
     ensures fault { result ≡ Err ReadStop.Fault
         → Rose ((F.folder files.old).load_faults name.now) ((F.folder files.new).load_faults name.now) }
     ensures no_fault { IsSome ((F.folder files.old).room name.now) → result ≢ Err ReadStop.Fault }

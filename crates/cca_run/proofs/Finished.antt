@@ -2,7 +2,7 @@
 use Rattle.std.proofs.Common.{inl, inr, ◌≡◌, ◌⊎◌, ◌∙◌, ℕ, ◌≤◌, ◌<◌, Option, Some, List, length, refl, sym, ap, subst}
 use Rattle.cca_inputs.specs.cca_base.specs.Faults.{Rose}
 use Rattle.cca_inputs.specs.cca_base.specs.Files.{Agrees, Folder}
-use Rattle.cca_inputs.specs.cca_base.proofs.Given.{agrees_same, agrees_told}
+use Rattle.cca_inputs.specs.cca_base.proofs.Given.{agrees_same, agrees_told, of_same}
 use Rattle.cca_inputs.specs.cca_base.specs.Sink.{HasRoom, Output, Puts}
 use Rattle.cca_inputs.specs.Command.{CommandValue, inputs_of, output_as, outputs_of}
 use Rattle.cca_inputs.specs.Outcome.{Outcome, done}
@@ -129,6 +129,11 @@ module _ (command : CommandValue) (old mid new : Folder) (before now : Output) (
     );
     kept = λ k. no-other _ (λ kind w. absurd (subst KeepsAll w k)) (λ d. absurd (subst KeepsAll d k));
     told = λ tells. agrees_same old.file old mid new e.counts.gave (agrees_told old mid reads.kept tells);
+    loaded = record {
+      contents = reads.loaded.contents;
+      first = reads.loaded.first;
+      gave = of_same reads.loaded.contents old mid new e.counts.gave reads.loaded.gave;
+    };
     files = inr (record {
       appended = appended;
       given = gives;

@@ -10,6 +10,7 @@ mod OnePlacing
 mod OneOutcome
 mod Ones
 mod Priced
+mod Loads
 mod Progress
 mod Put
 mod Same

@@ -1,10 +1,10 @@
 -- The way of a command from one input to the next.
-use Rattle.std.proofs.Common.{inl, inr, ◌≡◌, ◌∙◌, ℕ, ◌≤◌, IsTrue, Option, Some, None, List, [], ◌∷◌, length, map, refl, sym, ap, subst, arith}
+use Rattle.std.proofs.Common.{inl, inr, ◌≡◌, ◌∙◌, ℕ, ◌≤◌, IsTrue, Option, Some, None, List, [], ◌∷◌, ◌++◌, length, map, refl, sym, ap, subst, arith}
 use Rattle.std.specs.Prelude.{Contains, option_and_then, Result, Ok, Err, IsSome, reverse}
 use Rattle.std.specs.List.{AllByRecursion}
 use Rattle.std.proofs.lemmas.Bool.{cases_lt}
-use Rattle.cca_inputs.specs.cca_base.specs.Files.{Agrees, Folder, GaveAll}
-use Rattle.cca_inputs.specs.cca_base.proofs.Given.{agrees_first, agrees_next, keeps_more, keeps_still}
+use Rattle.cca_inputs.specs.cca_base.specs.Files.{Agrees, Content, Folder, GaveAll, GaveSome, KeepsFiles}
+use Rattle.cca_inputs.specs.cca_base.proofs.Given.{agrees_first, agrees_next, keeps_more, keeps_still, of_both, of_none}
 use Rattle.cca_inputs.specs.Command.{CommandValue, contents_of, input_as, inputs_of, missing, output_as}
 use Rattle.cca_inputs.specs.Outcome.{Answer, AnswerGives, FileAnswers, InputGives, Outcome, done, stopped, stopped_after, stops, value}
 use Rattle.cca_inputs.specs.Reading.{Halts, InputStops, OnlyLoads}
@@ -23,10 +23,11 @@ use Rattle.cca_inputs.specs.Answers.{CertAnswers}
 use Rattle.cca_inputs.specs.Checked.{StopsCheck}
 use Rattle.cca_run.specs.Gives.{BookOfLogGives, CommandGives, EndGives, FilesGive, VerdictGives, replay_status}
 use Rattle.cca_inputs.specs.Statuses.{IsStop}
-use Rattle.cca_run.specs.Works.{AreOutputs, HasBook, IsWork, OnlyReads, StopsBy, Works, WorksOut, bare, text_before}
+use Rattle.cca_run.specs.Works.{AreOutputs, HasBook, IsWork, Loaded, OnlyReads, StopsBy, Works, WorksOut, bare, text_before}
 use Rattle.cca_run.specs.declared.work.Stop.{Stop}
 use Rattle.cca_run.specs.declared.work.Work.{Work}
 use Rattle.cca_run.proofs.Counts.{among-none, among-one, among-then, rose-from}
+use Rattle.cca_run.proofs.Loads.{count-more, loaded-more, loaded-none}
 
 -- contents, by the kinds of the inputs
 abbrev pub Contents : Type 0
@@ -48,29 +49,37 @@ agree-own command files (kind ∷ seen) = (refl, agree-own command files seen)
 pub record IsAt (command : CommandValue) (old mid : Folder) (seen : List FileKind) (rest : Contents → Outcome → Type 0) : Type 0 where
   -- nothing was done but loads of inputs of the command
   pub reads : OnlyReads command old mid
+  -- each of these kinds was loaded once
+  pub count : length reads.loaded.contents ≡ length seen
   -- what is left of the command, by the contents that were read, is what the command gives
   pub leads : (files : Held) → Agrees files old mid → (contents : Contents) → Agree command files contents seen → (o : Outcome) → rest contents o → CommandGives command contents o
 
 -- nothing was read
 pub begins : (command : CommandValue) (old : Folder) → IsAt command old old [] (CommandGives command)
 begins command old = record {
-  reads = record { kept = keeps_still old; loads = among-none (inputs_of command) old.load_faults; appends = refl };
+  reads = record { kept = keeps_still old; loads = among-none (inputs_of command) old.load_faults; appends = refl; loaded = loaded-none (inputs_of command) old };
+  count = refl;
   leads = λ files agrees contents agree o gives. gives;
 }
 
 -- the loads of one more input
-reads-on : (command : CommandValue) (old mid new : Folder) (name : List ℕ) → Contains (inputs_of command) name → OnlyReads command old mid → OnlyLoads name mid new → OnlyReads command old new
-reads-on command old mid new name within a b = record {
+reads-on : (command : CommandValue) (old mid new : Folder) (name : List ℕ) (within : Contains (inputs_of command) name) (a : OnlyReads command old mid)
+    → length a.loaded.contents ≡ within.0 → OnlyLoads name mid new → OnlyReads command old new
+reads-on command old mid new name within a next b = record {
+  loaded = loaded-more (inputs_of command) name old mid new a.loaded within next b.some a.kept b.kept;
   kept = keeps_more old mid new a.kept b.kept;
   loads = among-then (inputs_of command) old.load_faults mid.load_faults new.load_faults a.loads (among-one (inputs_of command) name mid.load_faults new.load_faults within b.count);
   appends = b.appends ∙ a.appends;
 }
 
 module _ {V : Type 0} (command : CommandValue) (old mid new : Folder) (seen : List FileKind) (kind : FileKind) (most : ℕ) (says : List ℕ → Answer V → Type 0)
-    (follows : Contents → V → Outcome → Type 0) (name : List ℕ) (input : input_as command kind ≡ Some name) (within : Contains (inputs_of command) name)
+    (follows : Contents → V → Outcome → Type 0) (name : List ℕ) (input : input_as command kind ≡ Some name) (within : Contains (inputs_of command) name) (next : within.0 ≡ length seen)
     (at : IsAt command old mid seen (λ contents. InputGives kind most says (contents kind) (follows contents))) (loads : OnlyLoads name mid new) where
   same-file : (files : Held) → contents_of command files kind ≡ files name
   same-file files = ap (option_and_then files) input
+
+  read : OnlyReads command old new
+  read = reads-on command old mid new name within at.reads (at.count ∙ sym next) loads
 
   before : (files : Held) → Agrees files old new → Agrees files old mid
   before files agrees = agrees_first files old mid new at.reads.kept loads.kept agrees
@@ -82,7 +91,8 @@ module _ {V : Type 0} (command : CommandValue) (old mid new : Folder) (seen : Li
   pub reads-next : (v : V) (bytes : List ℕ) → length bytes ≤ most → says bytes (value v) → GaveAll name mid new bytes
       → IsAt command old new (kind ∷ seen) (λ contents. follows contents v)
   reads-next v bytes short said here = record {
-    reads = reads-on command old mid new name within at.reads loads;
+    reads = read;
+    count = count-more (inputs_of command) name old mid new at.reads.loaded within (at.count ∙ sym next) loads.some at.reads.kept loads.kept (length seen) at.count;
     leads = λ files agrees contents agree o gives.
         let is : contents kind ≡ Some bytes = agree.0 ∙ same-file files ∙ here.held files (last files agrees) in
         let answers : FileAnswers most says bytes (value v) = record { text = λ _. said; long = λ over. absurd (omega (arith, short, over)) } in
@@ -97,7 +107,7 @@ module _ {V : Type 0} (command : CommandValue) (old mid new : Folder) (seen : Li
   pub stops-with : (halts : List ℕ → Status → Type 0) → ((contents : Contents) (bytes : List ℕ) (s : Status) → halts bytes s → Stopping contents bytes s)
       → ((files : Held) → missing kind (contents_of command files) kind ≡ None) → ((files : Held) → Agree command files (missing kind (contents_of command files)) seen)
       → (s : Status) → InputStops kind most halts name mid new s → Works command old new (Err (bare s))
-  stops-with halts turn gone agree s stop = record { out = by stop; reads = reads-on command old mid new name within at.reads loads }
+  stops-with halts turn gone agree s stop = record { out = by stop; reads = read }
     where
       by : InputStops kind most halts name mid new s → StopsBy command old new (bare s)
       by (inl memory) = inl (ap bare memory)
@@ -174,6 +184,7 @@ pub book-next : (command : CommandValue) (old new : Folder) (seen : List FileKin
     → IsAt command old new seen (λ contents. BookOfLogGives terms events (follows contents)) → end_of terms (reverse events) ≡ Ok book → IsAt command old new seen (λ contents. follows contents book)
 book-next command old new seen terms events follows book at is = record {
   reads = at.reads;
+  count = at.count;
   leads = λ files agrees contents agree o gives.
       at.leads files agrees contents agree o (subst (λ (end : Result Book ReplayStop). EndGives (length events) end (follows contents) o) (sym is) gives);
 }

@@ -1,6 +1,7 @@
 -- How the end of a run bears the headline.
-use Rattle.std.proofs.Common.{◌≡◌, ◌⊎◌, ◌∙◌, ℕ, IsTrue, Option, Some, None, List, [], ◌∷◌, length, refl, sym, ap, subst, arith, inl, inr}
-use Rattle.std.proofs.lemmas.List.{take_all}
+use Rattle.std.proofs.Common.{◌≡◌, ◌≢◌, ◌⊎◌, ◌∙◌, ℕ, IsTrue, Option, Some, None, List, [], ◌∷◌, ◌++◌, drop, length, take, refl, sym, ap, subst, arith, inl, inr}
+use Rattle.std.proofs.lemmas.List.{append-nil, take_all}
+use Rattle.std.proofs.Math.Seq.{drop-append_seam}
 use Rattle.cca_inputs.specs.cca_base.specs.Files.{Adds, Agrees, Folder, added}
 use Rattle.cca_inputs.specs.cca_base.specs.Sink.{Output, Puts}
 use Rattle.cca_inputs.specs.Command.{CommandValue, audit, award, command_of}
@@ -14,11 +15,12 @@ use Rattle.cca_inputs.specs.declared.status.Status.{Status}
 use Rattle.cca_inputs.specs.declared.status.Status.TheVariants.{Done, No, Words, Refused, ReadFault, WriteFault, Memory, Limit}
 use Rattle.cca_run.specs.Gives.{FilesGive, WordsGive, cert_file}
 use Rattle.cca_run.specs.Headline.{CanBeAwarded, IsAudited, IsAwarded}
-use Rattle.cca_run.specs.Later.{HoldsCert, HoldsNothing}
-use Rattle.cca_run.specs.Run.{Appended, AppendsAll, HasNoFault, IsReadFault, IsWriteFault}
+use Rattle.cca_run.specs.Later.{HoldsCert, HoldsNothing, after}
+use Rattle.cca_run.specs.Run.{Appended, AppendsAll, HasNoFault, IsReadFault, IsWriteFault, inputs}
 use Rattle.cca_run.specs.Works.{RunEnds}
 use Rattle.cca_run.proofs.Named.{input-among, output-among}
-use Rattle.cca_run.proofs.WordsApart.{IsApart, apart-in}
+use Rattle.cca_run.proofs.Loads.{some-agree}
+use Rattle.cca_run.proofs.WordsApart.{IsApart, apart-in, award-files, words-apart}
 
 -- the outcome of a run that is done
 record IsDone (command : Option CommandValue) (files : List ℕ → Option (List ℕ)) (old new : Folder) (before now : Output) : Type 0 where
@@ -160,10 +162,53 @@ appended-cert terms log cert text form old new o apart told some nothing (betwee
     in_new : (name : List ℕ) → new.file name ≡ between.file name
     in_new name = ap (λ (f : List ℕ → Option (List ℕ)). f name) kept.file
 
+-- the same of files that held something, with what was taken behind it
+appended-behind : (terms log cert text : List ℕ) (form : PriceForm) (given : List ℕ → Option (List ℕ)) (old new : Folder) (o : Outcome) → IsApart terms log cert → o.appended ≡ cert_file text ∷ [] → HoldsNothing (given cert)
+    → AppendsAll (award terms log cert form) (cert_file text ∷ []) old new → HoldsCert (terms ∷ log ∷ []) cert given (after given old new) o
+appended-behind terms log cert text form given old new o apart some nothing (between, one, kept) = record {
+  text = text;
+  appended = some;
+  held_nothing = nothing;
+  cert_holds = ap (λ (l : List ℕ). added (given cert) (drop (length (old.took cert)) l)) (in_new cert ∙ adds.took)
+      ∙ ap (added (given cert)) (drop-append_seam (old.took cert) (take (length text) text) ∙ take_all (length text) text (omega arith));
+  inputs_hold = (stays terms apart.award, (stays log apart.lines, tt));
+}
+  where
+    same : one.name ≡ cert
+    same = let is = one.output in cc
+
+    adds : Adds cert old between text (length text)
+    adds = subst (λ (name : List ℕ). Adds name old between text (length text)) same one.whole
+
+    in_new : (name : List ℕ) → new.took name ≡ between.took name
+    in_new name = ap (λ (f : List ℕ → List ℕ). f name) kept.took
+
+    nothing-behind : (content : Option (List ℕ)) → added content [] ≡ content
+    nothing-behind None = refl
+    nothing-behind (Some bytes) = ap Some (append-nil bytes)
+
+    stays : (name : List ℕ) → name ≢ cert → after given old new name ≡ given name
+    stays name other =
+        ap (λ (l : List ℕ). added (given name) (drop (length (old.took name)) l)) (in_new name ∙ adds.other_took name other ∙ sym (append-nil (old.took name)))
+        ∙ ap (added (given name)) (drop-append_seam (old.took name) []) ∙ nothing-behind (given name)
+
+-- over a certificate's file that held nothing `award` hands its text on
+pub run-hands_behind : AwardLaw → (words : List (List ℕ)) (old new : Folder) (before now : Output) (result : Status) → RunEnds (command_of words) old new before now result
+    → (terms log cert : List ℕ) (form : PriceForm) → command_of words ≡ Some (award terms log cert form) → (given : List ℕ → Option (List ℕ)) → Agrees given old new → result ≡ Done
+    → HoldsNothing (given cert) → (o : Outcome) × FilesGive (award terms log cert form) given o × HoldsCert (terms ∷ log ∷ []) cert given (after given old new) o
+run-hands_behind law words old new before now result ends terms log cert form is given agrees done nothing =
+    let d = award-done law (command_of words) old new before now result ends terms log cert form is given agrees done in
+    (d.outcome, d.gives, appended-behind terms log cert d.text form given old new d.outcome (award-files terms log cert form (apart-in words (award terms log cert form) is)) d.appended nothing d.appends)
+
+-- some files agree with all that a run loaded
+pub run-given : (words : List (List ℕ)) (old new : Folder) (before now : Output) (result : Status) → RunEnds (command_of words) old new before now result
+    → (given : List ℕ → Option (List ℕ)) × Agrees given old new
+run-given words old new before now result ends = some-agree (inputs (command_of words)) old new (words-apart words) ends.loaded
+
 -- over a certificate's file that held nothing it hands it on
 pub run-hands_on : AwardLaw → (words : List (List ℕ)) (old new : Folder) (before now : Output) (result : Status) → RunEnds (command_of words) old new before now result
     → (terms log cert : List ℕ) (form : PriceForm) → command_of words ≡ Some (award terms log cert form) → IsTrue old.told → result ≡ Done → HoldsNothing (old.file cert)
     → (o : Outcome) × FilesGive (award terms log cert form) old.file o × HoldsCert (terms ∷ log ∷ []) cert old.file new.file o
 run-hands_on law words old new before now result ends terms log cert form is told done nothing =
     let d = award-done law (command_of words) old new before now result ends terms log cert form is old.file (ends.told told) done in
-    (d.outcome, d.gives, appended-cert terms log cert d.text form old new d.outcome (apart-in words terms log cert form is) told d.appended nothing d.appends)
+    (d.outcome, d.gives, appended-cert terms log cert d.text form old new d.outcome (award-files terms log cert form (apart-in words (award terms log cert form) is)) told d.appended nothing d.appends)

@@ -118,6 +118,7 @@ module _ (command : CommandValue) (old new : Folder) (before now : Output) (stop
     front = λ r. as-result before now text stop.status result prints _ (λ e w. absurd (never-wrote Out (sym e ∙ r))) (λ e rose cut full. (text, cut.0, cut.1, cut.2, due, full));
     kept = λ k. reads.kept;
     told = agrees_told old new reads.kept;
+    loaded = reads.loaded;
     files = inl reads.kept;
     loads = reads.loads;
     appends = subst (λ (c : List ℕ → ℕ). CountsAmong (outputs_of command) old.append_faults c) (sym reads.appends) (among-none (outputs_of command) old.append_faults);

@@ -1,306 +1,179 @@
--- The words of `award` name three files, no two the same.
-use Rattle.std.proofs.Common.{◌≡◌, ◌≢◌, ◌⊎◌, ℕ, Bool, true, false, Option, Some, None, List, [], ◌∷◌, refl, sym, inl, inr}
-use Rattle.std.specs.Prelude.{◌&&◌, ◌||◌, not, codes, if◌then◌else◌}
+-- The words of a command name files, no two the same.
+use Rattle.std.proofs.Common.{◌≡◌, ◌≢◌, ◌⊎◌, ℕ, Bool, true, false, Option, Some, None, List, [], ◌∷◌, map, refl, subst, inl, inr}
+use Rattle.std.specs.Prelude.{◌&&◌, ◌||◌, not, codes, filter, if◌then◌else◌}
 use Rattle.std.specs.Option.{option_map}
 use Rattle.std.specs.Str.{bytes_eq}
+use Rattle.std.proofs.lemmas.Bool.{cases_Bool}
 use Rattle.std.proofs.lemmas.Slice.Eq.{bytes_eq-Decides}
-use Rattle.cca_inputs.specs.Command.{CommandValue, win, price, check, weigh, weigh_check, auction, award, audit, make, place, place_check, review, are_file_words, auction_words, audit_words, award_words, check_words, command_of, form_asked, is_among, is_file_word, make_words, number_said, place_check_words, place_words, price_words, review_words, rounds_asked, weigh_check_words, weigh_words, win_words}
+use Rattle.cca_inputs.specs.Command.{CommandValue, FileUse, win, price, check, weigh, weigh_check, auction, award, audit, make, place, place_check, review}
+use Rattle.cca_inputs.specs.Command.{win_words, price_words, check_words, weigh_words, weigh_check_words, auction_words, award_words, audit_words, make_words, place_words, place_check_words, review_words}
+use Rattle.cca_inputs.specs.Command.{are_file_words, command_of, files_of, form_asked, inputs_of, is_among, is_file_word, is_read, number_said, rounds_asked}
 use Rattle.cca_inputs.specs.declared.price_form.PriceForm.{PriceForm}
-
--- one of two was chosen
-chosen : (b : Bool) (x y : Option CommandValue) (c : CommandValue) → (if b then x else y) ≡ Some c → ((b ≡ true) × (x ≡ Some c)) ⊎ (y ≡ Some c)
-chosen true x y c is = inl (refl, is)
-chosen false x y c is = inr is
+use Rattle.cca_run.specs.Run.{inputs}
 
 -- both hold
-and-both : (a b : Bool) → (a && b) ≡ true → (a ≡ true) × (b ≡ true)
+pub and-both : (a b : Bool) → (a && b) ≡ true → (a ≡ true) × (b ≡ true)
 and-both true b is = (refl, is)
 and-both false b is = absurd cc
 
 -- neither holds
-neither : (a b : Bool) → not (a || b) ≡ true → (a ≡ false) × (b ≡ false)
+pub neither : (a b : Bool) → (a || b) ≡ false → (a ≡ false) × (b ≡ false)
 neither true b is = absurd cc
-neither false true is = absurd cc
-neither false false is = (refl, refl)
+neither false b is = (refl, is)
 
--- no other words say `award`
-module _ (terms log cert : List ℕ) (form : PriceForm) where
-  never-win : (rest : List (List ℕ)) → win_words rest ≡ Some (award terms log cert form) → ⊥
-  never-win [] is = cc
-  never-win (f ∷ []) is =
-      elim (chosen (are_file_words (f ∷ [])) (Some (win f)) None (award terms log cert form) is) [
-        | inl e ↦ (let no = e.1 in cc)
-        | inr e ↦ cc
-      ]
-  never-win (f ∷ g ∷ rest) is = cc
+pub not-true : (b : Bool) → not b ≡ true → b ≡ false
+not-true true is = absurd cc
+not-true false is = refl
 
-  mapped-price : (f g : List ℕ) (asked : Option PriceForm) → option_map (price f g) asked ≡ Some (award terms log cert form) → ⊥
-  mapped-price f g None is = cc
-  mapped-price f g (Some x) is = cc
+-- the files of a command are names of files, no two the same
+abbrev pub AreApart : CommandValue → Type 0
+AreApart c = are_file_words (map (λ f. f.name) (files_of c)) ≡ true
 
-  never-price : (rest : List (List ℕ)) → price_words rest ≡ Some (award terms log cert form) → ⊥
-  never-price [] is = cc
-  never-price (f ∷ []) is = cc
-  never-price (f ∷ g ∷ flags) is =
-      elim (chosen (are_file_words (f ∷ g ∷ [])) (option_map (price f g) (form_asked flags)) None (award terms log cert form) is) [
-        | inl e ↦ mapped-price f g (form_asked flags) e.1
-        | inr e ↦ cc
-      ]
+-- words that say one command
+one-apart : (b : Bool) (d c : CommandValue) → (b ≡ true → AreApart d) → (if b then Some d else None) ≡ Some c → AreApart c
+one-apart true d c apart is = let same : d ≡ c = cc in subst AreApart same (apart refl)
+one-apart false d c apart is = absurd cc
 
-  never-check : (rest : List (List ℕ)) → check_words rest ≡ Some (award terms log cert form) → ⊥
-  never-check [] is = cc
-  never-check (f ∷ []) is = cc
-  never-check (f ∷ g ∷ []) is =
-      elim (chosen (are_file_words (f ∷ g ∷ [])) (Some (check f g)) None (award terms log cert form) is) [
-        | inl e ↦ (let no = e.1 in cc)
-        | inr e ↦ cc
-      ]
-  never-check (f ∷ g ∷ h ∷ rest) is = cc
+-- words that say a command with something that they ask for
+asked-apart : {A : Type 0} (b : Bool) (make : A → CommandValue) (asked : Option A) (c : CommandValue) → ((x : A) → b ≡ true → AreApart (make x))
+    → (if b then option_map make asked else None) ≡ Some c → AreApart c
+asked-apart true make None c apart is = absurd cc
+asked-apart true make (Some x) c apart is = let same : make x ≡ c = cc in subst AreApart same (apart x refl)
+asked-apart false make asked c apart is = absurd cc
 
-  mapped-weigh : (f g h : List ℕ) (asked : Option PriceForm) → option_map (weigh f g h) asked ≡ Some (award terms log cert form) → ⊥
-  mapped-weigh f g h None is = cc
-  mapped-weigh f g h (Some x) is = cc
+win-apart : (rest : List (List ℕ)) (c : CommandValue) → win_words rest ≡ Some c → AreApart c
+win-apart [] c is = absurd cc
+win-apart (f ∷ []) c is = one-apart (are_file_words (f ∷ [])) (win f) c (λ h. h) is
+win-apart (f ∷ g ∷ rest) c is = absurd cc
 
-  never-weigh : (rest : List (List ℕ)) → weigh_words rest ≡ Some (award terms log cert form) → ⊥
-  never-weigh [] is = cc
-  never-weigh (f ∷ []) is = cc
-  never-weigh (f ∷ g ∷ []) is = cc
-  never-weigh (f ∷ g ∷ h ∷ flags) is =
-      elim (chosen (are_file_words (f ∷ g ∷ h ∷ [])) (option_map (weigh f g h) (form_asked flags)) None (award terms log cert form) is) [
-        | inl e ↦ mapped-weigh f g h (form_asked flags) e.1
-        | inr e ↦ cc
-      ]
+price-apart : (rest : List (List ℕ)) (c : CommandValue) → price_words rest ≡ Some c → AreApart c
+price-apart [] c is = absurd cc
+price-apart (f ∷ []) c is = absurd cc
+price-apart (f ∷ g ∷ flags) c is = asked-apart (are_file_words (f ∷ g ∷ [])) (price f g) (form_asked flags) c (λ x h. h) is
 
-  never-weigh_check : (rest : List (List ℕ)) → weigh_check_words rest ≡ Some (award terms log cert form) → ⊥
-  never-weigh_check [] is = cc
-  never-weigh_check (f ∷ []) is = cc
-  never-weigh_check (f ∷ g ∷ []) is = cc
-  never-weigh_check (f ∷ g ∷ h ∷ []) is =
-      elim (chosen (are_file_words (f ∷ g ∷ h ∷ [])) (Some (weigh_check f g h)) None (award terms log cert form) is) [
-        | inl e ↦ (let no = e.1 in cc)
-        | inr e ↦ cc
-      ]
-  never-weigh_check (f ∷ g ∷ h ∷ i ∷ rest) is = cc
+check-apart : (rest : List (List ℕ)) (c : CommandValue) → check_words rest ≡ Some c → AreApart c
+check-apart [] c is = absurd cc
+check-apart (f ∷ []) c is = absurd cc
+check-apart (f ∷ g ∷ []) c is = one-apart (are_file_words (f ∷ g ∷ [])) (check f g) c (λ h. h) is
+check-apart (f ∷ g ∷ h ∷ rest) c is = absurd cc
 
-  never-auction : (rest : List (List ℕ)) → auction_words rest ≡ Some (award terms log cert form) → ⊥
-  never-auction [] is = cc
-  never-auction (f ∷ []) is = cc
-  never-auction (f ∷ g ∷ []) is = cc
-  never-auction (f ∷ g ∷ h ∷ []) is =
-      elim (chosen (are_file_words (f ∷ g ∷ h ∷ [])) (Some (auction f g h)) None (award terms log cert form) is) [
-        | inl e ↦ (let no = e.1 in cc)
-        | inr e ↦ cc
-      ]
-  never-auction (f ∷ g ∷ h ∷ i ∷ rest) is = cc
+weigh-apart : (rest : List (List ℕ)) (c : CommandValue) → weigh_words rest ≡ Some c → AreApart c
+weigh-apart [] c is = absurd cc
+weigh-apart (f ∷ []) c is = absurd cc
+weigh-apart (f ∷ g ∷ []) c is = absurd cc
+weigh-apart (f ∷ g ∷ h ∷ flags) c is = asked-apart (are_file_words (f ∷ g ∷ h ∷ [])) (weigh f g h) (form_asked flags) c (λ x e. e) is
 
-  never-audit : (rest : List (List ℕ)) → audit_words rest ≡ Some (award terms log cert form) → ⊥
-  never-audit [] is = cc
-  never-audit (f ∷ []) is = cc
-  never-audit (f ∷ g ∷ []) is = cc
-  never-audit (f ∷ g ∷ h ∷ []) is =
-      elim (chosen (are_file_words (f ∷ g ∷ h ∷ [])) (Some (audit f g h)) None (award terms log cert form) is) [
-        | inl e ↦ (let no = e.1 in cc)
-        | inr e ↦ cc
-      ]
-  never-audit (f ∷ g ∷ h ∷ i ∷ rest) is = cc
+weigh_check-apart : (rest : List (List ℕ)) (c : CommandValue) → weigh_check_words rest ≡ Some c → AreApart c
+weigh_check-apart [] c is = absurd cc
+weigh_check-apart (f ∷ []) c is = absurd cc
+weigh_check-apart (f ∷ g ∷ []) c is = absurd cc
+weigh_check-apart (f ∷ g ∷ h ∷ []) c is = one-apart (are_file_words (f ∷ g ∷ h ∷ [])) (weigh_check f g h) c (λ e. e) is
+weigh_check-apart (f ∷ g ∷ h ∷ i ∷ rest) c is = absurd cc
 
-  mapped-make : (f g : List ℕ) (said : Option ℕ) → option_map (λ number. make number f g) said ≡ Some (award terms log cert form) → ⊥
-  mapped-make f g None is = cc
-  mapped-make f g (Some x) is = cc
+auction-apart : (rest : List (List ℕ)) (c : CommandValue) → auction_words rest ≡ Some c → AreApart c
+auction-apart [] c is = absurd cc
+auction-apart (f ∷ []) c is = absurd cc
+auction-apart (f ∷ g ∷ []) c is = absurd cc
+auction-apart (f ∷ g ∷ h ∷ []) c is = one-apart (are_file_words (f ∷ g ∷ h ∷ [])) (auction f g h) c (λ e. e) is
+auction-apart (f ∷ g ∷ h ∷ i ∷ rest) c is = absurd cc
 
-  never-make : (rest : List (List ℕ)) → make_words rest ≡ Some (award terms log cert form) → ⊥
-  never-make [] is = cc
-  never-make (n ∷ []) is = cc
-  never-make (n ∷ f ∷ []) is = cc
-  never-make (n ∷ f ∷ g ∷ []) is =
-      elim (chosen (are_file_words (f ∷ g ∷ [])) (option_map (λ number. make number f g) (number_said n)) None (award terms log cert form) is) [
-        | inl e ↦ mapped-make f g (number_said n) e.1
-        | inr e ↦ cc
-      ]
-  never-make (n ∷ f ∷ g ∷ h ∷ rest) is = cc
+award-apart : (rest : List (List ℕ)) (c : CommandValue) → award_words rest ≡ Some c → AreApart c
+award-apart [] c is = absurd cc
+award-apart (f ∷ []) c is = absurd cc
+award-apart (f ∷ g ∷ []) c is = absurd cc
+award-apart (f ∷ g ∷ h ∷ flags) c is = asked-apart (are_file_words (f ∷ g ∷ h ∷ [])) (award f g h) (form_asked flags) c (λ x e. e) is
 
-  mapped-place : (f g : List ℕ) (asked : Option Bool) → option_map (place f g) asked ≡ Some (award terms log cert form) → ⊥
-  mapped-place f g None is = cc
-  mapped-place f g (Some x) is = cc
+audit-apart : (rest : List (List ℕ)) (c : CommandValue) → audit_words rest ≡ Some c → AreApart c
+audit-apart [] c is = absurd cc
+audit-apart (f ∷ []) c is = absurd cc
+audit-apart (f ∷ g ∷ []) c is = absurd cc
+audit-apart (f ∷ g ∷ h ∷ []) c is = one-apart (are_file_words (f ∷ g ∷ h ∷ [])) (audit f g h) c (λ e. e) is
+audit-apart (f ∷ g ∷ h ∷ i ∷ rest) c is = absurd cc
 
-  never-place : (rest : List (List ℕ)) → place_words rest ≡ Some (award terms log cert form) → ⊥
-  never-place [] is = cc
-  never-place (f ∷ []) is = cc
-  never-place (f ∷ g ∷ flags) is =
-      elim (chosen (are_file_words (f ∷ g ∷ [])) (option_map (place f g) (rounds_asked flags)) None (award terms log cert form) is) [
-        | inl e ↦ mapped-place f g (rounds_asked flags) e.1
-        | inr e ↦ cc
-      ]
+make-apart : (rest : List (List ℕ)) (c : CommandValue) → make_words rest ≡ Some c → AreApart c
+make-apart [] c is = absurd cc
+make-apart (n ∷ []) c is = absurd cc
+make-apart (n ∷ f ∷ []) c is = absurd cc
+make-apart (n ∷ f ∷ g ∷ []) c is = asked-apart (are_file_words (f ∷ g ∷ [])) (λ number. make number f g) (number_said n) c (λ x h. h) is
+make-apart (n ∷ f ∷ g ∷ h ∷ rest) c is = absurd cc
 
-  never-place_check : (rest : List (List ℕ)) → place_check_words rest ≡ Some (award terms log cert form) → ⊥
-  never-place_check [] is = cc
-  never-place_check (f ∷ []) is = cc
-  never-place_check (f ∷ g ∷ []) is =
-      elim (chosen (are_file_words (f ∷ g ∷ [])) (Some (place_check f g)) None (award terms log cert form) is) [
-        | inl e ↦ (let no = e.1 in cc)
-        | inr e ↦ cc
-      ]
-  never-place_check (f ∷ g ∷ h ∷ rest) is = cc
+place-apart : (rest : List (List ℕ)) (c : CommandValue) → place_words rest ≡ Some c → AreApart c
+place-apart [] c is = absurd cc
+place-apart (f ∷ []) c is = absurd cc
+place-apart (f ∷ g ∷ flags) c is = asked-apart (are_file_words (f ∷ g ∷ [])) (place f g) (rounds_asked flags) c (λ x h. h) is
 
-  never-review : (rest : List (List ℕ)) → review_words rest ≡ Some (award terms log cert form) → ⊥
-  never-review [] is = cc
-  never-review (f ∷ []) is = cc
-  never-review (f ∷ g ∷ []) is =
-      elim (chosen (are_file_words (f ∷ g ∷ [])) (Some (review f g)) None (award terms log cert form) is) [
-        | inl e ↦ (let no = e.1 in cc)
-        | inr e ↦ cc
-      ]
-  never-review (f ∷ g ∷ h ∷ rest) is = cc
+place_check-apart : (rest : List (List ℕ)) (c : CommandValue) → place_check_words rest ≡ Some c → AreApart c
+place_check-apart [] c is = absurd cc
+place_check-apart (f ∷ []) c is = absurd cc
+place_check-apart (f ∷ g ∷ []) c is = one-apart (are_file_words (f ∷ g ∷ [])) (place_check f g) c (λ h. h) is
+place_check-apart (f ∷ g ∷ h ∷ rest) c is = absurd cc
 
-  -- the three files
-  record AreFiles (f g h : List ℕ) : Type 0 where
-    first : f ≡ terms
-    second : g ≡ log
-    third : h ≡ cert
+review-apart : (rest : List (List ℕ)) (c : CommandValue) → review_words rest ≡ Some c → AreApart c
+review-apart [] c is = absurd cc
+review-apart (f ∷ []) c is = absurd cc
+review-apart (f ∷ g ∷ []) c is = one-apart (are_file_words (f ∷ g ∷ [])) (review f g) c (λ h. h) is
+review-apart (f ∷ g ∷ h ∷ rest) c is = absurd cc
 
-  mapped-award : (f g h : List ℕ) (asked : Option PriceForm) → option_map (award f g h) asked ≡ Some (award terms log cert form) → AreFiles f g h
-  mapped-award f g h None is = absurd cc
-  mapped-award f g h (Some x) is = record { first = cc; second = cc; third = cc }
+-- the words of one of two commands
+either : (b : Bool) (x y : Option CommandValue) (c : CommandValue) → (x ≡ Some c → AreApart c) → (y ≡ Some c → AreApart c) → (if b then x else y) ≡ Some c → AreApart c
+either true x y c one other is = one is
+either false x y c one other is = other is
 
-  abbrev Files : Type 0
-  Files = are_file_words (terms ∷ log ∷ cert ∷ []) ≡ true
-
-  files-of : (rest : List (List ℕ)) → award_words rest ≡ Some (award terms log cert form) → Files
-  files-of [] is = absurd cc
-  files-of (f ∷ []) is = absurd cc
-  files-of (f ∷ g ∷ []) is = absurd cc
-  files-of (f ∷ g ∷ h ∷ flags) is =
-      elim (chosen (are_file_words (f ∷ g ∷ h ∷ [])) (option_map (award f g h) (form_asked flags)) None (award terms log cert form) is) [
-        | inl e ↦ (let same = mapped-award f g h (form_asked flags) e.1 in rw (sym same.first, sym same.second, sym same.third) e.0)
-        | inr e ↦ absurd cc
-      ]
-
-  module _ (w : List ℕ) (rest : List (List ℕ)) where
-    -- what is asked of the words where no earlier first word was found
-    abbrev of-review : Option CommandValue
-    of-review = if bytes_eq w (codes "review") then review_words rest else None
-
-    abbrev of-place_check : Option CommandValue
-    of-place_check = if bytes_eq w (codes "place-check") then place_check_words rest else of-review
-
-    abbrev of-place : Option CommandValue
-    of-place = if bytes_eq w (codes "place") then place_words rest else of-place_check
-
-    abbrev of-make : Option CommandValue
-    of-make = if bytes_eq w (codes "make") then make_words rest else of-place
-
-    abbrev of-audit : Option CommandValue
-    of-audit = if bytes_eq w (codes "audit") then audit_words rest else of-make
-
-    abbrev of-award : Option CommandValue
-    of-award = if bytes_eq w (codes "award") then award_words rest else of-audit
-
-    abbrev of-auction : Option CommandValue
-    of-auction = if bytes_eq w (codes "auction") then auction_words rest else of-award
-
-    abbrev of-weigh_check : Option CommandValue
-    of-weigh_check = if bytes_eq w (codes "weigh-check") then weigh_check_words rest else of-auction
-
-    abbrev of-weigh : Option CommandValue
-    of-weigh = if bytes_eq w (codes "weigh") then weigh_words rest else of-weigh_check
-
-    abbrev of-check : Option CommandValue
-    of-check = if bytes_eq w (codes "check") then check_words rest else of-weigh
-
-    abbrev of-price : Option CommandValue
-    of-price = if bytes_eq w (codes "price") then price_words rest else of-check
-
-    from-review : of-review ≡ Some (award terms log cert form) → Files
-    from-review is =
-        elim (chosen (bytes_eq w (codes "review")) (review_words rest) None (award terms log cert form) is) [
-          | inl e ↦ absurd (never-review rest e.1)
-          | inr e ↦ absurd cc
-        ]
-
-    from-place_check : of-place_check ≡ Some (award terms log cert form) → Files
-    from-place_check is =
-        elim (chosen (bytes_eq w (codes "place-check")) (place_check_words rest) of-review (award terms log cert form) is) [
-          | inl e ↦ absurd (never-place_check rest e.1)
-          | inr e ↦ from-review e
-        ]
-
-    from-place : of-place ≡ Some (award terms log cert form) → Files
-    from-place is =
-        elim (chosen (bytes_eq w (codes "place")) (place_words rest) of-place_check (award terms log cert form) is) [
-          | inl e ↦ absurd (never-place rest e.1)
-          | inr e ↦ from-place_check e
-        ]
-
-    from-make : of-make ≡ Some (award terms log cert form) → Files
-    from-make is =
-        elim (chosen (bytes_eq w (codes "make")) (make_words rest) of-place (award terms log cert form) is) [
-          | inl e ↦ absurd (never-make rest e.1)
-          | inr e ↦ from-place e
-        ]
-
-    from-audit : of-audit ≡ Some (award terms log cert form) → Files
-    from-audit is =
-        elim (chosen (bytes_eq w (codes "audit")) (audit_words rest) of-make (award terms log cert form) is) [
-          | inl e ↦ absurd (never-audit rest e.1)
-          | inr e ↦ from-make e
-        ]
-
-    from-award : of-award ≡ Some (award terms log cert form) → Files
-    from-award is =
-        elim (chosen (bytes_eq w (codes "award")) (award_words rest) of-audit (award terms log cert form) is) [
-          | inl e ↦ files-of rest e.1
-          | inr e ↦ from-audit e
-        ]
-
-    from-auction : of-auction ≡ Some (award terms log cert form) → Files
-    from-auction is =
-        elim (chosen (bytes_eq w (codes "auction")) (auction_words rest) of-award (award terms log cert form) is) [
-          | inl e ↦ absurd (never-auction rest e.1)
-          | inr e ↦ from-award e
-        ]
-
-    from-weigh_check : of-weigh_check ≡ Some (award terms log cert form) → Files
-    from-weigh_check is =
-        elim (chosen (bytes_eq w (codes "weigh-check")) (weigh_check_words rest) of-auction (award terms log cert form) is) [
-          | inl e ↦ absurd (never-weigh_check rest e.1)
-          | inr e ↦ from-auction e
-        ]
-
-    from-weigh : of-weigh ≡ Some (award terms log cert form) → Files
-    from-weigh is =
-        elim (chosen (bytes_eq w (codes "weigh")) (weigh_words rest) of-weigh_check (award terms log cert form) is) [
-          | inl e ↦ absurd (never-weigh rest e.1)
-          | inr e ↦ from-weigh_check e
-        ]
-
-    from-check : of-check ≡ Some (award terms log cert form) → Files
-    from-check is =
-        elim (chosen (bytes_eq w (codes "check")) (check_words rest) of-weigh (award terms log cert form) is) [
-          | inl e ↦ absurd (never-check rest e.1)
-          | inr e ↦ from-weigh e
-        ]
-
-    from-price : of-price ≡ Some (award terms log cert form) → Files
-    from-price is =
-        elim (chosen (bytes_eq w (codes "price")) (price_words rest) of-check (award terms log cert form) is) [
-          | inl e ↦ absurd (never-price rest e.1)
-          | inr e ↦ from-check e
-        ]
-
-    from-words : command_of (w ∷ rest) ≡ Some (award terms log cert form) → Files
-    from-words is =
-        elim (chosen (bytes_eq w (codes "win")) (win_words rest) of-price (award terms log cert form) is) [
-          | inl e ↦ absurd (never-win rest e.1)
-          | inr e ↦ from-price e
-        ]
-
-  all-files : (words : List (List ℕ)) → command_of words ≡ Some (award terms log cert form) → Files
-  all-files [] is = absurd cc
-  all-files (w ∷ rest) is = from-words w rest is
+-- the files that the words of a command name
+pub apart-in : (words : List (List ℕ)) (c : CommandValue) → command_of words ≡ Some c → AreApart c
+apart-in [] c is = absurd cc
+apart-in (w ∷ rest) c is =
+    either (bytes_eq w (codes "win")) (win_words rest) _ c (win-apart rest c)
+    (either (bytes_eq w (codes "price")) (price_words rest) _ c (price-apart rest c)
+    (either (bytes_eq w (codes "check")) (check_words rest) _ c (check-apart rest c)
+    (either (bytes_eq w (codes "weigh")) (weigh_words rest) _ c (weigh-apart rest c)
+    (either (bytes_eq w (codes "weigh-check")) (weigh_check_words rest) _ c (weigh_check-apart rest c)
+    (either (bytes_eq w (codes "auction")) (auction_words rest) _ c (auction-apart rest c)
+    (either (bytes_eq w (codes "award")) (award_words rest) _ c (award-apart rest c)
+    (either (bytes_eq w (codes "audit")) (audit_words rest) _ c (audit-apart rest c)
+    (either (bytes_eq w (codes "make")) (make_words rest) _ c (make-apart rest c)
+    (either (bytes_eq w (codes "place")) (place_words rest) _ c (place-apart rest c)
+    (either (bytes_eq w (codes "place-check")) (place_check_words rest) _ c (place_check-apart rest c)
+    (either (bytes_eq w (codes "review")) (review_words rest) None c (review-apart rest c) (λ no. absurd (let e : None ≡ Some c = no in cc))))))))))))) is
 
 -- names that aren't the same
 differ : (x y : List ℕ) → bytes_eq x y ≡ false → x ≢ y
 differ x y apart same = let is = (bytes_eq-Decides x y).1 same in absurd cc
+
+-- a name that isn't among others isn't among some of them
+kept-apart : (f : List ℕ) (p : FileUse → Bool) (files : List FileUse) → is_among f (map (λ g. g.name) files) ≡ false → is_among f (map (λ g. g.name) (filter p files)) ≡ false
+kept-apart f p [] none = none
+kept-apart f p (g ∷ files) none =
+    let parts = neither (bytes_eq f g.name) (is_among f (map (λ h. h.name) files)) none in
+    let behind = kept-apart f p files parts.1 in
+    elim (cases_Bool (p g)) [
+      | inl keeps ↦ rw (keeps, parts.0) behind
+      | inr drops ↦ rw drops behind
+    ]
+
+some-apart : (p : FileUse → Bool) (files : List FileUse) → are_file_words (map (λ g. g.name) files) ≡ true → are_file_words (map (λ g. g.name) (filter p files)) ≡ true
+some-apart p [] apart = apart
+some-apart p (g ∷ files) apart =
+    let parts = and-both (is_file_word g.name) (not (is_among g.name (map (λ h. h.name) files)) && are_file_words (map (λ h. h.name) files)) apart in
+    let behind = and-both (not (is_among g.name (map (λ h. h.name) files))) (are_file_words (map (λ h. h.name) files)) parts.1 in
+    let later = some-apart p files behind.1 in
+    let first = kept-apart g.name p files (not-true (is_among g.name (map (λ h. h.name) files)) behind.0) in
+    elim (cases_Bool (p g)) [
+      | inl keeps ↦ rw (keeps, parts.0, first, later) refl
+      | inr drops ↦ rw drops later
+    ]
+
+-- no two inputs of a command are the same file
+pub inputs-apart : (c : CommandValue) → AreApart c → are_file_words (inputs_of c) ≡ true
+inputs-apart c apart = some-apart (λ f. is_read f.how) (files_of c) apart
+
+-- so it is with the inputs that words name, which may say no command
+pub words-apart : (words : List (List ℕ)) → are_file_words (inputs (command_of words)) ≡ true
+words-apart words = by (command_of words) (apart-in words)
+  where
+    by : (command : Option CommandValue) → ((c : CommandValue) → command ≡ Some c → AreApart c) → are_file_words (inputs command) ≡ true
+    by None apart = refl
+    by (Some c) apart = inputs-apart c (apart c refl)
 
 -- the file that is appended to is none of those that are read
 pub record IsApart (terms log cert : List ℕ) : Type 0 where
@@ -309,24 +182,14 @@ pub record IsApart (terms log cert : List ℕ) : Type 0 where
   -- the log's file isn't the certificate's
   pub lines : log ≢ cert
 
--- so it is with the files that the words of `award` name
-pub apart-in : (words : List (List ℕ)) (terms log cert : List ℕ) (form : PriceForm) → command_of words ≡ Some (award terms log cert form) → IsApart terms log cert
-apart-in words terms log cert form is =
-    let all = and-both (is_file_word terms) (not (is_among terms (log ∷ cert ∷ [])) && are_file_words (log ∷ cert ∷ [])) (all-files terms log cert form words is) in
+-- so it is with the files of `award`
+pub award-files : (terms log cert : List ℕ) (form : PriceForm) → AreApart (award terms log cert form) → IsApart terms log cert
+award-files terms log cert form apart =
+    let all = and-both (is_file_word terms) (not (is_among terms (log ∷ cert ∷ [])) && are_file_words (log ∷ cert ∷ [])) apart in
     let first = and-both (not (is_among terms (log ∷ cert ∷ []))) (are_file_words (log ∷ cert ∷ [])) all.1 in
-    let terms_apart = neither (bytes_eq terms log) (is_among terms (cert ∷ [])) first.0 in
-    let terms_cert = not-one terms cert terms_apart.1 in
+    let terms_apart = neither (bytes_eq terms log) (is_among terms (cert ∷ [])) (not-true (is_among terms (log ∷ cert ∷ [])) first.0) in
     let behind = and-both (is_file_word log) (not (is_among log (cert ∷ [])) && are_file_words (cert ∷ [])) first.1 in
     let second = and-both (not (is_among log (cert ∷ []))) (are_file_words (cert ∷ [])) behind.1 in
-    record { award = differ terms cert terms_cert; lines = differ log cert (not-one log cert (not-true (is_among log (cert ∷ [])) second.0)) }
-  where
-    not-true : (b : Bool) → not b ≡ true → b ≡ false
-    not-true true is = absurd cc
-    not-true false is = refl
-
-    or-none : (b : Bool) → (b || false) ≡ false → b ≡ false
-    or-none true is = absurd cc
-    or-none false is = refl
-
-    not-one : (x y : List ℕ) → is_among x (y ∷ []) ≡ false → bytes_eq x y ≡ false
-    not-one x y is = or-none (bytes_eq x y) is
+    let terms_cert = neither (bytes_eq terms cert) false terms_apart.1 in
+    let log_cert = neither (bytes_eq log cert) false (not-true (is_among log (cert ∷ [])) second.0) in
+    record { award = differ terms cert terms_cert.0; lines = differ log cert log_cert.0 }

@@ -1,5 +1,5 @@
 -- From a command to what it prints and appends, and how a run ends that has a command.
-use Rattle.std.specs.Prelude.{◌≡◌, ◌⊎◌, ◌<◌, ◌≤◌, ℕ, Bool, true, false, IsTrue, IsSome, Option, Some, None, Result, Ok, Err, List, [], length, map, reverse, unwrap_or}
+use Rattle.std.specs.Prelude.{◌≡◌, ◌⊎◌, ◌<◌, ◌≤◌, ℕ, Bool, true, false, IsTrue, IsSome, Option, Some, None, Result, Ok, Err, List, [], length, map, reverse, take, unwrap_or}
 use Rattle.std.specs.List.{AllByRecursion}
 use Rattle.auction_outcome.specs.auction_model.specs.Book.{Book}
 use Rattle.big_auction.specs.auction_rules.specs.Terms.{Terms}
@@ -7,7 +7,7 @@ use Rattle.big_auction.specs.auction_rules.specs.declared.Event.{Event}
 use Rattle.log_replay.specs.ReplyLines.{end_of}
 use Rattle.log_replay.specs.declared.results.ReplayStop.{ReplayStop}
 use Rattle.cca_inputs.specs.cca_base.specs.Faults.{Rose}
-use Rattle.cca_inputs.specs.cca_base.specs.Files.{Agrees, Folder, KeepsFiles}
+use Rattle.cca_inputs.specs.cca_base.specs.Files.{Agrees, Content, Folder, GaveOf, KeepsFiles}
 use Rattle.cca_inputs.specs.cca_base.specs.Sink.{HasRoom, Output, Puts}
 use Rattle.place_outcome.specs.core_price.specs.declared.priced.PriceStop.{PriceStop}
 use Rattle.place_outcome.specs.core_price.specs.declared.priced.PriceStop.TheVariants as price
@@ -70,8 +70,15 @@ WorksOut command old new (Ok work) = AreOutputs command work.appended.items
     × ((files : List ℕ → Option (List ℕ)) → Agrees files old new → FilesGive command files (done work.printed work.appended.items))
 WorksOut command old new (Err stop) = StopsBy command old new stop
 
--- no file changed, and only counts of failed loads of the command's inputs may have risen
+-- What the loads in between gave is what files hold that hold these contents: of the first of these names, one after the other.
+pub record Loaded (names : List (List ℕ)) (old new : Folder) : Type 0 where
+  pub contents : List Content
+  pub first : map (λ c. c.name) contents ≡ take (length contents) names
+  pub gave : GaveOf contents old new
+
+-- No file changed, only counts of failed loads of the command's inputs may have risen, and only these were loaded, each once.
 pub record OnlyReads (command : CommandValue) (old new : Folder) : Type 0 where
+  pub loaded : Loaded (inputs_of command) old new
   pub kept : KeepsFiles old new
   pub loads : CountsAmong (inputs_of command) old.load_faults new.load_faults
   pub appends : new.append_faults ≡ old.append_faults
@@ -121,6 +128,7 @@ pub record RunEnds (command : Option CommandValue) (old new : Folder) (before no
       × (HasRoom before.room (length text) → ⊥)
   pub kept : KeepsAll result → KeepsFiles old new
   pub told : IsTrue old.told → Agrees old.file old new
+  pub loaded : Loaded (inputs command) old new
   pub files : Changes command old new
   pub loads : CountsAmong (inputs command) old.load_faults new.load_faults
   pub appends : CountsAmong (outputs command) old.append_faults new.append_faults

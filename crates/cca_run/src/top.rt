@@ -12,7 +12,7 @@ ghost use Rattle.cca_inputs.specs.declared.status.FileKind.{FileKind};
 ghost use Rattle.cca_inputs.specs.declared.status.Status.{Status};
 ghost use Rattle.cca_run.specs.Gives.{FilesGive, Gives, cert_file};
 ghost use Rattle.cca_run.specs.Headline.{CanBeAwarded, IsAudited, IsAwarded};
-ghost use Rattle.cca_run.specs.Later.{HoldsCert, HoldsNothing};
+ghost use Rattle.cca_run.specs.Later.{HoldsCert, HoldsNothing, after};
 ghost use Rattle.cca_run.specs.Rooms.{HasRooms};
 ghost use Rattle.cca_run.specs.Run.{Appended, AppendsAll, Changes, CountsAmong, HasNoFault, IsDue, IsReadFault, IsWriteFault, inputs, outputs};
 ghost use Rattle.cca_run.specs.Works.{AreOutputs, FinishEnds, RunEnds};
@@ -136,6 +136,12 @@ pub fn run<F: Files, O: Sink>(alloc: Global, words: &[String], files: &mut F, ou
         → HoldsCert (terms ∷ log ∷ []) cert before given o
         → HasNoFault (command_of (map string_bytes words.now)) (F.folder files.old) (F.folder files.new)
         (O.output out.old) (O.output out.new) → (result ≡ Status.Done) ⊎ (result ≡ Status.Memory) }
+    ensures hands_on { (terms log cert : List ℕ) (form : PriceForm)
+        → command_of (map string_bytes words.now) ≡ Some (award terms log cert form)
+        → (given : List ℕ → Option (List ℕ)) → Agrees given (F.folder files.old) (F.folder files.new)
+        → result ≡ Status.Done → HoldsNothing (given cert)
+        → (o : Outcome) × FilesGive (award terms log cert form) given o
+        × HoldsCert (terms ∷ log ∷ []) cert given (after given (F.folder files.old) (F.folder files.new)) o }
     ensures handed_on { (terms log cert : List ℕ) (form : PriceForm)
         → command_of (map string_bytes words.now) ≡ Some (award terms log cert form) → IsTrue (F.folder files.old).told
         → result ≡ Status.Done → HoldsNothing ((F.folder files.old).file cert)
@@ -157,6 +163,9 @@ pub fn run<F: Files, O: Sink>(alloc: Global, words: &[String], files: &mut F, ou
     ensures write_fault { (kind : FileKind) → result ≡ Status.WriteFault kind
         → IsWriteFault (command_of (map string_bytes words.now)) (F.folder files.old) (F.folder files.new)
         (O.output out.old) (O.output out.new) kind }
+
+    // Some content of the files agrees with all that the loads of this call gave, whatever the files are: none is loaded twice.
+    ensures given { (given : List ℕ → Option (List ℕ)) × Agrees given (F.folder files.old) (F.folder files.new) }
 
     // Where the bytes are told, the loads of this call gave them.
     ensures told { IsTrue (F.folder files.old).told

@@ -1,6 +1,6 @@
 use Rattle.std.proofs.Common.{length, refl, subst, ◌∙◌, arith, rules}
-use Rattle.cca_base.proofs.Given.{keeps_more, keeps_still}
-use Rattle.cca_inputs.proofs.Feeding.{begins-fed, fed-more, fed-over, fed-whole}
+use Rattle.cca_base.proofs.Given.{front_some, keeps_more, keeps_still, some_same}
+use Rattle.cca_inputs.proofs.Feeding.{begins-fed, fed-more, fed-over, fed-some, fed-whole}
 use Rattle.cca_inputs.proofs.checked.fed.Goals as goal
 
 pub returns-in-Ok-eq0-clause-fed : goal.returns-in-Ok-eq0-clause-fed
@@ -49,3 +49,16 @@ pub returns-then-n-at-clause-too_long : goal.returns-then-n-at-clause-too_long
 returns-then-n-at-clause-too_long g c = λ too_long.
     let l = c.loop-checker in
     fed-over c.args.book.now c.args.weights.now _ _ _ _ _ _ l.at l.invariant.fed _ c.load.new.buf c.in-Ok.n (search rules) c.load.ensures.kept c.in-Ok.ensures.gave l.invariant.within (search rules)
+
+pub returns-in-Ok-eq0-clause-some : goal.returns-in-Ok-eq0-clause-some
+returns-in-Ok-eq0-clause-some g c =
+    let l = c.loop-checker in
+    fed-some c.args.book.now c.args.weights.now _ _ _ _ _ _ l.at l.invariant.fed _ c.load.new.buf c.in-Ok-eq0.field-0 (search rules) c.load.ensures.kept c.in-Ok-eq0.ensures.gave
+
+pub returns-then-n-at-clause-some : goal.returns-then-n-at-clause-some
+returns-then-n-at-clause-some g c =
+    let l = c.loop-checker in
+    fed-some c.args.book.now c.args.weights.now _ _ _ _ _ _ l.at l.invariant.fed _ c.load.new.buf c.in-Ok.n (search rules) c.load.ensures.kept c.in-Ok.ensures.gave
+
+pub returns-in-Err-clause-some : goal.returns-in-Err-clause-some
+returns-in-Err-clause-some g c = some_same _ _ _ _ c.in-Err.ensures.gave_none (front_some _ _ _ _ c.loop-checker.invariant.fed.front)

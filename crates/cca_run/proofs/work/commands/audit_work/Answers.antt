@@ -16,7 +16,7 @@ returns-in_err-award g c =
     let command = audit c.args.terms.now c.args.log.now c.args.cert.now in
     let old = g.F.Files.folder c.args.files.now in
     let new = g.F.Files.folder c.read_input.new.files in
-    let stopped = stops-next command old old new [] Award AWARD_BYTES AwardAnswers (λ contents t. LogGives t (contents Log) (λ events. BookOfLogGives t events (λ b. CertGives b (contents Cert) (VerdictGives b (ones b))))) c.args.terms.now refl (0, omega arith, refl) (begins command old)
+    let stopped = stops-next command old old new [] Award AWARD_BYTES AwardAnswers (λ contents t. LogGives t (contents Log) (λ events. BookOfLogGives t events (λ b. CertGives b (contents Cert) (VerdictGives b (ones b))))) c.args.terms.now refl (0, omega arith, refl) refl (begins command old)
     c.in_err-award.ensures.loads _ (λ bytes s x. x) (λ files. refl) (λ files. tt) c.in_err-award.field-0.0 c.in_err-award.ensures.stop in
     let is = err_from_is_err_and c.from_residual.result c.from_residual.ensures.1 in
     subst (Works command old new) (sym (is.1 ∙ ap (λ (s : Stop). Err s) is.2)) stopped
@@ -29,9 +29,9 @@ returns-in_err-events g c =
     let new = g.F.Files.folder c.read_input-2.new.files in
     let read = c.in_ok-award.ensures.value in
     let terms = c.in_ok-award.award in
-    let at = reads-next command old old mid [] Award AWARD_BYTES AwardAnswers (λ contents t. LogGives t (contents Log) (λ events. BookOfLogGives t events (λ b. CertGives b (contents Cert) (VerdictGives b (ones b))))) c.args.terms.now refl (0, omega arith, refl) (begins command old)
+    let at = reads-next command old old mid [] Award AWARD_BYTES AwardAnswers (λ contents t. LogGives t (contents Log) (λ events. BookOfLogGives t events (λ b. CertGives b (contents Cert) (VerdictGives b (ones b))))) c.args.terms.now refl (0, omega arith, refl) refl (begins command old)
     c.in_ok-award.ensures.loads terms read.bytes read.short read.says read.here in
-    let stopped = stops-next command old mid new _ Log LOG_BYTES (LogAnswers terms) (λ contents events. BookOfLogGives terms events (λ b. CertGives b (contents Cert) (VerdictGives b (ones b)))) c.args.log.now refl (1, omega arith, refl) at
+    let stopped = stops-next command old mid new _ Log LOG_BYTES (LogAnswers terms) (λ contents events. BookOfLogGives terms events (λ b. CertGives b (contents Cert) (VerdictGives b (ones b)))) c.args.log.now refl (1, omega arith, refl) refl at
     c.in_err-events.ensures.loads _ (λ bytes s x. x) (λ files. refl) (λ files. (refl, tt)) c.in_err-events.field-0.0 c.in_err-events.ensures.stop in
     let is = err_from_is_err_and c.from_residual-in_err-events.result c.from_residual-in_err-events.ensures.1 in
     subst (Works command old new) (sym (is.1 ∙ ap (λ (s : Stop). Err s) is.2)) stopped
@@ -49,11 +49,11 @@ returns-in_err-book g c =
     let new = g.F.Files.folder c.read_input-2.new.files in
     let read = c.in_ok-award.ensures.value in
     let terms = c.in_ok-award.award in
-    let at = reads-next command old old mid [] Award AWARD_BYTES AwardAnswers (λ contents t. LogGives t (contents Log) (λ events. BookOfLogGives t events (λ b. CertGives b (contents Cert) (VerdictGives b (ones b))))) c.args.terms.now refl (0, omega arith, refl) (begins command old)
+    let at = reads-next command old old mid [] Award AWARD_BYTES AwardAnswers (λ contents t. LogGives t (contents Log) (λ events. BookOfLogGives t events (λ b. CertGives b (contents Cert) (VerdictGives b (ones b))))) c.args.terms.now refl (0, omega arith, refl) refl (begins command old)
     c.in_ok-award.ensures.loads terms read.bytes read.short read.says read.here in
     let stated = c.in_ok-events.ensures.value in
     let events = c.in_ok-events.events in
-    let behind = reads-next command old mid new _ Log LOG_BYTES (LogAnswers terms) (λ contents events. BookOfLogGives terms events (λ b. CertGives b (contents Cert) (VerdictGives b (ones b)))) c.args.log.now refl (1, omega arith, refl) at
+    let behind = reads-next command old mid new _ Log LOG_BYTES (LogAnswers terms) (λ contents events. BookOfLogGives terms events (λ b. CertGives b (contents Cert) (VerdictGives b (ones b)))) c.args.log.now refl (1, omega arith, refl) refl at
     c.in_ok-events.ensures.loads events stated.bytes stated.short stated.says stated.here in
     let stopped = book-stops command old new _ terms events (λ contents. (λ b. CertGives b (contents Cert) (VerdictGives b (ones b)))) c.in_err-book.field-0.0 behind c.in_err-book.ensures in
     search rules
@@ -66,11 +66,11 @@ returns-in_err-weights g c =
     let new = g.F.Files.folder c.read_input-2.new.files in
     let read = c.in_ok-award.ensures.value in
     let terms = c.in_ok-award.award in
-    let at = reads-next command old old mid [] Award AWARD_BYTES AwardAnswers (λ contents t. LogGives t (contents Log) (λ events. BookOfLogGives t events (λ b. CertGives b (contents Cert) (VerdictGives b (ones b))))) c.args.terms.now refl (0, omega arith, refl) (begins command old)
+    let at = reads-next command old old mid [] Award AWARD_BYTES AwardAnswers (λ contents t. LogGives t (contents Log) (λ events. BookOfLogGives t events (λ b. CertGives b (contents Cert) (VerdictGives b (ones b))))) c.args.terms.now refl (0, omega arith, refl) refl (begins command old)
     c.in_ok-award.ensures.loads terms read.bytes read.short read.says read.here in
     let stated = c.in_ok-events.ensures.value in
     let events = c.in_ok-events.events in
-    let behind = reads-next command old mid new _ Log LOG_BYTES (LogAnswers terms) (λ contents events. BookOfLogGives terms events (λ b. CertGives b (contents Cert) (VerdictGives b (ones b)))) c.args.log.now refl (1, omega arith, refl) at
+    let behind = reads-next command old mid new _ Log LOG_BYTES (LogAnswers terms) (λ contents events. BookOfLogGives terms events (λ b. CertGives b (contents Cert) (VerdictGives b (ones b)))) c.args.log.now refl (1, omega arith, refl) refl at
     c.in_ok-events.ensures.loads events stated.bytes stated.short stated.says stated.here in
     let book = c.in_ok-book.book in
     let found = book-next command old new _ terms events (λ contents. (λ b. CertGives b (contents Cert) (VerdictGives b (ones b)))) book behind c.in_ok-book.ensures in
@@ -86,17 +86,17 @@ returns-in_err-facts g c =
     let new = g.F.Files.folder c.read_input-2.new.files in
     let read = c.in_ok-award.ensures.value in
     let terms = c.in_ok-award.award in
-    let at = reads-next command old old mid [] Award AWARD_BYTES AwardAnswers (λ contents t. LogGives t (contents Log) (λ events. BookOfLogGives t events (λ b. CertGives b (contents Cert) (VerdictGives b (ones b))))) c.args.terms.now refl (0, omega arith, refl) (begins command old)
+    let at = reads-next command old old mid [] Award AWARD_BYTES AwardAnswers (λ contents t. LogGives t (contents Log) (λ events. BookOfLogGives t events (λ b. CertGives b (contents Cert) (VerdictGives b (ones b))))) c.args.terms.now refl (0, omega arith, refl) refl (begins command old)
     c.in_ok-award.ensures.loads terms read.bytes read.short read.says read.here in
     let stated = c.in_ok-events.ensures.value in
     let events = c.in_ok-events.events in
-    let behind = reads-next command old mid new _ Log LOG_BYTES (LogAnswers terms) (λ contents events. BookOfLogGives terms events (λ b. CertGives b (contents Cert) (VerdictGives b (ones b)))) c.args.log.now refl (1, omega arith, refl) at
+    let behind = reads-next command old mid new _ Log LOG_BYTES (LogAnswers terms) (λ contents events. BookOfLogGives terms events (λ b. CertGives b (contents Cert) (VerdictGives b (ones b)))) c.args.log.now refl (1, omega arith, refl) refl at
     c.in_ok-events.ensures.loads events stated.bytes stated.short stated.says stated.here in
     let end = g.F.Files.folder c.check_input.new.files in
     let book = c.in_ok-book.book in
     let found = book-next command old new _ terms events (λ contents. (λ b. CertGives b (contents Cert) (VerdictGives b (ones b)))) book behind c.in_ok-book.ensures in
     let stop = rw (c.deref.ensures.value ∙ c.in_ok-weights.ensures) at c.in_err-facts.ensures.stop in
-    let stopped = stops-with command old new end _ Cert CERT_BYTES (CertAnswers book) (λ contents. VerdictGives book (ones book)) c.args.cert.now refl (2, omega arith, refl) found
+    let stopped = stops-with command old new end _ Cert CERT_BYTES (CertAnswers book) (λ contents. VerdictGives book (ones book)) c.args.cert.now refl (2, omega arith, refl) refl found
     c.in_err-facts.ensures.loads _ (check-turn book (ones book)) (λ files. refl) (λ files. (refl, (refl, tt))) c.in_err-facts.field-0.0 stop in
     let is = err_from_is_err_and c.from_residual-in_err-facts.result c.from_residual-in_err-facts.ensures.1 in
     subst (Works command old end) (sym (is.1 ∙ ap (λ (s : Stop). Err s) is.2)) stopped
@@ -109,17 +109,17 @@ returns g c =
     let new = g.F.Files.folder c.read_input-2.new.files in
     let read = c.in_ok-award.ensures.value in
     let terms = c.in_ok-award.award in
-    let at = reads-next command old old mid [] Award AWARD_BYTES AwardAnswers (λ contents t. LogGives t (contents Log) (λ events. BookOfLogGives t events (λ b. CertGives b (contents Cert) (VerdictGives b (ones b))))) c.args.terms.now refl (0, omega arith, refl) (begins command old)
+    let at = reads-next command old old mid [] Award AWARD_BYTES AwardAnswers (λ contents t. LogGives t (contents Log) (λ events. BookOfLogGives t events (λ b. CertGives b (contents Cert) (VerdictGives b (ones b))))) c.args.terms.now refl (0, omega arith, refl) refl (begins command old)
     c.in_ok-award.ensures.loads terms read.bytes read.short read.says read.here in
     let stated = c.in_ok-events.ensures.value in
     let events = c.in_ok-events.events in
-    let behind = reads-next command old mid new _ Log LOG_BYTES (LogAnswers terms) (λ contents events. BookOfLogGives terms events (λ b. CertGives b (contents Cert) (VerdictGives b (ones b)))) c.args.log.now refl (1, omega arith, refl) at
+    let behind = reads-next command old mid new _ Log LOG_BYTES (LogAnswers terms) (λ contents events. BookOfLogGives terms events (λ b. CertGives b (contents Cert) (VerdictGives b (ones b)))) c.args.log.now refl (1, omega arith, refl) refl at
     c.in_ok-events.ensures.loads events stated.bytes stated.short stated.says stated.here in
     let end = g.F.Files.folder c.check_input.new.files in
     let book = c.in_ok-book.book in
     let found = book-next command old new _ terms events (λ contents. (λ b. CertGives b (contents Cert) (VerdictGives b (ones b)))) book behind c.in_ok-book.ensures in
     let shown = c.in_ok-facts.ensures.value in
     let c_is = rw (c.deref.ensures.value ∙ c.in_ok-weights.ensures) at shown.says in
-    let last = reads-next command old new end _ Cert CERT_BYTES (CertAnswers book) (λ contents. VerdictGives book (ones book)) c.args.cert.now refl (2, omega arith, refl) found
+    let last = reads-next command old new end _ Cert CERT_BYTES (CertAnswers book) (λ contents. VerdictGives book (ones book)) c.args.cert.now refl (2, omega arith, refl) refl found
     c.in_ok-facts.ensures.loads c_is.0 shown.bytes shown.short c_is.1 shown.here in
     works command old end _ _ last [] tt c.accepted.result (λ files. (c.accepted.ensures (ones book) c_is.0 c_is.2 c_is.3 c_is.4))

@@ -16,7 +16,7 @@ returns-in_err-award g c = λ cert.
     let command = award c.args.terms.now c.args.log.now cert c.args.form in
     let old = g.F.Files.folder c.args.files.now in
     let new = g.F.Files.folder c.read_input.new.files in
-    let stopped = stops-next command old old new [] Award AWARD_BYTES AwardAnswers (λ contents t. LogGives t (contents Log) (λ events. BookOfLogGives t events (λ b. PriceGives b (ones b) c.args.form))) c.args.terms.now refl (0, omega arith, refl) (begins command old)
+    let stopped = stops-next command old old new [] Award AWARD_BYTES AwardAnswers (λ contents t. LogGives t (contents Log) (λ events. BookOfLogGives t events (λ b. PriceGives b (ones b) c.args.form))) c.args.terms.now refl (0, omega arith, refl) refl (begins command old)
     c.in_err-award.ensures.loads _ (λ bytes s x. x) (λ files. refl) (λ files. tt) c.in_err-award.field-0.0 c.in_err-award.ensures.stop in
     let is = err_from_is_err_and c.from_residual.result c.from_residual.ensures.1 in
     subst (Works command old new) (sym (is.1 ∙ ap (λ (s : Stop). Err s) is.2)) stopped
@@ -29,9 +29,9 @@ returns-in_err-events g c = λ cert.
     let new = g.F.Files.folder c.read_input-2.new.files in
     let read = c.in_ok-award.ensures.value in
     let terms = c.in_ok-award.award in
-    let at = reads-next command old old mid [] Award AWARD_BYTES AwardAnswers (λ contents t. LogGives t (contents Log) (λ events. BookOfLogGives t events (λ b. PriceGives b (ones b) c.args.form))) c.args.terms.now refl (0, omega arith, refl) (begins command old)
+    let at = reads-next command old old mid [] Award AWARD_BYTES AwardAnswers (λ contents t. LogGives t (contents Log) (λ events. BookOfLogGives t events (λ b. PriceGives b (ones b) c.args.form))) c.args.terms.now refl (0, omega arith, refl) refl (begins command old)
     c.in_ok-award.ensures.loads terms read.bytes read.short read.says read.here in
-    let stopped = stops-next command old mid new _ Log LOG_BYTES (LogAnswers terms) (λ contents events. BookOfLogGives terms events (λ b. PriceGives b (ones b) c.args.form)) c.args.log.now refl (1, omega arith, refl) at
+    let stopped = stops-next command old mid new _ Log LOG_BYTES (LogAnswers terms) (λ contents events. BookOfLogGives terms events (λ b. PriceGives b (ones b) c.args.form)) c.args.log.now refl (1, omega arith, refl) refl at
     c.in_err-events.ensures.loads _ (λ bytes s x. x) (λ files. refl) (λ files. (refl, tt)) c.in_err-events.field-0.0 c.in_err-events.ensures.stop in
     let is = err_from_is_err_and c.from_residual-in_err-events.result c.from_residual-in_err-events.ensures.1 in
     subst (Works command old new) (sym (is.1 ∙ ap (λ (s : Stop). Err s) is.2)) stopped
@@ -49,11 +49,11 @@ returns-in_err-book g c = λ cert.
     let new = g.F.Files.folder c.read_input-2.new.files in
     let read = c.in_ok-award.ensures.value in
     let terms = c.in_ok-award.award in
-    let at = reads-next command old old mid [] Award AWARD_BYTES AwardAnswers (λ contents t. LogGives t (contents Log) (λ events. BookOfLogGives t events (λ b. PriceGives b (ones b) c.args.form))) c.args.terms.now refl (0, omega arith, refl) (begins command old)
+    let at = reads-next command old old mid [] Award AWARD_BYTES AwardAnswers (λ contents t. LogGives t (contents Log) (λ events. BookOfLogGives t events (λ b. PriceGives b (ones b) c.args.form))) c.args.terms.now refl (0, omega arith, refl) refl (begins command old)
     c.in_ok-award.ensures.loads terms read.bytes read.short read.says read.here in
     let stated = c.in_ok-events.ensures.value in
     let events = c.in_ok-events.events in
-    let behind = reads-next command old mid new _ Log LOG_BYTES (LogAnswers terms) (λ contents events. BookOfLogGives terms events (λ b. PriceGives b (ones b) c.args.form)) c.args.log.now refl (1, omega arith, refl) at
+    let behind = reads-next command old mid new _ Log LOG_BYTES (LogAnswers terms) (λ contents events. BookOfLogGives terms events (λ b. PriceGives b (ones b) c.args.form)) c.args.log.now refl (1, omega arith, refl) refl at
     c.in_ok-events.ensures.loads events stated.bytes stated.short stated.says stated.here in
     let stopped = book-stops command old new _ terms events (λ contents. (λ b. PriceGives b (ones b) c.args.form)) c.in_err-book.field-0.0 behind c.in_err-book.ensures in
     search rules
@@ -66,11 +66,11 @@ returns g c = λ cert.
     let new = g.F.Files.folder c.read_input-2.new.files in
     let read = c.in_ok-award.ensures.value in
     let terms = c.in_ok-award.award in
-    let at = reads-next command old old mid [] Award AWARD_BYTES AwardAnswers (λ contents t. LogGives t (contents Log) (λ events. BookOfLogGives t events (λ b. PriceGives b (ones b) c.args.form))) c.args.terms.now refl (0, omega arith, refl) (begins command old)
+    let at = reads-next command old old mid [] Award AWARD_BYTES AwardAnswers (λ contents t. LogGives t (contents Log) (λ events. BookOfLogGives t events (λ b. PriceGives b (ones b) c.args.form))) c.args.terms.now refl (0, omega arith, refl) refl (begins command old)
     c.in_ok-award.ensures.loads terms read.bytes read.short read.says read.here in
     let stated = c.in_ok-events.ensures.value in
     let events = c.in_ok-events.events in
-    let behind = reads-next command old mid new _ Log LOG_BYTES (LogAnswers terms) (λ contents events. BookOfLogGives terms events (λ b. PriceGives b (ones b) c.args.form)) c.args.log.now refl (1, omega arith, refl) at
+    let behind = reads-next command old mid new _ Log LOG_BYTES (LogAnswers terms) (λ contents events. BookOfLogGives terms events (λ b. PriceGives b (ones b) c.args.form)) c.args.log.now refl (1, omega arith, refl) refl at
     c.in_ok-events.ensures.loads events stated.bytes stated.short stated.says stated.here in
     let book = c.in_ok-book.book in
     let last = book-next command old new _ terms events (λ contents. (λ b. PriceGives b (ones b) c.args.form)) book behind c.in_ok-book.ensures in

@@ -12,7 +12,7 @@ returns-in_err-slots g c = λ cert.
     let name = c.args.slots.now in
     let old = g.F.Files.folder c.args.files.now in
     let new = g.F.Files.folder c.read_input.new.files in
-    let stopped = stops-next (place name cert c.args.rounds) old old new [] Slots SLOTS_BYTES SlotsAnswers (λ contents s. PlaceGives s c.args.rounds) name refl (0, omega arith, refl) (begins (place name cert c.args.rounds) old) c.in_err-slots.ensures.loads
+    let stopped = stops-next (place name cert c.args.rounds) old old new [] Slots SLOTS_BYTES SlotsAnswers (λ contents s. PlaceGives s c.args.rounds) name refl (0, omega arith, refl) refl (begins (place name cert c.args.rounds) old) c.in_err-slots.ensures.loads
     _ (λ bytes s x. x) (λ files. refl) (λ files. tt) c.in_err-slots.field-0.0 c.in_err-slots.ensures.stop in
     search rules
 
@@ -22,6 +22,6 @@ returns g c = λ cert.
     let old = g.F.Files.folder c.args.files.now in
     let new = g.F.Files.folder c.read_input.new.files in
     let read = c.in_ok-slots.ensures.value in
-    let at = reads-next (place name cert c.args.rounds) old old new [] Slots SLOTS_BYTES SlotsAnswers (λ contents s. PlaceGives s c.args.rounds) name refl (0, omega arith, refl) (begins (place name cert c.args.rounds) old) c.in_ok-slots.ensures.loads
+    let at = reads-next (place name cert c.args.rounds) old old new [] Slots SLOTS_BYTES SlotsAnswers (λ contents s. PlaceGives s c.args.rounds) name refl (0, omega arith, refl) refl (begins (place name cert c.args.rounds) old) c.in_ok-slots.ensures.loads
     c.in_ok-slots.slots read.bytes read.short read.says read.here in
     works (place name cert c.args.rounds) old new _ _ at (Cert ∷ []) (refl, tt) c.placed.result (λ files. c.placed.ensures)
