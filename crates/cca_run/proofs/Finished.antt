@@ -14,7 +14,7 @@ use Rattle.cca_inputs.specs.declared.status.FileKind.TheVariants.{Award, Log, Bo
 use Rattle.cca_inputs.specs.declared.status.Status.{Status}
 use Rattle.cca_inputs.specs.declared.status.Status.TheVariants.{Done, Words, ReadFault, WriteFault}
 use Rattle.cca_run.specs.Gives.{FilesGive}
-use Rattle.cca_run.specs.Run.{CountsAmong, FailsToWrite, IsWriteFault, Prints}
+use Rattle.cca_run.specs.Run.{AppendsAll, CountsAmong, FailsToWrite, IsWriteFault, Prints}
 use Rattle.cca_run.specs.Works.{FailsAt, FinishEnds, OnlyAppends, OnlyReads, RunEnds}
 use Rattle.cca_run.proofs.Moved.{all-on, upto-on}
 use Rattle.cca_run.proofs.Named.{never-out}
@@ -53,7 +53,7 @@ append-failed command old new before now printed line appended kind result fails
     whole (inr w) h = absurd (subst IsHindered w.0 h)
 
     front : Prints before now line (WriteFault kind) result → result ≡ WriteFault Out → (text : List ℕ) × (n : ℕ) × (n < length text) × Puts before now text n
-        × ((text ≡ printed) ⊎ ((other : FileKind) × FailsAt command appended old new other × (text ≡ status_line (WriteFault other)))) × (HasRoom before.room (length text) → ⊥)
+        × (((text ≡ printed) × AppendsAll command appended old new) ⊎ ((other : FileKind) × FailsAt command appended old new other × (text ≡ status_line (WriteFault other)))) × (HasRoom before.room (length text) → ⊥)
     front (inl w) e = let x : WriteFault kind ≡ WriteFault Out = sym w.0 ∙ e in let same : kind ≡ Out = cc in absurd (not-out same)
     front (inr w) e = let cut = w.2 in (line, cut.0, cut.1, cut.2, inr (kind, fails, is), w.3)
 
@@ -122,7 +122,7 @@ module _ (command : CommandValue) (old mid new : Folder) (before now : Output) (
       f.2,
       f.3,
       λ files agrees. elim f.4 [
-        | inl whole ↦ inl (done printed appended, given files (earlier files agrees), whole)
+        | inl whole ↦ inl (done printed appended, given files (earlier files agrees), whole.0, all-on command old mid new reads.kept appended whole.1)
         | inr x ↦ inr (WriteFault x.0, fails-to x.0 x.1, x.2)
       ],
       f.5,

@@ -6,7 +6,7 @@ use Rattle.std.proofs.lemmas.List.{get_or-replicate}
 use Rattle.auction_outcome.specs.auction_model.specs.Book.{Book, market_of}
 use Rattle.auction_outcome.specs.auction_model.specs.Greatest.{IsWinning}
 use Rattle.auction_outcome.specs.auction_model.specs.Market.{Market}
-use Rattle.auction_outcome.specs.auction_model.specs.Prices.{IsCoreOutcome, Point, weight_of}
+use Rattle.auction_outcome.specs.auction_model.specs.Prices.{AreVickreyPrices, IsCoreOutcome, Point, weight_of}
 use Rattle.auction_outcome.specs.Outcome.{IsAuctionOutcome}
 use Rattle.big_auction.specs.auction_rules.specs.Terms.{Terms}
 use Rattle.big_auction.specs.auction_rules.specs.declared.Event.{Event}
@@ -24,7 +24,7 @@ use Rattle.cca_inputs.specs.cert_form.specs.CertText.{IsCertificate}
 use Rattle.cca_inputs.specs.cert_form.specs.Says.{CertSays, cert_text}
 use Rattle.place_price.specs.cert_laws.specs.BookSizes.{IsWithinSizes}
 use Rattle.place_price.specs.cert_laws.specs.Priced.{IsPricedCert}
-use Rattle.place_price.specs.cert_laws.specs.Sound.{cert_point}
+use Rattle.place_price.specs.cert_laws.specs.Sound.{cert_point, cert_prices}
 use Rattle.place_price.specs.cert_laws.specs.Tests.{bidders_of, states}
 use Rattle.cca_inputs.specs.limits.specs.declared.TheConstants.{AWARD_BYTES, LOG_BYTES, CERT_BYTES, MOST_WINNERS}
 use Rattle.cca_inputs.specs.Answers.{AwardAnswers, CertAnswers, LogAnswers, award_answer, cert_answer}
@@ -36,7 +36,7 @@ use Rattle.cca_inputs.specs.declared.status.FileKind.TheVariants as kinds
 use Rattle.cca_inputs.specs.declared.status.Status.{Status}
 use Rattle.cca_inputs.specs.declared.status.Status.TheVariants.{Done}
 use Rattle.cca_run.specs.Gives.{BookOfLogGives, CertGives, EndGives, FilesGive, IsYesText, LogGives, PriceGives, VerdictGives, cert_file, ones}
-use Rattle.cca_run.specs.Headline.{IsAudited, IsAwarded}
+use Rattle.cca_run.specs.Headline.{HoldsAdmittedBids, IsAudited, IsAwarded, book_of}
 use Rattle.cca_run.proofs.Accepted.{sizes-of, within-says}
 use Rattle.cca_run.proofs.LogBooks.{logged}
 
@@ -135,7 +135,8 @@ has-book records (Err Open) follows o gives ends = let no = sym (ap (λ (x : Out
 one-each : (book : Book) (j : ℕ) → 0 < j → j ≤ (market_of book).bidders → weight_of (ones book) j ≡ 1
 one-each book j some inside = get_or-replicate {A = ℕ} (bidders_of book) (j - 1) 1 0 (omega (arith, some, inside))
 
-module _ (plain : (m : Market) (w : ℕ → ℕ) (z : List ℕ) (p : Point) → ((j : ℕ) → 0 < j → j ≤ m.bidders → w j ≡ 1) → IsWinning m z → IsCoreOutcome m w z p → IsAuctionOutcome m z p) where
+module _ (plain : (m : Market) (w : ℕ → ℕ) (z : List ℕ) (p : Point) → ((j : ℕ) → 0 < j → j ≤ m.bidders → w j ≡ 1) → IsWinning m z → IsCoreOutcome m w z p → IsAuctionOutcome m z p)
+    (admitted : (terms : Terms) (lines : List Event) → HoldsAdmittedBids terms lines (book_of terms lines)) where
   -- a yes, by what is known of each file
   pub audited : (file : List ℕ → Option (List ℕ)) (terms log cert : List ℕ) (o : Outcome) → FilesGive (audit terms log cert) file o → o.status ≡ Done
       → IsAudited file terms log cert o.printed × (o.appended ≡ [])
@@ -163,9 +164,11 @@ module _ (plain : (m : Market) (w : ℕ → ℕ) (z : List ℕ) (p : Point) → 
                 log_states = record { bytes = l.bytes; here = l.here; said = l.says_it };
                 complete = log_of.complete;
               };
+              bids = admitted a.of l.of;
               certificate = c.of;
               cert_states = record { bytes = c.bytes; here = c.here; said = subst (λ (k : Book). CertSays (bidders_of k) (states k) c.bytes (stated c.of)) log_of.is (states-cert b.0 c.bytes c.of c.says_it) };
               outcome = subst (λ (k : Book). IsAuctionOutcome (market_of k) c.of.choice (cert_point c.of)) log_of.is (plain (market_of b.0) (weight_of (ones b.0)) c.of.choice (cert_point c.of) (one-each b.0) sound.winning sound.outcome);
+              vickrey = subst (λ (k : Book). AreVickreyPrices (market_of k) c.of.choice (cert_prices k c.of)) log_of.is sound.vickrey;
               yes = subst (λ (k : Book). IsYesText k c.of o.printed) log_of.is (subst (λ (t : List ℕ). IsYesText b.0 c.of t) (sym (ap (λ (x : Outcome). x.printed) told)) is_yes);
             },
             ap (λ (x : Outcome). x.appended) told,
@@ -199,6 +202,7 @@ module _ (plain : (m : Market) (w : ℕ → ℕ) (z : List ℕ) (p : Point) → 
                   log_states = record { bytes = l.bytes; here = l.here; said = l.says_it };
                   complete = log_of.complete;
                 };
+                bids = admitted a.of l.of;
                 certificate = c;
                 priced = subst (λ (k : Book). IsPricedCert k (weight_of (ones k)) c) log_of.is is.priced;
                 outcome = subst (λ (k : Book). IsAuctionOutcome (market_of k) c.choice (cert_point c)) log_of.is (plain (market_of b.0) (weight_of (ones b.0)) c.choice (cert_point c) (one-each b.0) is.priced.winning is.priced.outcome);

@@ -16,7 +16,9 @@ mod Put
 mod Same
 mod Stopped
 mod LogBooks
+mod AdmittedBids
 mod HeadlineLaws
+mod CompleteLogEnds
 mod CompleteLogs
 mod WordsApart
 mod RunHeadline

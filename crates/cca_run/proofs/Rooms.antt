@@ -111,7 +111,7 @@ module _ (words : List (List ℕ)) (old new : Folder) (before now : Output) (agr
 
   -- no line of a hindrance is due but that of want of memory
   due-line : (status : Status) → IsHindrance (command_of words) old new status → HasRoom before.room (length (status_line status))
-  due-line (ReadFault kind) h = absurd (no-read kind h)
+  due-line (ReadFault kind) h = absurd (no-read kind h.0)
   due-line (WriteFault kind) h = absurd (no-append kind h)
   due-line Memory h = has.line
   due-line Done h = absurd h

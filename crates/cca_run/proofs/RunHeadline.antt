@@ -2,6 +2,8 @@
 use Rattle.std.proofs.Common.{◌≡◌, ◌≢◌, ◌⊎◌, ◌∙◌, ℕ, IsTrue, Option, Some, None, List, [], ◌∷◌, ◌++◌, drop, length, take, refl, sym, ap, subst, arith, inl, inr}
 use Rattle.std.proofs.lemmas.List.{append-nil, take_all}
 use Rattle.std.proofs.Math.Seq.{drop-append_seam}
+use Rattle.big_auction.specs.auction_rules.specs.Terms.{Terms}
+use Rattle.big_auction.specs.auction_rules.specs.declared.Event.{Event}
 use Rattle.cca_inputs.specs.cca_base.specs.Files.{Adds, Agrees, Folder, added}
 use Rattle.cca_inputs.specs.cca_base.specs.Sink.{Output, Puts}
 use Rattle.cca_inputs.specs.Command.{CommandValue, audit, award, command_of}
@@ -14,7 +16,7 @@ use Rattle.cca_inputs.specs.declared.status.FileKind.TheVariants as kinds
 use Rattle.cca_inputs.specs.declared.status.Status.{Status}
 use Rattle.cca_inputs.specs.declared.status.Status.TheVariants.{Done, No, Words, Refused, ReadFault, WriteFault, Memory, Limit}
 use Rattle.cca_run.specs.Gives.{FilesGive, WordsGive, cert_file}
-use Rattle.cca_run.specs.Headline.{CanBeAwarded, IsAudited, IsAwarded}
+use Rattle.cca_run.specs.Headline.{CanBeAwarded, IsAuction, IsAudited, IsAwarded, IsDoneOrLimited}
 use Rattle.cca_run.specs.Later.{HoldsCert, HoldsNothing, after}
 use Rattle.cca_run.specs.Run.{Appended, AppendsAll, HasNoFault, IsReadFault, IsWriteFault, inputs}
 use Rattle.cca_run.specs.Works.{RunEnds}
@@ -133,6 +135,18 @@ module _ (command : Option CommandValue) (old new : Folder) (before now : Output
       → (terms log cert : List ℕ) (form : PriceForm) → command ≡ Some (award terms log cert form) → CanBeAwarded files terms log → (result ≡ Done) ⊎ (result ≡ Memory)
   run-awarded law terms log cert form is can =
       done_or_memory (λ o gives. law files terms log cert form o can (subst (λ (k : Option CommandValue). WordsGive k files o) is gives))
+
+  -- every auction was, or a limit stopped it
+  pub run-ends : ((file : List ℕ → Option (List ℕ)) (terms log cert : List ℕ) (form : PriceForm) (t : Terms) (lines : List Event) (o : Outcome) → IsAuction file terms log t lines
+      → FilesGive (award terms log cert form) file o → IsDoneOrLimited o.status)
+      → (terms log cert : List ℕ) (form : PriceForm) → command ≡ Some (award terms log cert form) → (t : Terms) (lines : List Event) → IsAuction files terms log t lines
+      → IsDoneOrLimited result ⊎ (result ≡ Memory)
+  run-ends law terms log cert form is t lines auction =
+      elim (run-complete command old new before now result ends none) [
+        | inl memory ↦ inr memory
+        | inr decided ↦ (let a = ends.answer files agrees decided in
+            inl (subst IsDoneOrLimited a.2 (law files terms log cert form t lines a.0 auction (subst (λ (k : Option CommandValue). WordsGive k files a.0) is a.1))))
+      ]
 
   -- and its certificate accepted
   pub run-accepted : ((terms log cert : List ℕ) (form : PriceForm) (file later : List ℕ → Option (List ℕ)) (o p : Outcome) → FilesGive (award terms log cert form) file o → HoldsCert (terms ∷ log ∷ []) cert file later o

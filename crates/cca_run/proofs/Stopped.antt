@@ -13,7 +13,7 @@ use Rattle.cca_inputs.specs.declared.status.FileKind.TheVariants.{Out}
 use Rattle.cca_inputs.specs.declared.status.Status.{Status}
 use Rattle.cca_inputs.specs.declared.status.Status.TheVariants.{Words, ReadFault, WriteFault, Memory}
 use Rattle.cca_run.specs.Gives.{FilesGive, WordsGive}
-use Rattle.cca_run.specs.Run.{CountsAmong, FailsToRead, IsHindrance, IsReadFault, IsWriteFault, Prints}
+use Rattle.cca_run.specs.Run.{Appended, CountsAmong, FailsToRead, IsHindrance, IsReadFault, IsWriteFault, Prints}
 use Rattle.cca_run.specs.Works.{OnlyReads, RunEnds, StopsBy, bare, text_before}
 use Rattle.cca_run.specs.declared.work.Stop.{Stop}
 use Rattle.cca_run.proofs.Counts.{among-none}
@@ -90,11 +90,11 @@ module _ (command : CommandValue) (old new : Folder) (before now : Output) (stop
           clash Memory a b = a
           clash s a b = b
 
-  due : (files : List ℕ → Option (List ℕ)) → Agrees files old new → ((o : Outcome) × WordsGive (Some command) files o × (text ≡ o.printed)) ⊎ ((status : Status) × IsHindrance (Some command) old new status × (text ≡ status_line status))
+  due : (files : List ℕ → Option (List ℕ)) → Agrees files old new → ((o : Outcome) × WordsGive (Some command) files o × (text ≡ o.printed) × Appended (Some command) o.appended old new) ⊎ ((status : Status) × IsHindrance (Some command) old new status × (text ≡ status_line status))
   due files agrees = by-way _
-      (λ m. inr (Memory, tt, ap (λ (x : Stop). text_before x ++ status_line x.status) m))
-      (λ kind m f. inr (ReadFault kind, f, ap (λ (x : Stop). text_before x ++ status_line x.status) m))
-      (λ s g. inl (stopped_after (text_before stop) stop.status, g files agrees, refl))
+      (λ m. inr (Memory, (tt, reads.kept), ap (λ (x : Stop). text_before x ++ status_line x.status) m))
+      (λ kind m f. inr (ReadFault kind, (f, reads.kept), ap (λ (x : Stop). text_before x ++ status_line x.status) m))
+      (λ s g. inl (stopped_after (text_before stop) stop.status, g files agrees, refl, reads.kept))
 
   -- the files and the output are as a run that stopped leaves them
   pub stop-ends : RunEnds (Some command) old new before now result

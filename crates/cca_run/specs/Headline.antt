@@ -1,9 +1,12 @@
 -- The headline: from the bytes of three files to the book of a log and the outcome of the auction.
-use Rattle.std.specs.Prelude.{◌≡◌, ◌≤◌, ◌<◌, ℕ, IsTrue, Option, Some, None, List, length, reverse}
-use Rattle.auction_outcome.specs.auction_model.specs.Book.{Book, market_of}
+use Rattle.std.specs.Prelude.{◌≡◌, ◌≤◌, ◌<◌, ◌&&◌, ℕ, IsTrue, Option, Some, None, List, length, not, reverse}
+use Rattle.std.specs.List.{AllByRecursion}
+use Rattle.auction_outcome.specs.auction_model.specs.Book.{Book, bids_of, market_of}
+use Rattle.auction_outcome.specs.auction_model.specs.PackageTests.{is_empty}
 use Rattle.auction_outcome.specs.auction_model.specs.Greatest.{IsWinning}
 use Rattle.auction_outcome.specs.Outcome.{IsAuctionOutcome}
-use Rattle.big_auction.specs.auction_rules.specs.BookOfLog.{book_of_log, is_complete}
+use Rattle.big_auction.specs.auction_rules.specs.BookOfLog.{IsGreatestFor, book_of_log, is_complete, pairs_of}
+use Rattle.big_auction.specs.auction_rules.specs.Replies.{admitted, has_entry, standing}
 use Rattle.big_auction.specs.auction_rules.specs.Terms.{Terms}
 use Rattle.big_auction.specs.auction_rules.specs.declared.Event.{Event}
 use Rattle.big_auction.specs.award_file.specs.Reading.{reading, states}
@@ -11,13 +14,15 @@ use Rattle.big_auction.specs.log_file.specs.LogReading.{AreLog, log_records}
 use Rattle.cca_inputs.specs.cert_form.specs.Certificate.{CertValue}
 use Rattle.cca_inputs.specs.cert_form.specs.Says.{CertSays, cert_text}
 use Rattle.place_price.specs.cert_laws.specs.Priced.{IsPricedCert}
-use Rattle.place_price.specs.cert_laws.specs.Sound.{cert_point}
+use Rattle.place_price.specs.cert_laws.specs.Sound.{cert_point, cert_prices}
 use Rattle.place_price.specs.cert_laws.specs.Tests as tests
 use Rattle.cca_inputs.specs.line_text.specs.LineText.{stated}
-use Rattle.auction_outcome.specs.auction_model.specs.Prices.{weight_of}
+use Rattle.auction_outcome.specs.auction_model.specs.Prices.{AreVickreyPrices, weight_of}
 use Rattle.cca_inputs.specs.limits.specs.declared.TheConstants.{AWARD_BYTES, LOG_BYTES, MOST_WINNERS}
 use Rattle.log_replay.specs.ReplyLines.{first_refusal}
 use Rattle.big_auction.specs.row_laws.specs.Winners.{winners_in}
+use Rattle.cca_inputs.specs.declared.status.Status.{Status}
+use Rattle.cca_inputs.specs.declared.status.Status.TheVariants.{Done, No, Words, Refused, ReadFault, WriteFault, Memory, Limit}
 use Rattle.cca_run.specs.Gives.{IsYesText, ones}
 
 -- the file of this name holds bytes of which this is so
@@ -36,16 +41,28 @@ pub record IsAuction (file : List ℕ → Option (List ℕ)) (award log : List �
 abbrev pub book_of : Terms → List Event → Book
 book_of terms lines = book_of_log terms (reverse lines)
 
--- Whenever `audit` says yes: the award and the log state an auction; the certificate is one of the book that the rules admit; and of that
--- book its winners are the first feasible choice of greatest net value, no coalition blocks its prices, their sum is least in the core,
--- and every other core point of that sum lies farther from the Vickrey point. What was printed is `yes` and that outcome.
+-- The book has the bidders of the award. Of each it has a bid for each package that isn't empty and stands among its admitted clock bids or
+-- in its last admitted list, and for no other; and the amount of each bid stands for its package there and is the greatest that does.
+pub record HoldsAdmittedBids (terms : Terms) (lines : List Event) (book : Book) : Type 0 where
+  pub bidders : length book.bidders ≡ length terms.bidders
+  pub packages : (j : ℕ) → 1 ≤ j → j ≤ length terms.bidders → (lots : List ℕ) → has_entry lots (bids_of book j)
+      ≡ (not (is_empty lots) && has_entry lots (pairs_of (standing terms (admitted terms (reverse lines)) j)))
+  pub amounts : (j : ℕ) → 1 ≤ j → j ≤ length terms.bidders
+      → AllByRecursion (IsGreatestFor (pairs_of (standing terms (admitted terms (reverse lines)) j))) (bids_of book j)
+
+-- Whenever `audit` says yes: the award and the log state an auction; the certificate is one of the book, which holds exactly the bids that
+-- the rules admit; and of that book its winners are the first feasible choice of greatest net value, no coalition blocks its prices, their sum is least in the core,
+-- and every other core point of that sum lies farther from the Vickrey point. What was printed is `yes` and that outcome, with the Vickrey
+-- prices.
 pub record IsAudited (file : List ℕ → Option (List ℕ)) (award log cert printed : List ℕ) : Type 0 where
   pub terms : Terms
   pub lines : List Event
   pub auction : IsAuction file award log terms lines
+  pub bids : HoldsAdmittedBids terms lines (book_of terms lines)
   pub certificate : CertValue
   pub cert_states : FileHolds file cert (λ bytes. CertSays (tests.bidders_of (book_of terms lines)) (tests.states (book_of terms lines)) bytes (stated certificate))
   pub outcome : IsAuctionOutcome (market_of (book_of terms lines)) certificate.choice (cert_point certificate)
+  pub vickrey : AreVickreyPrices (market_of (book_of terms lines)) certificate.choice (cert_prices (book_of terms lines) certificate)
   pub yes : IsYesText (book_of terms lines) certificate printed
 
 -- Whenever `award` is done: the award and the log state an auction, and the text that was appended is that of a certificate of its book
@@ -54,6 +71,7 @@ pub record IsAwarded (file : List ℕ → Option (List ℕ)) (award log text : L
   pub terms : Terms
   pub lines : List Event
   pub auction : IsAuction file award log terms lines
+  pub bids : HoldsAdmittedBids terms lines (book_of terms lines)
   pub certificate : CertValue
   pub priced : IsPricedCert (book_of terms lines) (weight_of (ones (book_of terms lines))) certificate
   pub outcome : IsAuctionOutcome (market_of (book_of terms lines)) certificate.choice (cert_point certificate)
@@ -70,3 +88,14 @@ pub record CanBeAwarded (file : List ℕ → Option (List ℕ)) (award log : Lis
   pub short_log : FileHolds file log (λ bytes. length bytes ≤ LOG_BYTES)
   pub never_limited : first_refusal terms (reverse lines) ≡ None
   pub few : (winners : List ℕ) → IsWinning (market_of (book_of terms lines)) winners → winners_in winners ≤ MOST_WINNERS
+
+-- done, or stopped by a limit
+abbrev pub IsDoneOrLimited : Status → Type 0
+IsDoneOrLimited Done = Unit {0}
+IsDoneOrLimited (No kind test place) = ⊥
+IsDoneOrLimited Words = ⊥
+IsDoneOrLimited (Refused file place entry) = ⊥
+IsDoneOrLimited (ReadFault file) = ⊥
+IsDoneOrLimited (WriteFault file) = ⊥
+IsDoneOrLimited Memory = ⊥
+IsDoneOrLimited (Limit which count) = Unit {0}

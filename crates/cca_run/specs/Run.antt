@@ -87,27 +87,28 @@ abbrev pub IsPlain : Option CommandValue → Type 0
 IsPlain None = ⊥
 IsPlain (Some command) = Unit {0}
 
--- a fault of a file or want of memory, each with its cause
+-- a fault of a file or want of memory, each with its cause; no file changed but by the appends before a failed one
 abbrev pub IsHindrance : Option CommandValue → Folder → Folder → Status → Type 0
 IsHindrance command old new Done = ⊥
 IsHindrance command old new (No kind test place) = ⊥
 IsHindrance command old new Words = ⊥
 IsHindrance command old new (Refused file place entry) = ⊥
-IsHindrance command old new (ReadFault kind) = IsReadFault command old new kind
+IsHindrance command old new (ReadFault kind) = IsReadFault command old new kind × KeepsFiles old new
 IsHindrance command old new (WriteFault kind) = IsFileFault command old new kind
-IsHindrance command old new Memory = IsPlain command
+IsHindrance command old new Memory = IsPlain command × KeepsFiles old new
 IsHindrance command old new (Limit which count) = ⊥
-
--- A text that was due to be printed: that of the result, or the line of a hindrance whose own cause holds.
-abbrev pub IsDue : List (List ℕ) → (List ℕ → Option (List ℕ)) → Folder → Folder → List ℕ → Type 0
-IsDue words files old new text =
-    ((o : Outcome) × Gives words files o × (text ≡ o.printed))
-    ⊎ ((status : Status) × IsHindrance (command_of words) old new status × (text ≡ status_line status))
 
 -- what a command appends was appended whole
 abbrev pub Appended : Option CommandValue → List FileText → Folder → Folder → Type 0
 Appended None appended old new = KeepsFiles old new
 Appended (Some command) appended old new = AppendsAll command appended old new
+
+-- A text that was due to be printed: that of the result, and then all that it appends was appended; or the line of a hindrance whose own
+-- cause holds.
+abbrev pub IsDue : List (List ℕ) → (List ℕ → Option (List ℕ)) → Folder → Folder → List ℕ → Type 0
+IsDue words files old new text =
+    ((o : Outcome) × Gives words files o × (text ≡ o.printed) × Appended (command_of words) o.appended old new)
+    ⊎ ((status : Status) × IsHindrance (command_of words) old new status × (text ≡ status_line status))
 
 -- The texts that the command gives were appended, whole and in order, up to some place.
 pub record Grows (command : CommandValue) (old new : Folder) : Type 0 where

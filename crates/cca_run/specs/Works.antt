@@ -123,7 +123,7 @@ pub record RunEnds (command : Option CommandValue) (old new : Folder) (before no
   pub line : (result ≡ Words) ⊎ IsHindered result → Puts before now (status_line result) (length (status_line result))
   pub front : result ≡ WriteFault Out → (text : List ℕ) × (n : ℕ) × (n < length text) × Puts before now text n
       × ((files : List ℕ → Option (List ℕ)) → Agrees files old new
-      → ((o : Outcome) × WordsGive command files o × (text ≡ o.printed))
+      → ((o : Outcome) × WordsGive command files o × (text ≡ o.printed) × Appended command o.appended old new)
       ⊎ ((status : Status) × IsHindrance command old new status × (text ≡ status_line status)))
       × (HasRoom before.room (length text) → ⊥)
   pub kept : KeepsAll result → KeepsFiles old new
@@ -142,7 +142,7 @@ pub record FinishEnds (command : CommandValue) (old new : Folder) (before now : 
       → ((kind ≡ Out) × Rose before.faults now.faults) ⊎ (FailsAt command appended old new kind)
   pub line : IsHindered result → Puts before now (status_line result) (length (status_line result))
   pub front : result ≡ WriteFault Out → (text : List ℕ) × (n : ℕ) × (n < length text) × Puts before now text n
-      × ((text ≡ printed)
+      × (((text ≡ printed) × AppendsAll command appended old new)
       ⊎ ((kind : FileKind) × FailsAt command appended old new kind × (text ≡ status_line (WriteFault kind))))
       × (HasRoom before.room (length text) → ⊥)
   pub files : AppendsAll command appended old new ⊎ ((kind : FileKind) × AppendsUpTo command kind appended old new)

@@ -4,17 +4,20 @@ ghost use Rattle.auction_outcome.specs.auction_model.specs.Book.{Book};
 ghost use Rattle.place_price.specs.cert_laws.specs.Tests.{bidders_of};
 ghost use Rattle.place_outcome.specs.core_price.specs.Weights.{FewWin, ManyWin};
 ghost use Rattle.cca_inputs.specs.limits.specs.declared.TheConstants.{MOST_WINNERS};
+ghost use Rattle.big_auction.specs.auction_rules.specs.Terms.{Terms};
+ghost use Rattle.big_auction.specs.auction_rules.specs.declared.Event.{Event};
 ghost use Rattle.big_auction.specs.row_laws.specs.Winners.{winners_in};
 ghost use Rattle.cca_inputs.specs.Command.{form_with, price, check, award, audit};
 ghost use Rattle.cca_inputs.specs.Outcome.{Outcome};
 ghost use Rattle.cca_inputs.specs.declared.price_form.PriceForm.{PriceForm};
 ghost use Rattle.cca_inputs.specs.declared.status.Status.TheVariants.{Done};
 ghost use Rattle.cca_run.specs.Gives.{FilesGive, Gives, cert_file, ones};
-ghost use Rattle.cca_run.specs.Headline.{CanBeAwarded, IsAudited, IsAwarded};
+ghost use Rattle.cca_run.specs.Headline.{CanBeAwarded, IsAuction, IsAudited, IsAwarded, IsDoneOrLimited};
 ghost use Rattle.cca_run.specs.Later.{HoldsCert};
 
 use auction_outcome::auction_model::{book_market, core_outcome, vickrey_prices, winning_choice};
 use auction_outcome::plain_outcome;
+use big_auction::auction_rules::{bidders_of_book, bids_of_book};
 use big_auction::award_file::book_of_award;
 use big_auction::log_file::{one_reading, packages_of_log};
 use cca_inputs::bid_book::one_book;
@@ -100,6 +103,8 @@ pub fn headline()
         → (text : List ℕ) × IsAwarded file terms log text × (o.appended ≡ cert_file text ∷ []) }
 {
     plain_outcome();
+    bidders_of_book();
+    bids_of_book();
     packages_of_log();
     book_of_award();
     short_text();
@@ -126,6 +131,15 @@ pub fn awarded_cert_passes()
     one_price_text();
     book_of_award();
     packages_of_log();
+}
+
+/// For every auction, whose log is complete, `award` gives Done, or a limit stops it: of bytes, of rounds or of a price, or of winners.
+pub fn complete_log_ends()
+    ensures { (file : List ℕ → Option (List ℕ)) (terms log cert : List ℕ) (form : PriceForm) (t : Terms)
+        (lines : List Event) (o : Outcome) → IsAuction file terms log t lines
+        → FilesGive (award terms log cert form) file o → IsDoneOrLimited o.status }
+{
+    one_reading();
 }
 
 /// `award` gives Done exactly where the award and the log state an auction within the limits.

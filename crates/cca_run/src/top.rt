@@ -1,5 +1,7 @@
 // The top call.
 ghost use Rattle.std.specs.Prelude.{◌≡◌, ◌⊎◌, ◌≤◌, ◌<◌, ◌∷◌, ℕ, List, [], length, map, string_bytes, All, IsTrue, Option, Some, None};
+ghost use Rattle.big_auction.specs.auction_rules.specs.Terms.{Terms};
+ghost use Rattle.big_auction.specs.auction_rules.specs.declared.Event.{Event};
 ghost use Rattle.cca_inputs.specs.cca_base.specs.Files.{Agrees, KeepsFiles};
 ghost use Rattle.cca_inputs.specs.cca_base.specs.Sink.{Puts};
 ghost use Rattle.cca_inputs.specs.Command.{audit, award, command_of};
@@ -11,14 +13,16 @@ ghost use Rattle.cca_inputs.specs.declared.price_form.PriceForm.{PriceForm};
 ghost use Rattle.cca_inputs.specs.declared.status.FileKind.{FileKind};
 ghost use Rattle.cca_inputs.specs.declared.status.Status.{Status};
 ghost use Rattle.cca_run.specs.Gives.{FilesGive, Gives, cert_file};
-ghost use Rattle.cca_run.specs.Headline.{CanBeAwarded, IsAudited, IsAwarded};
+ghost use Rattle.cca_run.specs.Headline.{CanBeAwarded, IsAuction, IsAudited, IsAwarded, IsDoneOrLimited};
 ghost use Rattle.cca_run.specs.Later.{HoldsCert, HoldsNothing, after};
 ghost use Rattle.cca_run.specs.Rooms.{HasRooms};
 ghost use Rattle.cca_run.specs.Run.{Appended, AppendsAll, Changes, CountsAmong, HasNoFault, IsDue, IsReadFault, IsWriteFault, inputs, outputs};
 ghost use Rattle.cca_run.specs.Works.{AreOutputs, FinishEnds, RunEnds};
 
 use crate::append::append_all;
-use crate::laws::{awarded_cert_passes, complete_log_is_awarded, headline};
+use crate::laws::{
+    awarded_cert_passes, complete_log_ends, complete_log_is_awarded, headline,
+};
 use crate::print::{print, print_stop};
 use crate::work::Work;
 use crate::work::commands::work_out;
@@ -120,6 +124,15 @@ pub fn run<F: Files, O: Sink>(alloc: Global, words: &[String], files: &mut F, ou
         → result ≡ Status.Done → (text : List ℕ) × IsAwarded given terms log text
         × AppendsAll (award terms log cert form) (cert_file text ∷ []) (F.folder files.old) (F.folder files.new) }
 
+    // For every complete log `award` is done, with such a certificate, or stopped by a limit; but for a fault that was counted, and want of
+    // memory.
+    ensures every_log { (terms log cert : List ℕ) (form : PriceForm)
+        → command_of (map string_bytes words.now) ≡ Some (award terms log cert form)
+        → (given : List ℕ → Option (List ℕ)) → Agrees given (F.folder files.old) (F.folder files.new)
+        → (t : Terms) (lines : List Event) → IsAuction given terms log t lines
+        → HasNoFault (command_of (map string_bytes words.now)) (F.folder files.old) (F.folder files.new)
+        (O.output out.old) (O.output out.new) → IsDoneOrLimited result ⊎ (result ≡ Status.Memory) }
+
     // Its other half: `award` writes such a certificate for every auction within the limits, and `audit` over the same bytes says yes, where
     // the certificate's file held nothing before; but for a fault that was counted, and want of memory.
     ensures awarded { (terms log cert : List ℕ) (form : PriceForm)
@@ -200,6 +213,7 @@ pub fn run<F: Files, O: Sink>(alloc: Global, words: &[String], files: &mut F, ou
     ensures faults { (O.output out.old).faults ≤ (O.output out.new).faults }
 {
     headline();
+    complete_log_ends();
     complete_log_is_awarded();
     awarded_cert_passes();
     match read_command(words) {

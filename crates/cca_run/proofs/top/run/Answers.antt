@@ -2,7 +2,7 @@ use Rattle.std.proofs.Common.{Option, map, string_bytes, subst}
 use Rattle.cca_inputs.specs.Command.{CommandValue}
 use Rattle.cca_run.specs.Works.{RunEnds}
 use Rattle.cca_run.proofs.Rooms.{run-roomy}
-use Rattle.cca_run.proofs.RunHeadline.{run-accepted, run-audit, run-award, run-awarded, run-complete, run-given, run-hands_behind, run-hands_on}
+use Rattle.cca_run.proofs.RunHeadline.{run-accepted, run-audit, run-award, run-awarded, run-complete, run-ends, run-given, run-hands_behind, run-hands_on}
 use Rattle.cca_run.proofs.top.run.Goals as goal
 
 pub returns-in-Some-clause-front : goal.returns-in-Some-clause-front
@@ -121,3 +121,11 @@ returns-in-None-clause-given g c =
     let folder = g.F.Files.folder c.args.files.now in
     let ends = subst (λ (x : Option CommandValue). RunEnds x folder folder (g.O.Sink.output c.args.out.now) (g.O.Sink.output c.tell_words.new.out) c.tell_words.result) c.in-None.ensures.command c.tell_words.ensures.ends in
     run-given (map string_bytes c.args.words.now) folder folder _ _ c.tell_words.result ends
+
+pub returns-in-Some-clause-every_log : goal.returns-in-Some-clause-every_log
+returns-in-Some-clause-every_log g c =
+    let old = g.F.Files.folder c.args.files.now in
+    let new = g.F.Files.folder c.run_command.new.files in
+    let ends = subst (λ (x : Option CommandValue). RunEnds x old new (g.O.Sink.output c.args.out.now) (g.O.Sink.output c.run_command.new.out) c.run_command.result) c.in-Some.ensures.command c.run_command.ensures.ends in
+    λ terms log cert form is files agrees t lines auction none.
+    run-ends _ old new _ _ c.run_command.result ends files agrees none c.complete_log_ends.ensures terms log cert form is t lines auction
