@@ -9,7 +9,7 @@ use Rattle.std.proofs.lemmas.Slice.Eq.{bytes_eq-Decides}
 use Rattle.std.proofs.lemmas.List.Folds.{find-set, find_past, list_any_at, list_any_more, list_any-append}
 use Rattle.std.proofs.lemmas.List.Quantifiers.{all_pairs_push}
 use Rattle.std.proofs.Math.Bool.{or-false, or-true}
-use Rattle.cca_base.specs.Faults.{Rose}
+use Rattle.cca_base.specs.Faults.{Rose, one_more}
 use Rattle.cca_base.specs.Files.{CountsOnly}
 
 -- the first entry that passes, and where it stands
@@ -127,6 +127,14 @@ counts_rose count name before after old new change rose =
     let was : view (before name) ≡ count old = ap view change.was in
     let is : view (after name) ≡ count new = ap view change.is in
     λ below. omega (arith, rose (omega arith))
+
+-- if the count of the changed entry became one more, so did the count that its name looks up
+pub counts_one : {A : Type 0} (count : A → ℕ) (name : List ℕ) (before after : List ℕ → Option A) (old new : A)
+    → ChangesOne name before after old new → count new ≡ one_more (count old)
+    → option_map_or count (after name) 0 ≡ one_more (option_map_or count (before name) 0)
+counts_one count name before after old new change more =
+    let view : Option _ → ℕ = λ o. option_map_or count o 0 in
+    ap view change.is ∙ more ∙ sym (ap (λ (o : Option _). one_more (view o)) change.was)
 
 -- what reads both entries alike is the same of all names
 pub views_same : {A B : Type 0} (view : Option A → B) (name : List ℕ) (before after : List ℕ → Option A) (old new : A)

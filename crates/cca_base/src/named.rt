@@ -2,7 +2,7 @@
 ghost use Rattle.std.specs.Prelude.{◌≡◌, ◌≢◌, ◌<◌, ℕ, Bool, List, All, AllPairs, find, length, position, string_bytes, IsTrue, IfOk};
 ghost use Rattle.std.specs.List.{list_any, position_or_len};
 ghost use Rattle.std.specs.Str.{bytes_eq};
-ghost use Rattle.cca_base.specs.Faults.{Rose};
+ghost use Rattle.cca_base.specs.Faults.{Rose, one_more};
 ghost use Rattle.cca_base.specs.Files.{KeepsFiles, CountsOnly};
 ghost use Rattle.cca_base.specs.Entries.{Seen, KeepsButLoads, KeepsButAppends, folder_of};
 
@@ -95,6 +95,8 @@ pub(crate) fn count_load_fault<F: Named>(files: &mut [F], name: &str)
         (folder_of F.seen F.told files.new).load_faults }
     ensures rose { Rose ((folder_of F.seen F.told files.old).load_faults name.now)
         ((folder_of F.seen F.told files.new).load_faults name.now) }
+    ensures counted { (folder_of F.seen F.told files.new).load_faults name.now
+        ≡ one_more ((folder_of F.seen F.told files.old).load_faults name.now) }
     ensures appends { (folder_of F.seen F.told files.new).append_faults
         ≡ (folder_of F.seen F.told files.old).append_faults }
 {
@@ -111,6 +113,8 @@ pub(crate) fn count_append_fault<F: Named>(files: &mut [F], name: &str)
         (folder_of F.seen F.told files.new).append_faults }
     ensures rose { Rose ((folder_of F.seen F.told files.old).append_faults name.now)
         ((folder_of F.seen F.told files.new).append_faults name.now) }
+    ensures counted { (folder_of F.seen F.told files.new).append_faults name.now
+        ≡ one_more ((folder_of F.seen F.told files.old).append_faults name.now) }
     ensures loads { (folder_of F.seen F.told files.new).load_faults ≡ (folder_of F.seen F.told files.old).load_faults }
 {
     let place = place_of(files, name);

@@ -1,7 +1,7 @@
 // One file in memory that was reserved when the file was made.
 ghost use Rattle.std.specs.Prelude.{◌≡◌, ◌++◌, ◌<◌, length, take, Some, unwrap_or, [], IsTrue, IsSomeAnd, OnOk, OnErr};
 ghost use Rattle.std.specs.Option.{option_map};
-ghost use Rattle.cca_base.specs.Faults.{Rose};
+ghost use Rattle.cca_base.specs.Faults.{Rose, one_more};
 ghost use Rattle.cca_base.specs.Files.{KeepsFiles, CountsOnly, Becomes};
 ghost use Rattle.cca_base.specs.CleanFiles.{clean_folder};
 
@@ -96,6 +96,8 @@ pub(crate) fn add_to(files: &mut [CleanFile], name: &str, piece: &[u8]) -> Resul
     ensures count { CountsOnly name.now (clean_folder files.old).append_faults (clean_folder files.new).append_faults }
     ensures rose { OnErr result
         (Rose ((clean_folder files.old).append_faults name.now) ((clean_folder files.new).append_faults name.now)) }
+    ensures counted { OnErr result
+        ((clean_folder files.new).append_faults name.now ≡ one_more ((clean_folder files.old).append_faults name.now)) }
     ensures loads { (clean_folder files.new).load_faults ≡ (clean_folder files.old).load_faults }
 {
     if add_bytes(files, name, piece).is_err() {

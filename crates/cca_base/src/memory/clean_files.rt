@@ -2,7 +2,7 @@
 ghost use Rattle.std.specs.Prelude.{◌≡◌, ◌∷◌, take, ◌<◌, ◌≤◌, ◌^◌, ◌-◌, min, ℕ, List, length, string_bytes, [], Some, IfOk, IsOk, IsTrue, refl, IsSomeAnd, OnOk, OnErr};
 ghost use Rattle.std.specs.List.{list_any};
 ghost use Rattle.std.specs.Str.{bytes_eq};
-ghost use Rattle.cca_base.specs.Faults.{Rose};
+ghost use Rattle.cca_base.specs.Faults.{Rose, one_more};
 ghost use Rattle.cca_base.specs.Files.{KeepsFiles, CountsOnly, Stands, Appends};
 ghost use Rattle.cca_base.specs.CleanFiles.{clean_folder, clean_seen};
 ghost use Rattle.cca_base.specs.Entries.{entry_of, roomy_by, with_gave};
@@ -110,6 +110,8 @@ impl Files for CleanFiles {
         ensures cause { OnErr result
             (Rose ((clean_folder self.old.files.items).append_faults name.now)
             ((clean_folder self.new.files.items).append_faults name.now)) }
+        ensures counted { OnErr result ((clean_folder self.new.files.items).append_faults name.now
+            ≡ one_more ((clean_folder self.old.files.items).append_faults name.now)) }
 
         // The whole piece, or a failure exactly where it is longer than the room.
         ensures bytes { IfOk result

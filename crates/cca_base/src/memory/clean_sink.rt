@@ -1,6 +1,6 @@
 // An output in memory that was reserved when the output was made.
 ghost use Rattle.std.specs.Prelude.{◌≡◌, ◌+◌, ◌≤◌, ◌<◌, ◌++◌, length, Some, [], IfOk, OnOk, OnErr};
-ghost use Rattle.cca_base.specs.Faults.{Rose};
+ghost use Rattle.cca_base.specs.Faults.{Rose, one_more};
 ghost use Rattle.cca_base.specs.Buffers.{held, left};
 
 use crate::buffer::Buffer;
@@ -47,6 +47,7 @@ impl Sink for CleanSink {
         ensures count { self.old.faults ≤ self.new.faults }
         ensures quiet { OnOk result (self.new.faults ≡ self.old.faults) }
         ensures cause { OnErr result (Rose self.old.faults self.new.faults) }
+        ensures counted { OnErr result (self.new.faults ≡ one_more self.old.faults) }
 
         // The whole piece, or a failure exactly where it is longer than the room.
         ensures bytes { IfOk result

@@ -1,7 +1,7 @@
 // One file in memory, and changes of one file in a list of them.
 ghost use Rattle.std.specs.Prelude.{◌≡◌, ◌++◌, ◌-◌, length, min, take, drop, unwrap_or, [], Some, IsTrue, OnOk, OnErr};
 ghost use Rattle.std.specs.Option.{option_map};
-ghost use Rattle.cca_base.specs.Faults.{Rose};
+ghost use Rattle.cca_base.specs.Faults.{Rose, one_more};
 ghost use Rattle.cca_base.specs.Files.{KeepsFiles, CountsOnly, Becomes};
 ghost use Rattle.cca_base.specs.MemFiles.{bytes_in, mem_folder};
 
@@ -120,6 +120,8 @@ pub(crate) fn add_to(
     ensures count { CountsOnly name.now (mem_folder files.old).append_faults (mem_folder files.new).append_faults }
     ensures rose { OnErr result
         (Rose ((mem_folder files.old).append_faults name.now) ((mem_folder files.new).append_faults name.now)) }
+    ensures counted { OnErr result
+        ((mem_folder files.new).append_faults name.now ≡ one_more ((mem_folder files.old).append_faults name.now)) }
     ensures loads { (mem_folder files.new).load_faults ≡ (mem_folder files.old).load_faults }
 {
     if add_bytes(alloc, files, name, piece).is_err() {

@@ -3,7 +3,7 @@ ghost use Rattle.std.specs.Prelude.{◌≡◌, ◌≢◌, ◌∷◌, take, ◌+�
 ghost use Rattle.std.specs.List.{list_any};
 ghost use Rattle.std.specs.Option.{option_map};
 ghost use Rattle.std.specs.Str.{bytes_eq};
-ghost use Rattle.cca_base.specs.Faults.{Rose};
+ghost use Rattle.cca_base.specs.Faults.{Rose, one_more};
 ghost use Rattle.cca_base.specs.Files.{KeepsFiles, CountsOnly, Stands, Becomes, Appends};
 ghost use Rattle.cca_base.specs.MemFiles.{entry, mem_folder, mem_seen};
 ghost use Rattle.cca_base.specs.Entries.{roomy_by, with_gave};
@@ -127,6 +127,8 @@ impl Files for MemFiles {
         ensures cause { OnErr result
             (Rose ((mem_folder self.old.files.items).load_faults name.now)
             ((mem_folder self.new.files.items).load_faults name.now)) }
+        ensures counted { OnErr result ((mem_folder self.new.files.items).load_faults name.now
+            ≡ one_more ((mem_folder self.old.files.items).load_faults name.now)) }
         ensures missing { (mem_folder self.old.files.items).file name.now ≡ None → IsErr result }
 
         // Exactly where the number of the load is listed or the file is missing, and exactly so many bytes.
@@ -182,6 +184,8 @@ impl Files for MemFiles {
         ensures cause { OnErr result
             (Rose ((mem_folder self.old.files.items).append_faults name.now)
             ((mem_folder self.new.files.items).append_faults name.now)) }
+        ensures counted { OnErr result ((mem_folder self.new.files.items).append_faults name.now
+            ≡ one_more ((mem_folder self.old.files.items).append_faults name.now)) }
 
         // Exactly where the number of the append is listed or `refused` rose.
         ensures number { self.new.appends ≡ min (self.old.appends + 1) (2 ^ 64 - 1) }

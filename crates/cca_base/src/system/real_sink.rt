@@ -2,18 +2,36 @@
 ghost use Rattle.std.specs.Prelude.{◌≡◌, [], None};
 ghost use Rattle.cca_base.specs.Given.{all_bytes};
 
-use crate::sink::taken;
-use crate::trace::{Call, Trace};
+use crate::system::calls::{OutputCalls, SystemOutput};
 use crate::{Failed, Sink};
-use std::io;
-use std::io::Write;
+
+// An output over calls of which no more is known than their clauses say. It took what the calls were answered.
+#[derive(Drop)]
+struct CountedSink<C: Drop> {
+    calls: C,
+    faults: u64,
+}
+
+impl<C: OutputCalls> Sink for CountedSink<C> {
+    ghost output = { λ s. record { bytes = all_bytes (C.took s.calls); faults = s.faults; room = None } };
+
+    fn put(&mut self, piece: &[u8]) -> Result<usize, Failed> {
+        let put = self.calls.put(piece);
+        if put.is_err() {
+            self.faults = self.faults.saturating_add(1);
+        }
+        put
+    }
+
+    fn faults(&self) -> u64 {
+        self.faults
+    }
+}
 
 /// Standard output. What was put has reached the system when `put` answers.
 #[derive(Drop)]
 pub struct RealSink<R: Print + Drop> {
-    rt: R,
-    faults: u64,
-    took: Trace,
+    counted: CountedSink<SystemOutput<R>>,
 }
 
 impl<R: Print + Drop> RealSink<R> {
@@ -23,33 +41,22 @@ impl<R: Print + Drop> RealSink<R> {
         ensures faults { (⟦<RealSink<R> as Sink>⟧.output result).faults ≡ 0 }
     {
         RealSink {
-            rt,
-            faults: 0,
-            took: Trace::new(),
+            counted: CountedSink {
+                calls: SystemOutput::new(rt),
+                faults: 0,
+            },
         }
     }
 }
 
 impl<R: Print + Drop> Sink for RealSink<R> {
-    ghost output = { λ s. record { bytes = all_bytes s.took.calls; faults = s.faults; room = None } };
+    ghost output = { λ s. ⟦<CountedSink<SystemOutput<R>> as Sink>⟧.output s.counted };
 
     fn put(&mut self, piece: &[u8]) -> Result<usize, Failed> {
-        let put = taken(io::writer(&self.rt).write(piece), piece.len());
-        match put {
-            Ok(n) => {
-                self.took = self.took.with(&Call {
-                    name: "",
-                    at: 0,
-                    room: piece.len(),
-                    bytes: &piece[..n],
-                });
-            }
-            Err(_) => self.faults = self.faults.saturating_add(1),
-        }
-        put
+        self.counted.put(piece)
     }
 
     fn faults(&self) -> u64 {
-        self.faults
+        self.counted.faults()
     }
 }

@@ -1,5 +1,5 @@
-use Rattle.std.proofs.Common.{rules, ℕ, List, subst}
-use Rattle.cca_base.specs.Faults.{Rose}
+use Rattle.std.proofs.Common.{◌≡◌, rules, ℕ, List, subst}
+use Rattle.cca_base.specs.Faults.{Rose, one_more}
 use Rattle.cca_base.specs.Files.{KeepsFiles, CountsOnly}
 use Rattle.cca_base.specs.CleanFiles.{clean_folder}
 use Rattle.cca_base.proofs.Folders.{counts_still}
@@ -21,6 +21,10 @@ returns-then-is_err-clause-count c = subst (λ (f : List ℕ → ℕ). CountsOnl
 
 pub returns-then-is_err-clause-rose : goal.returns-then-is_err-clause-rose
 returns-then-is_err-clause-rose c = subst (λ (f : List ℕ → ℕ). Rose (f c.args.name.now) ((clean_folder c.count_append_fault.new.files).append_faults c.args.name.now)) c.add_bytes.ensures.appends c.count_append_fault.ensures.rose
+
+pub returns-then-is_err-clause-counted : goal.returns-then-is_err-clause-counted
+returns-then-is_err-clause-counted c =
+    subst (λ (f : List ℕ → ℕ). (clean_folder c.count_append_fault.new.files).append_faults c.args.name.now ≡ one_more (f c.args.name.now)) c.add_bytes.ensures.appends c.count_append_fault.ensures.counted
 
 pub returns-clause-count : goal.returns-clause-count
 returns-clause-count c = counts_still c.args.name.now _ _ c.add_bytes.ensures.appends
