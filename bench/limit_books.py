@@ -3,7 +3,7 @@ import itertools, os, random, resource, subprocess
 
 HERE = os.path.dirname(os.path.realpath(__file__))
 OUT = os.path.join(HERE, "out")
-CCA = os.path.join(HERE, "..", "crates", "cca", "out", "cca")
+CCA = os.path.join(HERE, "..", "crates", "cca", "out", "cca.built")
 BIDDERS, SUPPLY, RESERVE = 16, (6, 8, 8, 13, 1), (1000, 1500, 100, 10, 400)
 KINDS = ("small", "random", "halves")
 
