@@ -85,21 +85,6 @@ entry_here name_of xs name i d known first =
     let at = first_found (named name_of name) xs known in
     at.found ∙ ap Some (sym (ap (λ (k : ℕ). get_or xs k d) first ∙ at.here d))
 
--- the name of the entry at the first place of a known name
-pub name_here : {A : Type 0} (name_of : A → List ℕ) (xs : List A) (name : List ℕ) (i : ℕ) → is_some (find (named name_of name) xs) ≡ true
-    → i ≡ position_or_len (named name_of name) xs → (d : A) → name_of (get_or xs i d) ≡ name
-name_here name_of xs name i known first d =
-    let at = first_found (named name_of name) xs known in
-    let here : get_or xs i d ≡ at.entry = ap (λ (k : ℕ). get_or xs k d) first ∙ at.here d in
-    (bytes_eq-Decides (name_of (get_or xs i d)) name).0 (ap (named name_of name) here ∙ at.passes)
-
--- a name of the entry at that place, whatever stands outside of the list, is that name
-pub only_name : {A : Type 0} (name_of : A → List ℕ) (xs : List A) (name other : List ℕ) (i : ℕ) → is_some (find (named name_of name) xs) ≡ true
-    → i ≡ position_or_len (named name_of name) xs → ((d : A) → other ≡ name_of (get_or xs i d)) → other ≡ name
-only_name name_of xs name other i known first of =
-    let entry = (first_found (named name_of name) xs known).entry in
-    of entry ∙ name_here name_of xs name i known first entry
-
 -- if an entry passes, the place of the first that does is in the list
 pub place_within : {A : Type 0} (p : A → Bool) (xs : List A) → is_some (find p xs) ≡ true → position_or_len p xs < length xs
 place_within p xs known = (first_found p xs known).within

@@ -18,8 +18,3 @@ all_bytes (g ∷ before) = all_bytes before ++ g.bytes
 abbrev pub bytes_under : List Given → List ℕ → List ℕ
 bytes_under [] name = []
 bytes_under (g ∷ before) name = bytes_under before name ++ cond (bytes_eq g.name name) g.bytes []
-
--- the name of the last call
-abbrev pub last_name : List Given → List ℕ
-last_name [] = []
-last_name (g ∷ before) = g.name

@@ -1,5 +1,5 @@
 -- What files of the system mean: their names and counts, but no bytes.
-use Rattle.std.specs.Prelude.{◌≡◌, ℕ, false, Option, None, List, get_or, string_bytes}
+use Rattle.std.specs.Prelude.{ℕ, false, Option, None, List, string_bytes}
 use Rattle.cca_base.specs.Entries.{Seen, entry_of, folder_of}
 use Rattle.cca_base.specs.Files.{Folder}
 use Rattle.cca_base.specs.declared.system.known_file.KnownFile.{KnownFile}
@@ -13,7 +13,3 @@ known files name = entry_of real_seen files name
 
 abbrev pub real_folder : List KnownFile → Folder
 real_folder files = folder_of real_seen false files
-
--- this is the name of the entry at this place
-abbrev pub IsNameAt : List KnownFile → ℕ → List ℕ → Type 0
-IsNameAt files place name = (default : KnownFile) → name ≡ (real_seen (get_or files place default)).name

@@ -1,24 +1,19 @@
-// Calls of the system, and which of them were answered. Nothing but `SystemFiles` and `SystemOutput` calls the system, and only of
-// their few lines is it trusted, and not proved, that what they note is what the system was asked and what it did.
-ghost use Rattle.std.specs.Prelude.{◌≡◌, ◌≤◌, ◌<◌, [], ◌∷◌, List, length, take, IfOk, OnErr};
-ghost use Rattle.std.specs.Io.{WritesAtMost};
+// Calls of the system, and the calls among them that were answered. Nothing but `SystemFiles` and `SystemOutput` calls the system,
+// and only of their few lines is it trusted, and not proved, that what they note is what the system was asked and did.
+ghost use Rattle.std.specs.Prelude.{◌≡◌, ◌≤◌, ◌<◌, [], ◌∷◌, List, length, take, IfOk, IsTrue, OnErr};
+ghost use Rattle.std.specs.Io.{ReadsAtMost, WritesAtMost};
 ghost use Rattle.cca_base.specs.Given.{Given};
-ghost use Rattle.cca_base.specs.Opened.{opened_name};
+ghost use Rattle.cca_base.specs.RealFiles.{real_folder};
 
 use crate::Failed;
+use crate::named::place_of;
 use crate::sink::taken;
+use crate::system::known_file::KnownFile;
 use crate::trace::{Call, Trace};
 use std::fs::{File, OpenOptions};
 use std::io::Write;
 use std::os::unix::fs::FileExt;
 use std::{io, rt};
-
-// A file that is open to read from. The call in `of`, which gave nothing, has the name by which it was opened.
-#[derive(Drop)]
-pub(crate) struct OpenedFile {
-    file: File,
-    of: Trace,
-}
 
 /// Reads and appends of files, as the system takes them.
 pub(crate) trait FileCalls: Drop {
@@ -28,34 +23,26 @@ pub(crate) trait FileCalls: Drop {
     /// The appends that were answered, the last one first.
     ghost took: { Self → List Given };
 
-    /// Opens the file of this name to read from.
+    /// Reads from a place of the file of a known name. The file stays open for the next read of this name.
     ///
     /// # Errors
     ///
-    /// `Failed`, where the system fails.
-    fn open(&self, name: &str) -> Result<OpenedFile, Failed>
-        ensures { IfOk result (λ file. opened_name file ≡ name.now) };
-
-    /// Reads from a place of a file that was opened by this name.
-    ///
-    /// # Errors
-    ///
-    /// `Failed`, where the system fails.
+    /// `Failed`, where the system fails. No file stays open then.
     fn read_at(
         &mut self,
-        opened: &OpenedFile,
+        known: &[KnownFile],
         name: &str,
         at: u64,
         buf: &mut [u8],
     ) -> Result<usize, Failed>
-        requires { opened_name opened.now ≡ name.now }
+        requires { IsTrue ((real_folder known.now).knows name.now) }
         ensures within { IfOk result (λ n. n ≤ length buf.old) }
         ensures gave { IfOk result (λ n. gave self.new
             ≡ record { name = name.now; at = at; room = length buf.old; bytes = take n buf.new } ∷ gave self.old) }
         ensures gave_none { OnErr result (gave self.new ≡ gave self.old) }
         ensures took { took self.new ≡ took self.old };
 
-    /// Adds a prefix of the piece to the end of the file, which is made where it is missing.
+    /// Adds a prefix of the piece to the end of the file, which is made where it is missing. No file stays open.
     ///
     /// # Errors
     ///
@@ -85,10 +72,18 @@ pub(crate) trait OutputCalls: Drop {
         ensures took_none { OnErr result (took self.new ≡ took self.old) };
 }
 
+// A file that was opened to read from, by the place of its name among the known ones.
+#[derive(Drop)]
+struct Opened {
+    place: usize,
+    file: File,
+}
+
 /// The system's own files.
 #[derive(Drop)]
 pub(crate) struct SystemFiles<R: Drop> {
     rt: R,
+    opened: Option<Opened>,
     gave: Trace,
     took: Trace,
 }
@@ -105,6 +100,7 @@ impl<R: Drop> SystemFiles<R> {
     pub(crate) fn new(rt: R) -> Self {
         SystemFiles {
             rt,
+            opened: None,
             gave: Trace::new(),
             took: Trace::new(),
         }
@@ -123,6 +119,36 @@ impl<R: Drop> SystemOutput<R> {
     }
 }
 
+// The file of the name at this place: the one that is open, where it is that one, and else opened anew.
+fn open_at<R: rt::Files<File = File>>(
+    rt: &R,
+    opened: Option<Opened>,
+    place: usize,
+    name: &str,
+) -> io::Result<File> {
+    match opened {
+        Some(last) if last.place == place => Ok(last.file),
+        _ => File::open(rt, name),
+    }
+}
+
+// Reads from a place of a file, which then stays open.
+fn read_from<R: rt::Files<File = File>>(
+    rt: &R,
+    opened: &mut Option<Opened>,
+    place: usize,
+    name: &str,
+    at: u64,
+    buf: &mut [u8],
+) -> io::Result<usize>
+    ensures { ReadsAtMost result buf.new }
+{
+    let file = open_at(rt, opened.take(), place, name)?;
+    let read = file.read_at(buf, at)?;
+    *opened = Some(Opened { place, file });
+    Ok(read)
+}
+
 // Adds a prefix of a piece to the end of a file, which is made where it is missing.
 fn append_to<R: rt::Files>(rt: &R, name: &str, piece: &[u8]) -> io::Result<usize>
     ensures { WritesAtMost result piece.now }
@@ -139,27 +165,15 @@ impl<R: rt::Files<File = File> + Drop> FileCalls for SystemFiles<R> {
 
     ghost took = { λ s. s.took.calls };
 
-    fn open(&self, name: &str) -> Result<OpenedFile, Failed> {
-        let Ok(file) = File::open(&self.rt, name) else {
-            return Err(Failed);
-        };
-        let of = Trace::new().with(&Call {
-            name,
-            at: 0,
-            room: 0,
-            bytes: &[],
-        });
-        Ok(OpenedFile { file, of })
-    }
-
     fn read_at(
         &mut self,
-        opened: &OpenedFile,
+        known: &[KnownFile],
         name: &str,
         at: u64,
         buf: &mut [u8],
     ) -> Result<usize, Failed> {
-        let Ok(n) = opened.file.read_at(buf, at) else {
+        let place = place_of(known, name);
+        let Ok(n) = read_from(&self.rt, &mut self.opened, place, name, at, buf) else {
             return Err(Failed);
         };
         self.gave = self.gave.with(&Call {
@@ -172,6 +186,7 @@ impl<R: rt::Files<File = File> + Drop> FileCalls for SystemFiles<R> {
     }
 
     fn append(&mut self, name: &str, piece: &[u8]) -> Result<usize, Failed> {
+        self.opened = None;
         let n = taken(append_to(&self.rt, name, piece), piece.len())?;
         self.took = self.took.with(&Call {
             name,
