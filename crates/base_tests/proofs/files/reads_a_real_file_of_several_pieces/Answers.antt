@@ -5,5 +5,5 @@ use Rattle.base_tests.proofs.files.reads_a_real_file_of_several_pieces.Goals as 
 
 pub read_all-requires-clause-known : goal.read_all-requires-clause-known
 read_all-requires-clause-known g c =
-    let before : IsTrue (is_some (known c.in_ok-files.files.files.items c.as_str-name.result.now)) = search rules in
-    known_after _ _ _ _ _ c.as_str-name.result.now c.write_file.ensures.prefix.2 before
+    let before : IsTrue (is_some (known c.in_ok-files.files.counted.files.items c.as_str-name.result.now)) = search rules in
+    known_after _ _ _ _ _ _ c.as_str-name.result.now c.write_file.ensures.prefix.2 before

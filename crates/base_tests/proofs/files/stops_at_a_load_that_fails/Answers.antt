@@ -17,4 +17,4 @@ set-requires g c =
 pub load_faults-requires : goal.load_faults-requires
 load_faults-requires g c =
     let before : IsTrue (is_some (entry c.in_ok-files.files.files.items log)) = search rules in
-    known_then _ _ log c.read_all-2.ensures.kept (known_after _ _ _ _ _ log c.in_ok-set.ensures.file (known_then _ _ log c.read_all.ensures.kept before))
+    known_then _ _ log c.read_all-2.ensures.kept (known_after _ _ _ _ _ _ log c.in_ok-set.ensures.file (known_then _ _ log c.read_all.ensures.kept before))

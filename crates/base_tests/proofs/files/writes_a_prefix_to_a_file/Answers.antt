@@ -12,14 +12,14 @@ log = 108 ∷ 111 ∷ 103 ∷ []
 pub bytes-requires : goal.bytes-requires
 bytes-requires g c =
     let before : IsTrue (is_some (entry c.in_ok-files.files.files.items cert)) = search rules in
-    known_after _ _ _ _ _ cert c.write_file.ensures.prefix.2 before
+    known_after _ _ _ _ _ _ cert c.write_file.ensures.prefix.2 before
 
 pub append_faults-requires : goal.append_faults-requires
 append_faults-requires g c =
     let before : IsTrue (is_some (entry c.in_ok-files.files.files.items cert)) = search rules in
-    known_after _ _ _ _ _ cert c.write_file.ensures.prefix.2 before
+    known_after _ _ _ _ _ _ cert c.write_file.ensures.prefix.2 before
 
 pub bytes-requires-2 : goal.bytes-requires-2
 bytes-requires-2 g c =
     let before : IsTrue (is_some (entry c.in_ok-files.files.files.items log)) = search rules in
-    known_after _ _ _ _ _ log c.write_file.ensures.prefix.2 before
+    known_after _ _ _ _ _ _ log c.write_file.ensures.prefix.2 before

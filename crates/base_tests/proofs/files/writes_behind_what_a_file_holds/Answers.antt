@@ -9,9 +9,9 @@ cert = 99 ∷ 101 ∷ 114 ∷ 116 ∷ []
 pub bytes-requires : goal.bytes-requires
 bytes-requires g c =
     let before : IsTrue (is_some (entry c.in_ok-files.files.files.items cert)) = search rules in
-    known_after _ _ _ _ _ cert c.write_file.ensures.prefix.2 before
+    known_after _ _ _ _ _ _ cert c.write_file.ensures.prefix.2 before
 
 pub write_file-requires-2 : goal.write_file-requires-2
 write_file-requires-2 g c =
     let before : IsTrue (is_some (entry c.in_ok-files.files.files.items cert)) = search rules in
-    known_after _ _ _ _ _ cert c.write_file.ensures.prefix.2 before
+    known_after _ _ _ _ _ _ cert c.write_file.ensures.prefix.2 before
