@@ -1,5 +1,5 @@
 -- Lines that never fall, and the blocks of them that a bid leaves as they are.
-use Rattle.std.specs.Prelude.{◌≡◌, ℕ, zero, suc, ◌+◌, ◌-◌, ◌*◌, ◌≤◌, ◌<◌, nat_le, IsTrue, List, [], ◌∷◌, length, get_or, map, take, drop, ℤ, pos, ◌+ℤ◌, ◌≤ℤ◌, refl}
+use Rattle.std.specs.Prelude.{◌≡◌, ℕ, suc, ◌+◌, ◌-◌, ◌*◌, ◌≤◌, ◌<◌, nat_le, IsTrue, List, [], ◌∷◌, length, get_or, map, take, drop, ℤ, pos, ◌+ℤ◌, ◌≤ℤ◌, refl}
 use Rattle.std.specs.Int.{int_max}
 use Rattle.std.proofs.Common.{inl, inr, sym, ◌∙◌, ap, subst, arith}
 use Rattle.std.proofs.lemmas.Bool.{false≢true, cases_Bool, cond-true, cond-false, and_parts, and_from, leb-true, le-leb}
@@ -13,7 +13,6 @@ use Rattle.choices.specs.auction_model.specs.Steps.{raised}
 use Rattle.choices.specs.auction_model.specs.Table.{IsLine}
 use Rattle.choices.specs.auction_model.proofs.DominatedLaws.{less-within_self, fits-more}
 use Rattle.choices.specs.auction_model.proofs.LineLaws.{IsLineUpTo, int_max-left}
-use Rattle.choices.specs.auction_model.proofs.PackageLaws.{less-empty}
 use Rattle.choices.specs.auction_model.proofs.PlaceLaws.{states-positive, length-left_at, left_at-within, left_at-whole, left_at-less, place_of-left_at, place-less, place-less_below, place-below, within-within}
 use Rattle.choices.specs.auction_model.proofs.TableLaws.{fits_up_to, parts, from_parts}
 use Rattle.choices.specs.auction_model.proofs.TrimLaws.{trim-place, trim-within}

@@ -1,5 +1,6 @@
 use Rattle.std.proofs.Common.{◌≡◌, ◌∙◌, ◌<◌, ◌≤◌, ◌+◌, ◌-◌, ◌*◌, ◌+ℤ◌, ◌≤ℤ◌, ℕ, sym, ap, subst, refl, arith, rules, get_or, length, map, pos, List, drop, take}
 use Rattle.std.proofs.Math.Nat.{mul-le-mul_right}
+use Rattle.std.proofs.lemmas.Grind.{common_steps}
 use Rattle.std.proofs.lemmas.List.{take_rest, length-map}
 use Rattle.choices.specs.auction_model.specs.Place.{states_of, widths_of}
 use Rattle.choices.specs.auction_model.specs.Steps.{raised}
@@ -8,6 +9,7 @@ use Rattle.choices.specs.auction_model.proofs.RunLaws.{width-first, widths-count
 use Rattle.value_table.proofs.CornerLaws.{corner-none, corners-part}
 use Rattle.value_table.proofs.NumberParts.{read-put, read-number, small-numbers}
 use Rattle.value_table.specs.Growing.{HasCorners}
+use Rattle.value_table.proofs.RowParts.{row-small, row-inside, row-place}
 use borrow.Rule.Slice.PartMut.{mid_len}
 use Rattle.value_table.proofs.runs.+raise_block.Goals as goal
 
@@ -32,6 +34,39 @@ loop-block-init g t c =
       done = λ s h. sym (raised-before c.args.supply.now c.args.counts.now (map number c.args.below.now) (number c.args.worth) s (get_or (map number c.args.line.now) s (pos 0)) c.requires.some c.requires.categories (rw width at h));
       rest = λ s h. refl;
     }
+
+pub overflow_mul-rest : goal.overflow_mul-rest
+overflow_mul-rest g t c =
+    omega (arith, row-small c.args.supply.now c.args.widths.now (get_or c.args.counts.now 0 0)
+   
+    c.requires.widths (omega (arith, c.requires.some, c.requires.categories)) c.requires.states (omega (arith, c.type_inv.counts 0)))
+
+pub overflow_sub-rest : goal.overflow_sub-rest
+overflow_sub-rest g t c =
+    omega (arith, c.requires.corners.place, row-place c.args.supply.now c.args.widths.now c.args.counts.now
+   
+    c.requires.widths (omega (arith, c.requires.some, c.requires.categories)) c.requires.some)
+
+pub overflow_mul-to : goal.overflow_mul-to
+overflow_mul-to g t c =
+    omega (arith, row-small c.args.supply.now c.args.widths.now c.loop-block.block
+   
+    c.requires.widths (omega (arith, c.requires.some, c.requires.categories)) c.requires.states (omega (arith, c.loop-block-test.true, c.type_inv.supply 0)))
+
+pub overflow_mul-from : goal.overflow_mul-from
+overflow_mul-from g t c =
+    omega (arith, row-small c.args.supply.now c.args.widths.now (c.loop-block.block - get_or c.args.counts.now 0 0)
+   
+    c.requires.widths (omega (arith, c.requires.some, c.requires.categories)) c.requires.states (omega (arith, c.loop-block-test.true, c.type_inv.supply 0)))
+
+pub offset_bounds-line-to : goal.offset_bounds-line-to
+offset_bounds-line-to g t c = grind (arith, common_steps)
+
+pub offset_bounds-below-from : goal.offset_bounds-below-from
+offset_bounds-below-from g t c =
+    omega (arith, c.requires.places, row-inside c.args.supply.now c.args.widths.now (c.loop-block.block - get_or c.args.counts.now 0 0)
+   
+    c.requires.widths (omega (arith, c.requires.some, c.requires.categories)) (omega (arith, c.loop-block-test.true)))
 
 pub raise_block-requires : goal.raise_block-requires
 raise_block-requires g t c =

@@ -1,10 +1,12 @@
 use Rattle.std.proofs.Common.{◌≡◌, ◌∙◌, ◌<◌, ◌≤◌, ◌+◌, ◌-◌, ◌*◌, ℕ, sym, ap, refl, arith, get_or, length, map, pos, List, drop, take}
 use Rattle.std.proofs.Math.Nat.{mul-le-mul_right}
+use Rattle.std.proofs.lemmas.Grind.{common_steps}
 use Rattle.std.proofs.lemmas.List.{take_rest, length-map}
 use Rattle.choices.specs.auction_model.specs.Place.{states_of}
 use Rattle.choices.specs.auction_model.specs.Steps.{raised}
 use Rattle.choices.specs.auction_model.proofs.RunLaws.{width-first, widths-count, states-first, raised-before, block-done, block-rest}
 use Rattle.value_table.proofs.NumberParts.{read-put, read-number, small-numbers}
+use Rattle.value_table.proofs.RowParts.{row-small, row-inside, row-length, left-widths, left-few}
 use borrow.Rule.Slice.PartMut.{mid_len}
 use Rattle.value_table.proofs.runs.raise_two.Goals as goal
 
@@ -19,6 +21,52 @@ loop-row-init g c =
       done = λ s h. sym (raised-before c.args.supply.now c.args.counts.now (map number c.args.below.now) (number c.args.worth) s (get_or (map number c.args.line.now) s (pos 0)) (omega (arith, c.requires.two)) c.requires.categories (rw width at h));
       rest = λ s h. refl;
     }
+
+pub overflow_mul-to : goal.overflow_mul-to
+overflow_mul-to g c =
+    omega (arith, row-small c.args.supply.now c.args.widths.now c.loop-row.row
+   
+    c.requires.widths (omega (arith, c.requires.two, c.requires.categories)) c.requires.states (omega (arith, c.loop-row-test.true, c.type_inv.supply 0)))
+
+pub overflow_mul-from : goal.overflow_mul-from
+overflow_mul-from g c =
+    omega (arith, row-small c.args.supply.now c.args.widths.now (c.loop-row.row - get_or c.args.counts.now 0 0)
+   
+    c.requires.widths (omega (arith, c.requires.two, c.requires.categories)) c.requires.states (omega (arith, c.loop-row-test.true, c.type_inv.supply 0)))
+
+pub offset_bounds-line-to : goal.offset_bounds-line-to
+offset_bounds-line-to g c = grind (arith, common_steps)
+
+pub slice_bounds-raise_one-end-in-loop-row-3 : goal.slice_bounds-raise_one-end-in-loop-row-3
+slice_bounds-raise_one-end-in-loop-row-3 g c =
+    omega (arith, c.requires.line, c.loop-row.auto.line, row-inside c.args.supply.now c.args.widths.now c.loop-row.row
+   
+    c.requires.widths (omega (arith, c.requires.two, c.requires.categories)) (omega (arith, c.loop-row-test.true)))
+
+pub offset_bounds-below-from : goal.offset_bounds-below-from
+offset_bounds-below-from g c =
+    omega (arith, c.requires.places, row-inside c.args.supply.now c.args.widths.now (c.loop-row.row - get_or c.args.counts.now 0 0)
+   
+    c.requires.widths (omega (arith, c.requires.two, c.requires.categories)) (omega (arith, c.loop-row-test.true)))
+
+pub raise_one-requires-clause-widths : goal.raise_one-requires-clause-widths
+raise_one-requires-clause-widths g c = left-widths c.args.supply.now c.args.widths.now c.requires.widths
+
+pub raise_one-requires-clause-states : goal.raise_one-requires-clause-states
+raise_one-requires-clause-states g c =
+    omega (arith, c.requires.states, left-few c.args.supply.now (omega (arith, c.requires.two, c.requires.categories)))
+
+pub raise_one-requires-clause-places : goal.raise_one-requires-clause-places
+raise_one-requires-clause-places g c =
+    row-length c.args.supply.now c.args.widths.now (c.loop-row.row - get_or c.args.counts.now 0 0) c.args.below.now
+   
+    c.requires.widths (omega (arith, c.requires.two, c.requires.categories)) c.requires.places (omega (arith, c.loop-row-test.true))
+
+pub raise_one-requires-clause-line : goal.raise_one-requires-clause-line
+raise_one-requires-clause-line g c =
+    row-length c.args.supply.now c.args.widths.now c.loop-row.row c.loop-row.line
+   
+    c.requires.widths (omega (arith, c.requires.two, c.requires.categories)) (c.loop-row.auto.line ∙ c.requires.line) (omega (arith, c.loop-row-test.true))
 
 pub raise_one-requires-clause-sizes : goal.raise_one-requires-clause-sizes
 raise_one-requires-clause-sizes g c =
