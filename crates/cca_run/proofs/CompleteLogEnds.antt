@@ -1,6 +1,7 @@
 -- For every complete log `award` is done, or a limit stops it.
 use Rattle.std.proofs.Common.{◌≡◌, ◌∙◌, ℕ, Bool, IsTrue, Option, Some, None, List, [], ◌∷◌, length, refl, sym, ap, subst, inl, inr}
 use Rattle.std.specs.Prelude.{◌+◌, Result, Ok, Err, reverse, if◌then◌else◌}
+use Rattle.std.specs.Option.{option_or}
 use Rattle.std.proofs.lemmas.Bool.{cases_lt}
 use Rattle.auction_outcome.specs.auction_model.specs.Book.{Book}
 use Rattle.big_auction.specs.auction_rules.specs.BookOfLog.{book_of_log, is_complete}
@@ -54,11 +55,11 @@ not-open (Submit bidder) r is = cc
 
 never-open : (terms : Terms) (log : List Event) → first_refusal terms log ≡ Some Open → ⊥
 never-open terms [] is = cc
-never-open terms (line ∷ log) is = by (first_refusal terms log) refl is
+never-open terms (line ∷ log) is = by (first_refusal terms log) (never-open terms log) is
   where
-    by : (r : Option ReplayStop) → first_refusal terms log ≡ r → first_refusal terms (line ∷ log) ≡ Some Open → ⊥
-    by None none is = not-open line (reply_to terms log line) (rw none at is)
-    by (Some stop) some is = never-open terms log (some ∙ (rw some at is))
+    by : (r : Option ReplayStop) → (r ≡ Some Open → ⊥) → option_or r (refusal_of line (reply_to terms log line)) ≡ Some Open → ⊥
+    by None before same = not-open line (reply_to terms log line) same
+    by (Some stop) before same = before same
 
 -- what a complete log leads to is its book or a limit
 module _ (prices : Book → Outcome → Type 0) (priced : (book : Book) (o : Outcome) → prices book o → IsDoneOrLimited o.status) (records : ℕ) (o : Outcome) where
@@ -75,7 +76,7 @@ module _ (prices : Book → Outcome → Type 0) (priced : (book : Book) (o : Out
 
       by : (r : Option ReplayStop) → first_refusal terms log ≡ r → EndGives records (stopped_or r (book_or_open terms log)) prices o → IsDoneOrLimited o.status
       by None none given = priced (book_of_log terms log) o (subst (λ (e : Result Book ReplayStop). EndGives records e prices o) whole given)
-      by (Some stop) some given = stopped-at stop (λ open. never-open terms log (some ∙ ap Some open)) given
+      by (Some stop) some given = stopped-at stop (λ same. never-open terms log (some ∙ ap Some same)) given
 
 -- an input whose bytes answer with one value is too long, or goes on from it
 reads-on : {V : Type 0} (kind : FileKind) (most : ℕ) (says : List ℕ → Answer V → Type 0) (content : Option (List ℕ)) (bytes : List ℕ) (v : V) (follows : V → Outcome → Type 0) (o : Outcome) → content ≡ Some bytes

@@ -1,5 +1,5 @@
 -- What the loads of a command gave: of its inputs, one after the other.
-use Rattle.std.proofs.Common.{◌≡◌, ◌∙◌, ℕ, suc, ◌+◌, ◌<◌, Bool, true, false, Option, Some, None, List, [], ◌∷◌, ◌++◌, length, map, take, refl, sym, ap, subst, arith, length-append, take-suc}
+use Rattle.std.proofs.Common.{◌≡◌, ◌∙◌, ℕ, zero, suc, ◌+◌, ◌<◌, Bool, true, false, Option, Some, None, List, [], ◌∷◌, ◌++◌, length, map, take, refl, sym, ap, subst, arith, length-append, take-suc}
 use Rattle.std.specs.Prelude.{◌&&◌, ◌||◌, not, Contains, if◌then◌else◌, slice_index_or}
 use Rattle.std.specs.List.{AllByRecursion}
 use Rattle.std.specs.Str.{bytes_eq}
@@ -18,27 +18,34 @@ map-more [] ys = refl
 map-more (x ∷ xs) ys = ap (λ (l : List (List ℕ)). x.name ∷ l) (map-more xs ys)
 
 -- before any load
-pub loaded-none : (names : List (List ℕ)) (old : Folder) → Loaded names old old
+abbrev pub loaded-none : (names : List (List ℕ)) (old : Folder) → Loaded names old old
 loaded-none names old = record { contents = []; first = refl; gave = of_none old }
 
+-- what was loaded, and the next of the names
+pub names-more : (names : List (List ℕ)) (name : List ℕ) (contents : List Content) (bytes : List ℕ) → map (λ c. c.name) contents ≡ take (length contents) names → (within : Contains names name)
+    → length contents ≡ within.0
+    → map (λ c. c.name) (contents ++ (record { name = name; bytes = bytes } ∷ [])) ≡ take (length (contents ++ (record { name = name; bytes = bytes } ∷ []))) names
+names-more names name contents bytes first within next =
+    map-more contents (record { name = name; bytes = bytes } ∷ [])
+    ∙ ap (λ (l : List (List ℕ)). l ++ (name ∷ [])) first
+    ∙ ap (λ (x : List ℕ). take (length contents) names ++ (x ∷ [])) (sym is)
+    ∙ sym (take-suc names (length contents) name (subst (λ (k : ℕ). k < length names) (sym next) within.1))
+    ∙ ap (λ (k : ℕ). take k names) long
+  where
+    is : slice_index_or names (length contents) name ≡ name
+    is = subst (λ (k : ℕ). slice_index_or names k name ≡ name) (sym next) within.2
+
+    long : suc (length contents) ≡ length (contents ++ (record { name = name; bytes = bytes } ∷ []))
+    long = omega (arith, length-append contents (record { name = name; bytes = bytes } ∷ []))
+
 -- the loads of the next of the names
-pub loaded-more : (names : List (List ℕ)) (name : List ℕ) (old mid new : Folder) (a : Loaded names old mid) (within : Contains names name) → length a.contents ≡ within.0
+abbrev pub loaded-more : (names : List (List ℕ)) (name : List ℕ) (old mid new : Folder) (a : Loaded names old mid) (within : Contains names name) → length a.contents ≡ within.0
     → GaveSome name mid new → KeepsFiles old mid → KeepsFiles mid new → Loaded names old new
 loaded-more names name old mid new a within next b first last = record {
   contents = a.contents ++ (record { name = name; bytes = b.bytes } ∷ []);
-  first = map-more a.contents (record { name = name; bytes = b.bytes } ∷ [])
-      ∙ ap (λ (l : List (List ℕ)). l ++ (name ∷ [])) a.first
-      ∙ ap (λ (x : List ℕ). take (length a.contents) names ++ (x ∷ [])) (sym is)
-      ∙ sym (take-suc names (length a.contents) name (subst (λ (k : ℕ). k < length names) (sym next) within.1))
-      ∙ ap (λ (k : ℕ). take k names) long;
+  first = names-more names name a.contents b.bytes a.first within next;
   gave = of_both a.contents (record { name = name; bytes = b.bytes } ∷ []) old mid new a.gave b.gave first last;
 }
-  where
-    is : slice_index_or names (length a.contents) name ≡ name
-    is = subst (λ (k : ℕ). slice_index_or names k name ≡ name) (sym next) within.2
-
-    long : suc (length a.contents) ≡ length (a.contents ++ (record { name = name; bytes = b.bytes } ∷ []))
-    long = omega (arith, length-append a.contents (record { name = name; bytes = b.bytes } ∷ []))
 
 -- they are one more
 pub count-more : (names : List (List ℕ)) (name : List ℕ) (old mid new : Folder) (a : Loaded names old mid) (within : Contains names name) (next : length a.contents ≡ within.0)
@@ -47,7 +54,7 @@ pub count-more : (names : List (List ℕ)) (name : List ℕ) (old mid new : Fold
 count-more names name old mid new a within next b first last n is = omega (arith, is, length-append a.contents (record { name = name; bytes = b.bytes } ∷ []))
 
 -- what these contents say of a name, the first one of the name
-pub content_in : List Content → List ℕ → Option (List ℕ)
+abbrev pub content_in : List Content → List ℕ → Option (List ℕ)
 content_in [] name = None
 content_in (c ∷ rest) name = if bytes_eq c.name name then Some c.bytes else content_in rest name
 
@@ -78,7 +85,7 @@ hold-apart (c ∷ rest) apart =
 
 -- the first of names that differ do
 front-among : (f : List ℕ) (k : ℕ) (names : List (List ℕ)) → is_among f names ≡ false → is_among f (take k names) ≡ false
-front-among f 0 names none = refl
+front-among f zero names none = refl
 front-among f (suc k) [] none = refl
 front-among f (suc k) (g ∷ names) none =
     elim-or (bytes_eq f g) (is_among f names) (is_among f (take k names)) none (front-among f k names)
@@ -88,7 +95,7 @@ front-among f (suc k) (g ∷ names) none =
     elim-or false b c is on = on is
 
 pub front-apart : (k : ℕ) (names : List (List ℕ)) → are_file_words names ≡ true → are_file_words (take k names) ≡ true
-front-apart 0 names apart = refl
+front-apart zero names apart = refl
 front-apart (suc k) [] apart = refl
 front-apart (suc k) (f ∷ names) apart =
     let parts = and-both (is_file_word f) (not (is_among f names) && are_file_words names) apart in

@@ -63,7 +63,7 @@ begins command old = record {
 }
 
 -- the loads of one more input
-reads-on : (command : CommandValue) (old mid new : Folder) (name : List ℕ) (within : Contains (inputs_of command) name) (a : OnlyReads command old mid)
+abbrev reads-on : (command : CommandValue) (old mid new : Folder) (name : List ℕ) (within : Contains (inputs_of command) name) (a : OnlyReads command old mid)
     → length a.loaded.contents ≡ within.0 → OnlyLoads name mid new → OnlyReads command old new
 reads-on command old mid new name within a next b = record {
   loaded = loaded-more (inputs_of command) name old mid new a.loaded within next b.some a.kept b.kept;
@@ -78,7 +78,7 @@ module _ {V : Type 0} (command : CommandValue) (old mid new : Folder) (seen : Li
   same-file : (files : Held) → contents_of command files kind ≡ files name
   same-file files = ap (option_and_then files) input
 
-  read : OnlyReads command old new
+  abbrev read : OnlyReads command old new
   read = reads-on command old mid new name within at.reads (at.count ∙ sym next) loads
 
   before : (files : Held) → Agrees files old new → Agrees files old mid

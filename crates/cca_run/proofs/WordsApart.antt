@@ -35,11 +35,11 @@ one-apart true d c apart is = let same : d ≡ c = cc in subst AreApart same (ap
 one-apart false d c apart is = absurd cc
 
 -- words that say a command with something that they ask for
-asked-apart : {A : Type 0} (b : Bool) (make : A → CommandValue) (asked : Option A) (c : CommandValue) → ((x : A) → b ≡ true → AreApart (make x))
-    → (if b then option_map make asked else None) ≡ Some c → AreApart c
-asked-apart true make None c apart is = absurd cc
-asked-apart true make (Some x) c apart is = let same : make x ≡ c = cc in subst AreApart same (apart x refl)
-asked-apart false make asked c apart is = absurd cc
+asked-apart : {A : Type 0} (b : Bool) (say : A → CommandValue) (asked : Option A) (c : CommandValue) → ((x : A) → b ≡ true → AreApart (say x))
+    → (if b then option_map say asked else None) ≡ Some c → AreApart c
+asked-apart true say None c apart is = absurd cc
+asked-apart true say (Some x) c apart is = let same : say x ≡ c = cc in subst AreApart same (apart x refl)
+asked-apart false say asked c apart is = absurd cc
 
 win-apart : (rest : List (List ℕ)) (c : CommandValue) → win_words rest ≡ Some c → AreApart c
 win-apart [] c is = absurd cc
