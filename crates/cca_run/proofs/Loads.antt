@@ -10,9 +10,6 @@ use Rattle.cca_inputs.specs.Command.{are_file_words, is_among, is_file_word}
 use Rattle.cca_run.specs.Works.{Loaded}
 use Rattle.cca_run.proofs.WordsApart.{and-both, neither}
 
-
-
-
 map-more : (xs ys : List Content) → map (λ c. c.name) (xs ++ ys) ≡ map (λ c. c.name) xs ++ map (λ c. c.name) ys
 map-more [] ys = refl
 map-more (x ∷ xs) ys = ap (λ (l : List (List ℕ)). x.name ∷ l) (map-more xs ys)

@@ -11,7 +11,8 @@ mod work;
 pub use auction_laws::one_auction;
 pub use cca_inputs::{CertKind, FileKind, Status, bid_book, cca_base, choices};
 pub use laws::{
-    awarded_cert_passes, complete_log_ends, complete_log_is_awarded, headline, limit_of_ones, one_outcome, written_cert_passes,
+    awarded_cert_passes, complete_log_ends, complete_log_is_awarded, headline, limit_of_ones,
+    one_outcome, written_cert_passes,
 };
 pub use review_text::value_table;
 pub use top::run;

@@ -20,9 +20,7 @@ ghost use Rattle.cca_run.specs.Run.{Appended, AppendsAll, Changes, CountsAmong, 
 ghost use Rattle.cca_run.specs.Works.{AreOutputs, FinishEnds, RunEnds};
 
 use crate::append::append_all;
-use crate::laws::{
-    awarded_cert_passes, complete_log_ends, complete_log_is_awarded, headline,
-};
+use crate::laws::{awarded_cert_passes, complete_log_ends, complete_log_is_awarded, headline};
 use crate::print::{print, print_stop};
 use crate::work::Work;
 use crate::work::commands::work_out;

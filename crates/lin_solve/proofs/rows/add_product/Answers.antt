@@ -16,12 +16,20 @@ overflow_mul-result c =
 
 pub overflow_add-result : goal.overflow_add-result
 overflow_add-result c =
-    rw (to_z-of_z w128 c.args.a c.ranges.a, to_z-of_z w128 c.args.b c.ranges.b, to_z-of_z w128 c.args.sum c.ranges.sum,
-    to_z-of_z w128 (c.args.a *ℤ c.args.b) (product-fits c.args.sum c.args.a c.args.b c.requires))
+    rw (
+      to_z-of_z w128 c.args.a c.ranges.a,
+      to_z-of_z w128 c.args.b c.ranges.b,
+      to_z-of_z w128 c.args.sum c.ranges.sum,
+      to_z-of_z w128 (c.args.a *ℤ c.args.b) (product-fits c.args.sum c.args.a c.args.b c.requires),
+    )
     (sum-fits c.args.sum c.args.a c.args.b c.requires)
 
 pub returns : goal.returns
 returns c =
-    rw (to_z-of_z w128 c.args.a c.ranges.a, to_z-of_z w128 c.args.b c.ranges.b, to_z-of_z w128 c.args.sum c.ranges.sum,
-    to_z-of_z w128 (c.args.a *ℤ c.args.b) (product-fits c.args.sum c.args.a c.args.b c.requires))
+    rw (
+      to_z-of_z w128 c.args.a c.ranges.a,
+      to_z-of_z w128 c.args.b c.ranges.b,
+      to_z-of_z w128 c.args.sum c.ranges.sum,
+      to_z-of_z w128 (c.args.a *ℤ c.args.b) (product-fits c.args.sum c.args.a c.args.b c.requires),
+    )
     (to_z-of_z w128 (c.args.sum +ℤ c.args.a *ℤ c.args.b) (sum-fits c.args.sum c.args.a c.args.b c.requires))

@@ -18,12 +18,20 @@ overflow_mul-result c =
 
 pub overflow_sub-result : goal.overflow_sub-result
 overflow_sub-result c =
-    rw (to_z-of_z w128 c.args.den c.ranges.den, to_z-of_z w128 c.args.net c.ranges.net,
-    to_z-of_z w128 c.args.surplus c.ranges.surplus, to_z-of_z w128 (c.args.den *ℤ c.args.net) (product-fits c.args.den c.args.net c.args.surplus c.requires))
+    rw (
+      to_z-of_z w128 c.args.den c.ranges.den,
+      to_z-of_z w128 c.args.net c.ranges.net,
+      to_z-of_z w128 c.args.surplus c.ranges.surplus,
+      to_z-of_z w128 (c.args.den *ℤ c.args.net) (product-fits c.args.den c.args.net c.args.surplus c.requires),
+    )
     (worth-fits c.args.den c.args.net c.args.surplus c.requires)
 
 pub returns : goal.returns
 returns c =
-    rw (to_z-of_z w128 c.args.den c.ranges.den, to_z-of_z w128 c.args.net c.ranges.net,
-    to_z-of_z w128 c.args.surplus c.ranges.surplus, to_z-of_z w128 (c.args.den *ℤ c.args.net) (product-fits c.args.den c.args.net c.args.surplus c.requires))
+    rw (
+      to_z-of_z w128 c.args.den c.ranges.den,
+      to_z-of_z w128 c.args.net c.ranges.net,
+      to_z-of_z w128 c.args.surplus c.ranges.surplus,
+      to_z-of_z w128 (c.args.den *ℤ c.args.net) (product-fits c.args.den c.args.net c.args.surplus c.requires),
+    )
     (to_z-of_z w128 ((c.args.den *ℤ c.args.net) -ℤ c.args.surplus) (worth-fits c.args.den c.args.net c.args.surplus c.requires))

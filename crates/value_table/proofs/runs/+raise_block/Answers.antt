@@ -37,36 +37,48 @@ loop-block-init g t c =
 
 pub overflow_mul-rest : goal.overflow_mul-rest
 overflow_mul-rest g t c =
-    omega (arith, row-small c.args.supply.now c.args.widths.now (get_or c.args.counts.now 0 0)
-   
-    c.requires.widths (omega (arith, c.requires.some, c.requires.categories)) c.requires.states (omega (arith, c.type_inv.counts 0)))
+    omega (
+      arith,
+      row-small c.args.supply.now c.args.widths.now (get_or c.args.counts.now 0 0)
+          c.requires.widths (omega (arith, c.requires.some, c.requires.categories)) c.requires.states (omega (arith, c.type_inv.counts 0)),
+    )
 
 pub overflow_sub-rest : goal.overflow_sub-rest
 overflow_sub-rest g t c =
-    omega (arith, c.requires.corners.place, row-place c.args.supply.now c.args.widths.now c.args.counts.now
-   
-    c.requires.widths (omega (arith, c.requires.some, c.requires.categories)) c.requires.some)
+    omega (
+      arith,
+      c.requires.corners.place,
+      row-place c.args.supply.now c.args.widths.now c.args.counts.now
+          c.requires.widths (omega (arith, c.requires.some, c.requires.categories)) c.requires.some,
+    )
 
 pub overflow_mul-to : goal.overflow_mul-to
 overflow_mul-to g t c =
-    omega (arith, row-small c.args.supply.now c.args.widths.now c.loop-block.block
-   
-    c.requires.widths (omega (arith, c.requires.some, c.requires.categories)) c.requires.states (omega (arith, c.loop-block-test.true, c.type_inv.supply 0)))
+    omega (
+      arith,
+      row-small c.args.supply.now c.args.widths.now c.loop-block.block
+          c.requires.widths (omega (arith, c.requires.some, c.requires.categories)) c.requires.states (omega (arith, c.loop-block-test.true, c.type_inv.supply 0)),
+    )
 
 pub overflow_mul-from : goal.overflow_mul-from
 overflow_mul-from g t c =
-    omega (arith, row-small c.args.supply.now c.args.widths.now (c.loop-block.block - get_or c.args.counts.now 0 0)
-   
-    c.requires.widths (omega (arith, c.requires.some, c.requires.categories)) c.requires.states (omega (arith, c.loop-block-test.true, c.type_inv.supply 0)))
+    omega (
+      arith,
+      row-small c.args.supply.now c.args.widths.now (c.loop-block.block - get_or c.args.counts.now 0 0)
+          c.requires.widths (omega (arith, c.requires.some, c.requires.categories)) c.requires.states (omega (arith, c.loop-block-test.true, c.type_inv.supply 0)),
+    )
 
 pub offset_bounds-line-to : goal.offset_bounds-line-to
 offset_bounds-line-to g t c = grind (arith, common_steps)
 
 pub offset_bounds-below-from : goal.offset_bounds-below-from
 offset_bounds-below-from g t c =
-    omega (arith, c.requires.places, row-inside c.args.supply.now c.args.widths.now (c.loop-block.block - get_or c.args.counts.now 0 0)
-   
-    c.requires.widths (omega (arith, c.requires.some, c.requires.categories)) (omega (arith, c.loop-block-test.true)))
+    omega (
+      arith,
+      c.requires.places,
+      row-inside c.args.supply.now c.args.widths.now (c.loop-block.block - get_or c.args.counts.now 0 0)
+          c.requires.widths (omega (arith, c.requires.some, c.requires.categories)) (omega (arith, c.loop-block-test.true)),
+    )
 
 pub raise_block-requires : goal.raise_block-requires
 raise_block-requires g t c =

@@ -24,30 +24,41 @@ loop-row-init g c =
 
 pub overflow_mul-to : goal.overflow_mul-to
 overflow_mul-to g c =
-    omega (arith, row-small c.args.supply.now c.args.widths.now c.loop-row.row
-   
-    c.requires.widths (omega (arith, c.requires.two, c.requires.categories)) c.requires.states (omega (arith, c.loop-row-test.true, c.type_inv.supply 0)))
+    omega (
+      arith,
+      row-small c.args.supply.now c.args.widths.now c.loop-row.row
+          c.requires.widths (omega (arith, c.requires.two, c.requires.categories)) c.requires.states (omega (arith, c.loop-row-test.true, c.type_inv.supply 0)),
+    )
 
 pub overflow_mul-from : goal.overflow_mul-from
 overflow_mul-from g c =
-    omega (arith, row-small c.args.supply.now c.args.widths.now (c.loop-row.row - get_or c.args.counts.now 0 0)
-   
-    c.requires.widths (omega (arith, c.requires.two, c.requires.categories)) c.requires.states (omega (arith, c.loop-row-test.true, c.type_inv.supply 0)))
+    omega (
+      arith,
+      row-small c.args.supply.now c.args.widths.now (c.loop-row.row - get_or c.args.counts.now 0 0)
+          c.requires.widths (omega (arith, c.requires.two, c.requires.categories)) c.requires.states (omega (arith, c.loop-row-test.true, c.type_inv.supply 0)),
+    )
 
 pub offset_bounds-line-to : goal.offset_bounds-line-to
 offset_bounds-line-to g c = grind (arith, common_steps)
 
 pub slice_bounds-raise_one-end-in-loop-row-3 : goal.slice_bounds-raise_one-end-in-loop-row-3
 slice_bounds-raise_one-end-in-loop-row-3 g c =
-    omega (arith, c.requires.line, c.loop-row.auto.line, row-inside c.args.supply.now c.args.widths.now c.loop-row.row
-   
-    c.requires.widths (omega (arith, c.requires.two, c.requires.categories)) (omega (arith, c.loop-row-test.true)))
+    omega (
+      arith,
+      c.requires.line,
+      c.loop-row.auto.line,
+      row-inside c.args.supply.now c.args.widths.now c.loop-row.row
+          c.requires.widths (omega (arith, c.requires.two, c.requires.categories)) (omega (arith, c.loop-row-test.true)),
+    )
 
 pub offset_bounds-below-from : goal.offset_bounds-below-from
 offset_bounds-below-from g c =
-    omega (arith, c.requires.places, row-inside c.args.supply.now c.args.widths.now (c.loop-row.row - get_or c.args.counts.now 0 0)
-   
-    c.requires.widths (omega (arith, c.requires.two, c.requires.categories)) (omega (arith, c.loop-row-test.true)))
+    omega (
+      arith,
+      c.requires.places,
+      row-inside c.args.supply.now c.args.widths.now (c.loop-row.row - get_or c.args.counts.now 0 0)
+          c.requires.widths (omega (arith, c.requires.two, c.requires.categories)) (omega (arith, c.loop-row-test.true)),
+    )
 
 pub raise_one-requires-clause-widths : goal.raise_one-requires-clause-widths
 raise_one-requires-clause-widths g c = left-widths c.args.supply.now c.args.widths.now c.requires.widths
@@ -59,13 +70,11 @@ raise_one-requires-clause-states g c =
 pub raise_one-requires-clause-places : goal.raise_one-requires-clause-places
 raise_one-requires-clause-places g c =
     row-length c.args.supply.now c.args.widths.now (c.loop-row.row - get_or c.args.counts.now 0 0) c.args.below.now
-   
     c.requires.widths (omega (arith, c.requires.two, c.requires.categories)) c.requires.places (omega (arith, c.loop-row-test.true))
 
 pub raise_one-requires-clause-line : goal.raise_one-requires-clause-line
 raise_one-requires-clause-line g c =
     row-length c.args.supply.now c.args.widths.now c.loop-row.row c.loop-row.line
-   
     c.requires.widths (omega (arith, c.requires.two, c.requires.categories)) (c.loop-row.auto.line ∙ c.requires.line) (omega (arith, c.loop-row-test.true))
 
 pub raise_one-requires-clause-sizes : goal.raise_one-requires-clause-sizes
