@@ -5,6 +5,7 @@ pub mod Lists
 pub mod Slots
 pub mod Differences
 pub mod BookBids
+pub mod BookClaims
 pub mod Known
 pub mod Testers
 pub use Rattle.relative_cap.specs.clock_stage

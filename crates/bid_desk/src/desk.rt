@@ -17,6 +17,7 @@ ghost use Rattle.relative_cap.specs.clock_stage.specs.ClockState.{clock_of};
 ghost use Rattle.relative_cap.specs.clock_stage.specs.Kept.{IsFor, IsHeld};
 ghost use Rattle.relative_cap.specs.Answer.{excess_value};
 ghost use Rattle.relative_cap.specs.OwnRounds.{bid_value, rounds_of};
+ghost use Rattle.bid_desk.specs.BookClaims.{AreCapped, AreOwn};
 ghost use Rattle.bid_desk.specs.Closes.{reply_value};
 ghost use Rattle.bid_desk.specs.DeskValue.{round_in};
 ghost use Rattle.bid_desk.specs.Lists.{lists_with};
@@ -26,7 +27,9 @@ ghost use Rattle.bid_desk.specs.Reached.{IsBidOrDrop, IsTaken, IsTakenOrMemory, 
 use crate::book::book_of;
 use crate::lists::{BidderLists, empty_lists};
 use crate::testers::{no_testers, test_list};
-use relative_cap::auction_rules::{Event, Reply, Stage, desk_book};
+use relative_cap::auction_rules::{
+    Event, Reply, Stage, bidders_of_book, book_within_caps, desk_book, interleaving,
+};
 use relative_cap::award_file::{Award, book_of_award};
 use relative_cap::bid_book::BidBook;
 use relative_cap::clock_stage::{Clock, Closed, reply_to_package};
@@ -86,6 +89,7 @@ impl Model for Desk {
     ghost use Rattle.relative_cap.specs.clock_stage.specs.Kept.{IsFor};
     ghost use Rattle.bid_desk.specs.DeskValue.{desk_value};
     ghost use Rattle.relative_cap.specs.auction_rules.specs.declared.Stage.{Stage};
+    ghost use Rattle.bid_desk.specs.BookClaims.{AreCapped, AreOwn};
     ghost use Rattle.bid_desk.specs.Closes.{reply_value};
     ghost use Rattle.bid_desk.specs.Reached.{IsReached};
     ghost use Rattle.bid_desk.specs.Testers.{AreTesters};
@@ -191,7 +195,8 @@ impl Desk {
     }
 
     /// The book of the log that the desk stands for: the award's supply, reserves and bidders, and for each package that isn't empty
-    /// and stands among a bidder's clock bids or in its submitted list the greatest amount there, reserve included.
+    /// and stands among a bidder's clock bids or in its submitted list the greatest amount there, reserve included. Each bid, but that for the
+    /// package of the final round, is at most its relative cap over the book's own bids, and a bidder's bids depend on what it has seen alone.
     ///
     /// # Errors
     ///
@@ -200,6 +205,8 @@ impl Desk {
         ensures book { IfOk result (λ book. book ≡ book_in self.now) }
         ensures log { (log : List Event) → self.now ≡ state_of self.now.terms log
             → IfOk result (λ book. book ≡ book_of_log self.now.terms log) }
+        ensures caps { IfOk result (λ book. AreCapped self.now book) }
+        ensures view { IfOk result (λ book. AreOwn self.now book) }
         ensures closed { IfOk result (λ book. self.now.stage ≡ Stage.Closed) }
         ensures open { self.now.stage ≢ Stage.Closed → result ≡ Err DeskStop.NotClosed }
         ensures not_closed { result ≡ Err DeskStop.NotClosed → self.now.stage ≢ Stage.Closed }
@@ -207,6 +214,9 @@ impl Desk {
         if !matches!(self.stage(), Stage::Closed) {
             return Err(DeskStop::NotClosed);
         }
+        bidders_of_book();
+        book_within_caps();
+        interleaving();
         desk_book();
         match self.closed_book(alloc) {
             Ok(book) => Ok(book),

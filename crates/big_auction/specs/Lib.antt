@@ -10,3 +10,4 @@ pub use Rattle.clock_stage.specs.award_file
 pub use Rattle.clock_stage
 pub use Rattle.log_file
 pub use Rattle.row_laws
+pub mod MadeAuction

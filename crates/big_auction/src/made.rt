@@ -5,12 +5,14 @@ ghost use Rattle.clock_stage.specs.limits.specs.declared.TheConstants.{MOST_PRIC
 ghost use Rattle.big_auction.specs.AwardText.{made_award_text};
 ghost use Rattle.big_auction.specs.Draws.{behind};
 ghost use Rattle.big_auction.specs.LogText.{log_text};
+ghost use Rattle.big_auction.specs.MadeAuction.{IsMadeAuction};
 ghost use Rattle.big_auction.specs.MadeAward.{made_bidders};
 ghost use Rattle.big_auction.specs.MadeLog.{full_rounds, made_log, staying};
 ghost use Rattle.big_auction.specs.Parts.{counts_of, figures_of, full_rounds_for, last_bids_for, packages_from, sealed_for};
 
 use crate::award::award_text;
 use crate::draws::Draws;
+use crate::laws::{answered_log, few_winners, lawful_award};
 use crate::lines::{Bidder, add_bid, add_bidder, add_bids, add_close};
 use crate::prices::{final_prices, last_package};
 use crate::values::{BIDDERS, FULL_ROUNDS, Figures, Lots, STAYING, WIDEST};
@@ -31,13 +33,17 @@ pub struct Made {
     pub lines: u64,
 }
 
-/// The auction of a number: the bytes of its award and of its log, each a function of the number alone. The only error is want of
-/// memory.
+/// The auction of a number: the bytes of its award and of its log, each a function of the number alone. The award is lawful, each line of
+/// the log is answered Ok, the log is complete, and at most four bidders can win. The only error is want of memory.
 pub fn make(alloc: Global, number: u32) -> Result<Made, AllocError>
     ensures award { IfOk result (λ made. made.award ≡ made_award_text) }
     ensures log { IfOk result (λ made. made.log ≡ log_text (made_log number)) }
     ensures lines { IfOk result (λ made. made.lines ≡ length (made_log number)) }
+    ensures auction { IfOk result (λ made. IsMadeAuction number) }
 {
+    lawful_award();
+    answered_log();
+    few_winners();
     let mut draws = Draws::new(number);
     let packages = draw_packages(alloc, &mut draws)?;
     let prices = final_prices(alloc, &packages)?;

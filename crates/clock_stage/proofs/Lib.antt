@@ -2,3 +2,4 @@ pub mod Demands
 pub mod KeptLaws
 pub mod ClockLaws
 pub mod HistoryLaws
+mod RaisedLaws

@@ -3,8 +3,10 @@ ghost use Rattle.std.specs.Prelude.{◌≡◌, ◌≤◌, ◌^◌, All, IfOk, le
 ghost use Rattle.award_file.specs.limits.specs.declared.TheConstants.{MOST_PRICE};
 ghost use Rattle.award_file.specs.auction_rules.specs.Rounds.{raised_prices};
 ghost use Rattle.award_file.specs.auction_rules.specs.Step.{permille_at, stepped};
+ghost use Rattle.clock_stage.specs.Raised.{IsRaisedPrice};
 
 use award_file::StepTable;
+use award_file::auction_rules::{greatest_threshold, raise_is_least};
 use std::alloc::{AllocError, Global};
 
 /// The permille of the last threshold whose excess is reached, and 0 where none is.
@@ -23,14 +25,16 @@ fn permille_of(excess: u64, thresholds: &[(u64, u64)]) -> u64
 }
 
 /// The price after a round with this excess demand: it rises by the least multiple of the tick that is at least the tick and
-/// at least the thousandths of the price that the excess reaches in the table. (`auction_rules::raise_is_least` says that this
-/// is what `stepped` adds.)
+/// at least the thousandths of the price that the excess reaches in the table, those of the greatest threshold that it reaches.
 pub fn step(price: u64, excess: u64, table: &StepTable) -> u64
     requires { price ≤ MOST_PRICE }
     ensures price { result ≡ stepped table.now.tick table.now.thresholds price excess }
+    ensures least { 1 ≤ excess → IsRaisedPrice table.now price excess result }
     ensures rises { price ≤ result }
     ensures top { result ≤ 2 ^ 38 }
 {
+    greatest_threshold();
+    raise_is_least();
     let permille = permille_of(excess, table.thresholds());
     let tick = table.tick();
     let part = 1000 * tick;

@@ -27,3 +27,11 @@ returns-clause-log c =
 
 pub returns-clause-lines : goal.returns-clause-lines
 returns-clause-lines c = log-length c.args.number
+
+pub returns-clause-auction : goal.returns-clause-auction
+returns-clause-auction c = record {
+  lawful = c.lawful_award.ensures;
+  answered = c.answered_log.ensures.answered c.args.number;
+  complete = c.answered_log.ensures.complete c.args.number;
+  few = c.few_winners.ensures c.args.number;
+}
