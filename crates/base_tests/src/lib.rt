@@ -2,6 +2,8 @@
 #![tactic(auto)]
 
 #[cfg(test)]
+mod edge;
+#[cfg(test)]
 mod equations;
 #[cfg(test)]
 mod far_numbers;

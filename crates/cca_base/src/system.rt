@@ -2,5 +2,6 @@
 
 pub(crate) mod calls;
 pub(crate) mod known_file;
+pub(crate) mod met;
 pub(crate) mod real_files;
 pub(crate) mod real_sink;

@@ -36,7 +36,7 @@ impl<C: FileCalls> Files for CountedFiles<C> {
     }
 
     fn append(&mut self, name: &str, piece: &[u8]) -> Result<usize, Failed> {
-        let appended = self.calls.append(name, piece);
+        let appended = self.calls.append(&self.files, name, piece);
         if appended.is_err() {
             count_append_fault(&mut self.files, name);
         }
@@ -57,8 +57,13 @@ impl<C: FileCalls> Files for CountedFiles<C> {
 /// Files of the system.
 ///
 /// The file of the last load stays open for the next one, until another name is loaded, a load fails or
-/// anything is appended. What was appended has reached the system when `append` answers. Each fault of the system raises the
-/// count of its kind and name, and so does a call that takes nothing of a piece that isn't empty.
+/// anything is appended; so a pipe can be loaded from in order. The file of the last append stays open, and locked where it is a regular
+/// one, until another name is appended to, an append fails or anything is loaded.
+///
+/// What was appended to a regular file is on its disk when `append` answers; where the sync fails, the piece counts as not taken, though
+/// the file may hold it. An append fails, and takes nothing, where its file was loaded
+/// from or appended to under another name, whatever link or spelling that is, and where someone else has locked it. Each fault of the
+/// system raises the count of its kind and name, and so does a call that takes nothing of a piece that isn't empty.
 #[derive(Drop)]
 pub struct RealFiles<R: Drop> {
     counted: CountedFiles<SystemFiles<R>>,
@@ -81,7 +86,7 @@ impl<R: rt::Files<File = File> + Drop> RealFiles<R> {
             × ((⟦<RealFiles<R> as Files>⟧.folder files).append_faults name ≡ 0)) }
     {
         let files = new_files(alloc, names, 0)?;
-        let calls = SystemFiles::new(rt);
+        let calls = SystemFiles::new(alloc, rt, files.len())?;
         Ok(RealFiles {
             counted: CountedFiles { calls, files },
         })
