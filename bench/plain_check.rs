@@ -1,5 +1,5 @@
 // The nine tests of a certificate in plain Rust, with the best loops known: tables in 64 bits, no bid that a smaller one makes
-// needless where the line below never falls, no early end within a run, and no line twice that two tables share. It trusts that both files are of their form, and prints the line that `cca check` prints first.
+// needless where the line below never falls, no block whose corners show the rule where neither line falls, no early end within a run, and no line twice that two tables share. It trusts that both files are of their form, and prints the line that `cca check` prints first.
 #[allow(dead_code)]
 mod plain_book;
 
@@ -133,11 +133,13 @@ struct Checked<'a> {
     winners: Vec<usize>,
 }
 
-// What one bid asks of a line: at each place where it fits, the worth and the entry below for the rest.
+// What one bid asks of a line: at each place where it fits, the worth and the entry below for the rest. Where `grow` says so neither
+// line falls where more is left.
 struct Rule<'a> {
     line: &'a [i64],
     below: &'a [i64],
     worth: i64,
+    grow: bool,
 }
 
 impl Rule<'_> {
@@ -150,14 +152,17 @@ impl Rule<'_> {
         pairs().position(|(here, rest)| self.worth + rest > *here).map(|i| start + i)
     }
 
-    fn block(&self, book: &Book, lots: &[usize], category: usize, base: usize, shift: usize) -> Option<usize> {
-        let (width, count) = (book.widths[category], lots[category]);
-        let shift = shift + count * width;
+    fn block(&self, book: &Book, bid: &Bid, lots: &[usize], category: usize, base: usize, shift: usize) -> Option<usize> {
+        let (width, count, place) = (book.widths[category], lots[category], bid.places[category]);
         let stop = base + width * (book.supply[category] + 1);
+        if self.grow && self.worth + self.below[stop - 1 - shift - place] <= self.line[base + place] {
+            return None;
+        }
+        let shift = shift + count * width;
         if category + 1 == lots.len() {
             return self.run(base + count * width, stop, shift);
         }
-        (count..=book.supply[category]).find_map(|n| self.block(book, lots, category + 1, base + n * width, shift))
+        (count..=book.supply[category]).find_map(|n| self.block(book, bid, lots, category + 1, base + n * width, shift))
     }
 }
 
@@ -170,13 +175,15 @@ fn grows(book: &Book, line: &[i64]) -> bool {
 
 fn line_fault(book: &Book, j: usize, is_used: bool, lines: [&[i64]; 2], worth: impl Fn(&Bid) -> i128) -> Option<usize> {
     let [line, below] = lines;
-    let none = Rule { line, below, worth: 0 }.run(0, line.len(), 0);
+    let none = Rule { line, below, worth: 0, grow: false }.run(0, line.len(), 0);
+    let grows_below = is_used && grows(book, below);
+    let grow = grows_below && grows(book, line);
     let fault = |bid: &Bid| {
-        let rule = Rule { line, below, worth: worth(bid) as i64 };
-        rule.block(book, &bid.lots[..used(&bid.lots)], 0, 0, 0)
+        let rule = Rule { line, below, worth: worth(bid) as i64, grow };
+        rule.block(book, bid, &bid.lots[..used(&bid.lots)], 0, 0, 0)
     };
     let bids: &[Bid] = if is_used { &book.bidders[j].1 } else { &[] };
-    let faults: Option<usize> = if is_used && grows(book, below) {
+    let faults: Option<usize> = if grows_below {
         book.needed[j].iter().map(|i| &bids[*i]).filter(|bid| worth(bid) > 0).filter_map(fault).min()
     } else {
         bids.iter().filter_map(fault).min()

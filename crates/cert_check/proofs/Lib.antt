@@ -11,6 +11,7 @@ pub mod HeadLines
 pub mod PartLines
 pub mod LoweredLines
 pub mod Blocks
+pub mod CornerLaws
 pub mod Gains
 pub mod Written
 pub mod FieldLaws

@@ -9,6 +9,7 @@ use Rattle.cert_laws.specs.auction_model.specs.Book.{lots_of}
 use Rattle.cert_laws.specs.auction_model.proofs.PlaceLaws.{place-less}
 use Rattle.cert_laws.specs.auction_model.proofs.TrimLaws.{trim-within}
 use Rattle.cert_laws.specs.Tests.{states}
+use Rattle.cert_check.specs.Corners.{KeepsBlock}
 use Rattle.cert_check.specs.Faults.{FirstFault}
 use Rattle.cert_laws.specs.wide_num.specs.Sums.{nth}
 use Rattle.cert_check.specs.LineTests.{worth_of, KeepsBid, KeepsSome}
@@ -21,8 +22,10 @@ AsksOf line below shift worth supply lots s =
     (n : ℕ) → n < states_of supply → s ≡ 0 + n → IsTrue (is_within lots (left_at supply n)) → (worth +ℤ nth below (s - shift)) ≤ℤ nth line s
 
 -- the rule of a bid, tested block by block
-pub block-bid : (o : Offers) (j i : ℕ) (line below : List ℤ) (shift : ℕ) (worth : ℤ) (supply lots : List ℕ) (used until r : ℕ) → supply ≡ o.book.now.supply → lots ≡ lots_of o.book.now j i → IsNothingFrom used lots
-    → shift ≡ place_of supply lots → worth ≡ worth_of o j i → FirstFault (AsksOf line below shift worth supply (take used lots)) until r → FirstFault (KeepsBid o j line below i) until r
+pub block-bid : (o : Offers) (j i : ℕ) (line below : List ℤ) (shift : ℕ) (worth : ℤ) (supply lots : List ℕ) (used until r : ℕ)
+    → supply ≡ o.book.now.supply → lots ≡ lots_of o.book.now j i → IsNothingFrom used lots
+    → shift ≡ place_of supply lots → worth ≡ worth_of o j i → FirstFault (AsksOf line below shift worth supply (take used lots)) until r → FirstFault
+    (KeepsBid o j line below i) until r
 block-bid o j i line below shift worth supply lots used until r s_is l_is nothing shift_is worth_is f =
     fault-same (AsksOf line below shift worth supply (take used lots)) (KeepsBid o j line below i) until r to from f
   where
@@ -50,8 +53,31 @@ block-bid o j i line below shift worth supply lots used until r s_is l_is nothin
         let e = rest n lt' fits' in
         omega (arith, ints, c, e, worth_is)
 
+-- the rule of a bid, seen to hold at once
+pub kept-bid : (o : Offers) (j i : ℕ) (line below : List ℤ) (worth : ℤ) (supply lots : List ℕ) (until : ℕ) → supply ≡ o.book.now.supply
+    → lots ≡ lots_of o.book.now j i
+    → worth ≡ worth_of o j i → KeepsBlock supply lots line below worth → FirstFault (KeepsBid o j line below i) until until
+kept-bid o j i line below worth supply lots until s_is l_is worth_is keeps = record {
+  within = omega arith;
+  before = λ s _. kept s;
+  fails = λ lt. absurd (omega (arith, lt));
+}
+  where
+    own : KeepsBlock o.book.now.supply (lots_of o.book.now j i) line below worth
+    own = subst (λ (p : List ℕ). KeepsBlock o.book.now.supply p line below worth) l_is (subst (λ (p : List ℕ). KeepsBlock p lots line below worth) s_is keeps)
+
+    kept : (s : ℕ) → KeepsBid o j line below i s
+    kept s low fits =
+        let supply = o.book.now.supply in
+        let lots = lots_of o.book.now j i in
+        let place : s - place_of supply lots ≡ place_of supply (less (left_at supply s) lots) = omega (arith, place-less supply lots s low fits) in
+        let rest : nth below (s - place_of supply lots) ≡ nth below (place_of supply (less (left_at supply s) lots)) = ap (nth below) place in
+        let here = own s low fits in
+        omega (arith, ints, here, rest, worth_is)
+
 -- one bid more
-pub line-more : (o : Offers) (j : ℕ) (line below : List ℤ) (k stop e r : ℕ) → FirstFault (KeepsSome o j line below k) stop e → FirstFault (KeepsBid o j line below (k + 1)) e r
+pub line-more : (o : Offers) (j : ℕ) (line below : List ℤ) (k stop e r : ℕ) → FirstFault (KeepsSome o j line below k) stop e → FirstFault
+    (KeepsBid o j line below (k + 1)) e r
     → FirstFault (KeepsSome o j line below (k + 1)) stop r
 line-more o j line below k stop e r f g =
     fault-both (KeepsSome o j line below k) (KeepsBid o j line below (k + 1)) (KeepsSome o j line below (k + 1)) stop e r

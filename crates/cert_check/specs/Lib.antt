@@ -8,6 +8,7 @@ pub mod Verdicts
 pub mod Faults
 pub mod Narrow
 pub mod Growth
+pub mod Corners
 pub mod Worths
 pub mod LineTests
 pub mod EarlierBids

@@ -10,6 +10,7 @@ ghost use Rattle.cert_check.specs.Fields.{IsOf, cert_headed};
 ghost use Rattle.cert_check.specs.Places.{IsFirstFailing};
 ghost use Rattle.cert_text.specs.limits.specs.declared.TheConstants.{MOST_BIDDERS};
 
+pub(crate) mod blocks;
 pub(crate) mod earlier;
 pub(crate) mod gains;
 pub(crate) mod grids;

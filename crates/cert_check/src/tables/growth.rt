@@ -3,7 +3,10 @@
 ghost use Rattle.std.specs.Prelude.{◌≡◌, ◌≤◌, ◌<◌, length, IsTrue};
 ghost use Rattle.cert_laws.specs.auction_model.specs.Place.{states_of, widths_of};
 ghost use Rattle.cert_check.specs.Growth.{Grows, RisesBy};
+ghost use Rattle.cert_check.specs.Narrow.{IsSmall};
 ghost use Rattle.cert_text.specs.limits.specs.declared.TheConstants.{MOST_STATES};
+
+use crate::tables::blocks::covers_all;
 
 /// Whether no number is below the one `width` places before it.
 fn rises_by(line: &[i128], width: usize) -> bool
@@ -35,6 +38,43 @@ pub fn is_growing(supply: &[u16], widths: &[usize], line: &[i128]) -> bool
     for block in 0..supply[0] as usize + 1 {
         let from = block * width;
         if !is_growing(&supply[1..], &widths[1..], &line[from..from + width]) {
+            return false;
+        }
+    }
+    true
+}
+
+/// The same as `rises_by` in 64 bits.
+fn rises_narrow(line: &[i64], width: usize) -> bool
+    requires small { IsSmall line.now }
+    ensures { IsTrue result → RisesBy width line.now }
+{
+    let all = line.len();
+    if width >= all {
+        return true;
+    }
+    covers_all(&line[width..], &line[..all - width], 0)
+}
+
+/// The same as `is_growing` in 64 bits.
+pub fn is_growing_narrow(supply: &[u16], widths: &[usize], line: &[i64]) -> bool
+    requires widths { widths.now ≡ widths_of supply.now }
+    requires some { 0 < length supply.now }
+    requires states { states_of supply.now ≤ MOST_STATES }
+    requires places { length line.now ≡ states_of supply.now }
+    requires small { IsSmall line.now }
+    ensures { IsTrue result → Grows supply.now line.now }
+{
+    let width = widths[0];
+    if !rises_narrow(line, width) {
+        return false;
+    }
+    if supply.len() == 1 {
+        return true;
+    }
+    for block in 0..supply[0] as usize + 1 {
+        let from = block * width;
+        if !is_growing_narrow(&supply[1..], &widths[1..], &line[from..from + width]) {
             return false;
         }
     }

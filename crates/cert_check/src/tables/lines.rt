@@ -5,17 +5,22 @@ ghost use Rattle.cert_laws.specs.cert_form.specs.CertText.{IsTable};
 ghost use Rattle.cert_laws.specs.Tests.{bidders_of, states};
 ghost use Rattle.cert_check.specs.Faults.{FirstFault};
 ghost use Rattle.cert_check.specs.LineTests.{offered, KeepsNone, KeepsZero, KeepsBid, KeepsSome, ObeysIn};
+ghost use Rattle.cert_laws.specs.auction_model.specs.Package.{is_within};
+ghost use Rattle.cert_laws.specs.auction_model.specs.Place.{states_of};
+ghost use Rattle.cert_check.specs.Corners.{BothGrow, KeepsBlock};
+ghost use Rattle.cert_check.specs.Growth.{Grows};
 ghost use Rattle.cert_check.specs.Narrow.{IsSmall};
 
-use crate::tables::growth::is_growing;
+use crate::tables::blocks::{block_holds, covers_all};
+use crate::tables::growth::{is_growing, is_growing_narrow};
 use crate::tables::offers::Offers;
-use crate::tables::rule::{LinePair, LineRule};
+use crate::tables::rule::{LinePair, LineRule, NarrowRule};
 use crate::tables::walk::{block_fault, run_fault};
 use cert_text::limits::MOST_STATES;
-use cert_text::lots::used_categories;
+use cert_text::lots::{Package, Supply, used_categories};
 
 /// The greatest number with which the rules are tested in 64 bits.
-const MOST_NARROW: u128 = 1 << 61;
+const MOST_NARROW: u128 = 1 << 60;
 
 /// Room for the longest line.
 const MOST_ROOM: usize = MOST_STATES as usize;
@@ -32,25 +37,68 @@ fn last_fault(line: &[i128]) -> usize
     line.len()
 }
 
+/// Whether a line is seen in 64 bits to be nowhere below the line below it.
+fn none_kept(lines: &LinePair) -> bool
+    ensures { IsTrue result → (s : ℕ) → KeepsNone lines.now.line.now lines.now.below.now s }
+{
+    if !lines.is_narrow {
+        return false;
+    }
+    covers_all(lines.narrow_line, lines.narrow_below, 0)
+}
+
 /// The first place at which a line is below the line below it, and its length where there is none.
 fn none_fault(lines: &LinePair) -> usize
     ensures { FirstFault (KeepsNone lines.now.line.now lines.now.below.now) (length lines.now.line.now) result }
 {
+    if none_kept(lines) {
+        return lines.line.len();
+    }
     let rule = LineRule {
         line: lines.line,
         below: lines.below,
         shift: 0,
         worth: 0,
-        is_narrow: lines.is_narrow,
-        narrow_line: lines.narrow_line,
-        narrow_below: lines.narrow_below,
-        narrow_worth: 0,
     };
     run_fault(&rule, 0, lines.line.len(), lines.line.len())
 }
 
-/// The first place, below `until`, at which the line of bidder `j` breaks the rule of its bid `i`, and `until` where there is none.
-fn bid_fault(offers: &Offers, j: u16, i: u16, lines: &LinePair, until: usize) -> usize
+/// Whether the rule of a bid is seen to hold in 64 bits. Where `grow` says so neither line falls where more is left.
+fn bid_kept(supply: &Supply, lots: &Package, lines: &LinePair, grow: bool, worth: i128) -> bool
+    requires categories { length lots.now ≡ length supply.now }
+    requires fits { IsTrue (is_within lots.now supply.now) }
+    requires line { length lines.now.line.now ≡ states_of supply.now }
+    requires grow { BothGrow supply.now grow lines.now.line.now lines.now.below.now }
+    ensures { IsTrue result → KeepsBlock supply.now lots.now lines.now.line.now lines.now.below.now worth }
+{
+    let radices = supply.counts();
+    let _states = supply.states();
+    if !lines.is_narrow {
+        return false;
+    }
+    if worth.unsigned_abs() > MOST_NARROW {
+        return false;
+    }
+    let rule = NarrowRule {
+        worth: worth as i64,
+        grow,
+    };
+    let counts = lots.counts();
+    let used = used_categories(counts);
+    block_holds(
+        &rule,
+        radices,
+        supply.widths(),
+        &counts[..used],
+        supply.place(lots),
+        lines.narrow_line,
+        lines.narrow_below,
+    )
+}
+
+/// The first place, below `until`, at which the line of bidder `j` breaks the rule of its bid `i`, and `until` where there is none,
+/// place by place.
+fn exact_fault(offers: &Offers, j: u16, i: u16, lines: &LinePair, until: usize) -> usize
     requires bidder { (0 < j) × (j ≤ bidders_of offers.now.book.now) }
     requires bid { (0 < i) × (i ≤ length (bids_of offers.now.book.now j)) }
     requires line { length lines.now.line.now ≡ states offers.now.book.now }
@@ -60,16 +108,11 @@ fn bid_fault(offers: &Offers, j: u16, i: u16, lines: &LinePair, until: usize) ->
     let _states = supply.states();
     let bid = offers.book.bid(j, i);
     let worth = offers.worth(j, i);
-    let is_narrow = lines.is_narrow && worth.unsigned_abs() <= MOST_NARROW;
     let rule = LineRule {
         line: lines.line,
         below: lines.below,
         shift: supply.place(&bid.package),
         worth,
-        is_narrow,
-        narrow_line: lines.narrow_line,
-        narrow_below: lines.narrow_below,
-        narrow_worth: if is_narrow { worth as i64 } else { 0 },
     };
     let counts = bid.package.counts();
     let used = used_categories(counts);
@@ -83,6 +126,53 @@ fn bid_fault(offers: &Offers, j: u16, i: u16, lines: &LinePair, until: usize) ->
     )
 }
 
+/// The same, and only where the rule isn't seen to hold in 64 bits place by place. Where `grow` says so neither line falls where
+/// more is left.
+fn bid_fault(offers: &Offers, j: u16, i: u16, lines: &LinePair, grow: bool, until: usize) -> usize
+    requires bidder { (0 < j) × (j ≤ bidders_of offers.now.book.now) }
+    requires bid { (0 < i) × (i ≤ length (bids_of offers.now.book.now j)) }
+    requires line { length lines.now.line.now ≡ states offers.now.book.now }
+    requires grow { BothGrow offers.now.book.now.supply grow lines.now.line.now lines.now.below.now }
+    ensures { FirstFault (KeepsBid offers.now j lines.now.line.now lines.now.below.now i) until result }
+{
+    let supply = offers.book.supply();
+    let bid = offers.book.bid(j, i);
+    let worth = offers.worth(j, i);
+    if bid_kept(supply, &bid.package, lines, grow, worth) {
+        return until;
+    }
+    exact_fault(offers, j, i, lines, until)
+}
+
+/// Whether the line below never falls where more is left.
+fn below_grows(supply: &Supply, lines: &LinePair) -> bool
+    requires line { length lines.now.line.now ≡ states_of supply.now }
+    ensures { IsTrue result → Grows supply.now lines.now.below.now }
+{
+    let _states = supply.states();
+    if lines.is_narrow {
+        is_growing_narrow(supply.counts(), supply.widths(), lines.narrow_below)
+    } else {
+        is_growing(supply.counts(), supply.widths(), lines.below)
+    }
+}
+
+/// Whether neither line falls where more is left, as far as the numbers stand in 64 bits, if it is known that the line below doesn't.
+fn both_grow(supply: &Supply, lines: &LinePair, grows: bool) -> bool
+    requires line { length lines.now.line.now ≡ states_of supply.now }
+    requires grows { IsTrue grows → Grows supply.now lines.now.below.now }
+    ensures { BothGrow supply.now result lines.now.line.now lines.now.below.now }
+{
+    let _states = supply.states();
+    if !grows {
+        return false;
+    }
+    if !lines.is_narrow {
+        return false;
+    }
+    is_growing_narrow(supply.counts(), supply.widths(), lines.narrow_line)
+}
+
 /// The first place at which the line of bidder `j` breaks a rule, and its length where there is none.
 fn pair_fault(offers: &Offers, j: u16, lines: &LinePair) -> usize
     requires bidder { (0 < j) × (j ≤ bidders_of offers.now.book.now) }
@@ -91,18 +181,19 @@ fn pair_fault(offers: &Offers, j: u16, lines: &LinePair) -> usize
         (length lines.now.line.now) result }
 {
     let supply = offers.book.supply();
-    let grows = is_growing(supply.counts(), supply.widths(), lines.below);
+    let grows = below_grows(supply, lines);
+    let grow = both_grow(supply, lines, grows);
     let mut found = none_fault(lines);
     for i in 0..offers.bids(j) {
         if grows && offers.is_needless(j, i + 1) {
             continue;
         }
-        found = bid_fault(offers, j, i + 1, lines, found);
+        found = bid_fault(offers, j, i + 1, lines, grow, found);
     }
     found
 }
 
-/// The numbers of a line in 64 bits each, and whether all are so small that no sum of two leaves these.
+/// The numbers of a line in 64 bits each, and whether all are so small that no sum of four leaves these.
 fn narrow_into(numbers: &mut [i64], line: &[i128]) -> bool
     requires places { length numbers.old ≡ length line.now }
     ensures same { IsTrue result → numbers.new ≡ line.now }

@@ -4,8 +4,6 @@
 ghost use Rattle.std.specs.Prelude.{◌≡◌, ◌↔◌, ℕ, ◌+◌, ◌^◌, ◌≤◌, ◌<◌, length, ◌+ℤ◌, ◌≤ℤ◌, unsigned_abs, IsTrue};
 ghost use Rattle.cert_laws.specs.auction_model.specs.Place.{states_of, place_of, widths_of};
 ghost use Rattle.cert_check.specs.Faults.{FirstFault, CoversRun, CoversBlock};
-ghost use Rattle.cert_laws.specs.wide_num.specs.Sums.{nth};
-ghost use Rattle.cert_check.specs.Narrow.{IsSmall};
 
 use crate::tables::rule::LineRule;
 
@@ -18,51 +16,8 @@ fn covers(here: i128, below: i128, worth: i128) -> bool
     worth + below <= here
 }
 
-/// The same as `covers` in 64 bits.
-fn covers_narrow(here: i64, below: i64, worth: i64) -> bool
-    requires worth { unsigned_abs worth ≤ 2 ^ 61 }
-    requires below { unsigned_abs below ≤ 2 ^ 61 }
-    ensures { IsTrue result ↔ ((worth +ℤ below) ≤ℤ here) }
-{
-    worth + below <= here
-}
-
-/// Whether each number is at least the worth and that of the line below. It goes on where one isn't, so that it takes several
-/// numbers at a time.
-fn covers_all(line: &[i64], below: &[i64], worth: i64) -> bool
-    requires places { length below.now ≡ length line.now }
-    requires worth { unsigned_abs worth ≤ 2 ^ 61 }
-    requires sizes { IsSmall below.now }
-    ensures { IsTrue result → (s : ℕ) → s < length line.now → (worth +ℤ nth below.now s) ≤ℤ nth line.now s }
-{
-    let mut all = true;
-    for i in 0..line.len() {
-        all &= covers_narrow(line[i], below[i], worth);
-    }
-    all
-}
-
-/// Whether the rule is seen to hold from `start` to `end` in 64 bits.
-fn holds_narrow(rule: &LineRule, start: usize, end: usize) -> bool
-    requires end { end ≤ length rule.now.line.now }
-    requires shift { rule.now.shift ≤ start }
-    ensures { IsTrue result → (s : ℕ) → s < end → CoversRun rule.now start end s }
-{
-    if start >= end {
-        return true;
-    }
-    if !rule.is_narrow {
-        return false;
-    }
-    covers_all(
-        &rule.narrow_line[start..end],
-        &rule.narrow_below[start - rule.shift..end - rule.shift],
-        rule.narrow_worth,
-    )
-}
-
-/// The same as `run_fault`, place by place in 128 bits.
-fn exact_fault(rule: &LineRule, start: usize, stop: usize, until: usize) -> usize
+/// The first place from `start` on, below `stop` and `until`, at which the line breaks the rule, and `until` where there is none.
+pub fn run_fault(rule: &LineRule, start: usize, stop: usize, until: usize) -> usize
     requires stop { stop ≤ length rule.now.line.now }
     requires shift { rule.now.shift ≤ start }
     ensures { FirstFault (CoversRun rule.now start stop) until result }
@@ -73,18 +28,6 @@ fn exact_fault(rule: &LineRule, start: usize, stop: usize, until: usize) -> usiz
         }
     }
     until
-}
-
-/// The first place from `start` on, below `stop` and `until`, at which the line breaks the rule, and `until` where there is none.
-pub fn run_fault(rule: &LineRule, start: usize, stop: usize, until: usize) -> usize
-    requires stop { stop ≤ length rule.now.line.now }
-    requires shift { rule.now.shift ≤ start }
-    ensures { FirstFault (CoversRun rule.now start stop) until result }
-{
-    if holds_narrow(rule, start, stop.min(until)) {
-        return until;
-    }
-    exact_fault(rule, start, stop, until)
 }
 
 /// The same as `block_fault` of a package of one category: in a block its places are one run.
