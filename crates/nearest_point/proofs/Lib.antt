@@ -2,6 +2,7 @@ pub mod Answer
 pub mod Bits
 pub mod Forced
 pub mod Grams
+pub mod Judging
 pub mod Leaves
 pub mod Parts
 pub mod Places

@@ -1,5 +1,5 @@
 -- The system of the forced rows, and the point that its solution gives.
-use Rattle.std.proofs.Common.{◌≡◌, ℕ, ◌+◌, ◌^◌, ◌<◌, sym, arith, ap, ◌∙◌, subst, List, length, to_z, of_z}
+use Rattle.std.proofs.Common.{◌≡◌, ℕ, ◌+◌, ◌^◌, ◌<◌, refl, sym, arith, ap, ◌∙◌, subst, List, [], ◌∷◌, length, to_z, of_z}
 use Rattle.std.specs.Int.{w128}
 use Rattle.std.specs.Prelude.{ℤ, pos, ◌+ℤ◌, ◌-ℤ◌, ◌*ℤ◌, ◌<ℤ◌}
 use Rattle.std.proofs.lemmas.Int.{ints}
@@ -7,11 +7,14 @@ use Rattle.lin_solve.specs.far_num.specs.Pairs.{far_at, near_at}
 use Rattle.lin_solve.specs.far_num.specs.declared.Far.{Far}
 use Rattle.lin_solve.specs.far_num.specs.declared.Row.{Row}
 use Rattle.lin_solve.specs.Matrix.{row}
-use Rattle.lin_solve.specs.Solved.{IsAnswer, IsDependence, IsOneSolution, IsSmallAnswer}
+use Rattle.lin_solve.specs.Solved.{IsAnswer, IsDependence, IsOneSolution, IsSmallAnswer, Satisfies}
 use Rattle.lin_solve.specs.declared.solved.Solved.{Solved as Answer}
 use Rattle.lin_solve.specs.declared.solved.Solved.TheVariants.{One, Dependent}
 use Rattle.point_laws.specs.wide_num.specs.Sums.{dot, nth, total}
-use Rattle.point_laws.specs.wide_num.proofs.Sums.{dot-same, total-same}
+use Rattle.point_laws.specs.wide_num.proofs.Sums.{dot-same, total-add, total-same, total-zero}
+use Rattle.point_laws.specs.wide_num.proofs.Ints.{mul-zero_cases}
+use Rattle.point_laws.proofs.PointLaws.{times_zero}
+use Rattle.point_laws.proofs.Ring.{var, add, mul, ring}
 use Rattle.nearest_point.specs.declared.settle.Held.{Held}
 use Rattle.nearest_point.specs.declared.settle.Multipliers.{Multipliers}
 use Rattle.nearest_point.specs.Numbers.{AreBelow, at_t, large, place}
@@ -20,7 +23,7 @@ use Rattle.nearest_point.specs.Search.{ByParts, Independent, Solved, gram}
 use Rattle.nearest_point.specs.Found.{AreMultipliers, AreWithin, HasParts, IsLowered, IsNear, IsPart, Solves, common, row_of}
 use Rattle.nearest_point.proofs.Parts.{dot-at_t, settled, solved-at_t}
 use Rattle.nearest_point.proofs.Steps.{near_start}
-use Rattle.nearest_point.proofs.Vectors.{never_dependent}
+use Rattle.nearest_point.proofs.Vectors.{gram_times, never_dependent}
 
 -- what common members weigh by the lowered target is what they weigh by the weights
 pub gram_is : (m : ℕ) (a b : ℕ → ℤ) (weights : List ℕ) (lowered : List ℤ) → IsLowered weights lowered → length lowered ≡ m
@@ -46,6 +49,36 @@ no_dependence m n a weight wp matrix v g ind d =
 pub never : (m n : ℕ) (a : ℕ → ℕ → ℤ) (weight : ℕ → ℤ) → ((j : ℕ) → j < m → pos 0 <ℤ weight j) → (matrix : List (List ℤ)) (v : List ℤ) (fars nears : ℕ → ℤ) (s : Answer)
     → IsGram m n a weight matrix → Independent m n a → IsAnswer matrix fars nears s → s ≡ Dependent v → ⊥
 never m n a weight wp matrix v fars nears s g ind answer e = no_dependence m n a weight wp matrix v g ind (subst (IsAnswer matrix fars nears) e answer)
+
+-- rows whose system has one solution are independent: with a combination that is 0 everywhere another solution could be had
+independent_by : (m n : ℕ) (a : ℕ → ℕ → ℤ) (weight : ℕ → ℤ) (matrix : List (List ℤ)) (fars nears : ℕ → ℤ) (den : ℤ) (values : List Far)
+    → IsGram m n a weight matrix → IsOneSolution matrix fars nears den values → Independent m n a
+independent_by m n a weight matrix fars nears den values g one = record { only_zero = none }
+  where
+    none : (c : ℕ → ℤ) → ((j : ℕ) → j < m → total n (λ i. c i *ℤ a i j) ≡ pos 0) → (i : ℕ) → i < n → c i ≡ pos 0
+    none c z i lt =
+        let x : ℕ → ℤ = far_at values in
+        let sent : (k : ℕ) → k < n → dot n (row matrix k) c ≡ pos 0 = λ k lk.
+        total-same n (λ q. row matrix k q *ℤ c q) (λ q. gram m a weight k q *ℤ c q) (λ q lq. ap (λ (t : ℤ). t *ℤ c q) (g.entries k q lk lq))
+        ∙ gram_times m n a weight c k
+        ∙ total-zero m (λ j. a k j *ℤ (weight j *ℤ total n (λ q. c q *ℤ a q j)))
+        (λ j lj. times_zero (a k j) (weight j *ℤ total n (λ q. c q *ℤ a q j)) (times_zero (weight j) (total n (λ q. c q *ℤ a q j)) (z j lj))) in
+        let both : Satisfies matrix (λ q. x q +ℤ c q) den fars = λ k lk.
+        subst (λ (t : ℕ). dot t (row matrix k) (λ q. x q +ℤ c q) ≡ den *ℤ fars k) (sym g.long)
+        (total-same n (λ q. row matrix k q *ℤ (x q +ℤ c q)) (λ q. row matrix k q *ℤ x q +ℤ row matrix k q *ℤ c q)
+        (λ q lq. ring (row matrix k q ∷ x q ∷ c q ∷ []) (mul (var 0) (add (var 1) (var 2))) (add (mul (var 0) (var 1)) (mul (var 0) (var 2))) refl)
+        ∙ total-add n (λ q. row matrix k q *ℤ x q) (λ q. row matrix k q *ℤ c q)
+        ∙ (let s = subst (λ (t : ℕ). dot t (row matrix k) x ≡ den *ℤ fars k) g.long (one.far.solves k lk) in
+        let o = sent k (let e = g.long in omega arith) in omega (arith, ints))) in
+        let same : den *ℤ (x i +ℤ c i) ≡ den *ℤ x i = one.far.only (λ q. x q +ℤ c q) den both i (let e = g.long in omega arith) in
+        let apart : den *ℤ (x i +ℤ c i) ≡ den *ℤ x i +ℤ den *ℤ c i = ring (den ∷ x i ∷ c i ∷ []) (mul (var 0) (add (var 1) (var 2))) (add (mul (var 0) (var 1)) (mul (var 0) (var 2))) refl in
+        let p = one.positive in
+        mul-zero_cases den (c i) (omega (arith, ints)) (λ e. absurd (omega (arith, ints)))
+
+-- rows whose system is answered with one solution are independent
+pub independent_of : (m n : ℕ) (a : ℕ → ℕ → ℤ) (weight : ℕ → ℤ) (matrix : List (List ℤ)) (fars nears : ℕ → ℤ) (den : ℤ) (values : List Far) (s : Answer)
+    → IsGram m n a weight matrix → IsAnswer matrix fars nears s → s ≡ One den values → Independent m n a
+independent_of m n a weight matrix fars nears den values s g answer e = independent_by m n a weight matrix fars nears den values g (subst (IsAnswer matrix fars nears) e answer)
 
 -- one part of the solution solves the system of the forced rows
 solves_part : (m n : ℕ) (a : ℕ → ℕ → ℤ) (weight : ℕ → ℤ) (matrix : List (List ℤ)) (den : ℤ) (x mult target bound right : ℕ → ℤ) → IsGram m n a weight matrix

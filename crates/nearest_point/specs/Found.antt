@@ -2,10 +2,10 @@
 use Rattle.lin_solve.specs.far_num.specs.declared.Row.{Row}
 use Rattle.nearest_point.specs.Numbers.{AreBelow, at_t, large, place}
 use Rattle.nearest_point.specs.Problem.{AreOnes, bounds, coefficients, weight_at}
-use Rattle.nearest_point.specs.Search.{ByParts, Near, Owed, gram}
+use Rattle.nearest_point.specs.Search.{ByParts, Independent, Near, Owed, gram}
 use Rattle.nearest_point.specs.declared.settle.Held.{Held}
 use Rattle.nearest_point.specs.declared.settle.Multipliers.{Multipliers}
-use Rattle.std.specs.Prelude.{List, length, pos, ℕ, ℤ, ◌*ℤ◌, ◌+ℤ◌, ◌-ℤ◌, ◌<ℤ◌, ◌<◌, ◌^◌, ◌≡◌, ◌≤ℤ◌}
+use Rattle.std.specs.Prelude.{List, [], length, pos, ℕ, ℤ, ◌*ℤ◌, ◌+ℤ◌, ◌-ℤ◌, ◌<ℤ◌, ◌<◌, ◌^◌, ◌≡◌, ◌≤ℤ◌, ◌≤◌}
 use Rattle.point_laws.specs.wide_num.specs.Sums.{dot, nth, total}
 
 -- each place is one of a row
@@ -88,3 +88,40 @@ pub record IsPart (rows : List Row) (forced : List ℕ) (weight : ℕ → ℤ) (
   pub long : length point ≡ length target
   pub at : (j : ℕ) → j < length target
       → nth point j ≡ den *ℤ nth target j +ℤ weight j *ℤ total (length forced) (λ i. nth multipliers i *ℤ row_of rows forced i j)
+
+-- some combination of the forced rows, not all zero, is 0 in each coordinate
+abbrev pub AreDependent : List ℤ → List Row → List ℕ → Type 0
+AreDependent target rows forced = ¬ Independent (length target) (length forced) (row_of rows forced)
+
+-- the forced rows are independent, and the multipliers are theirs
+pub record IsSolved (target : List ℤ) (weights : List ℕ) (rows : List Row) (forced : List ℕ) (f : Multipliers) : Type 0 where
+  pub independent : Independent (length target) (length forced) (row_of rows forced)
+  pub multipliers : AreMultipliers target weights rows forced f
+
+-- the point is that of the forced rows with equality, and no other row is taken
+pub record IsSettledFor (target : List ℤ) (weights : List ℕ) (rows : List Row) (forced : List ℕ) (h : Held) : Type 0 where
+  pub near : IsNear target weights rows forced (length rows) h
+  pub parts : HasParts target weights rows h
+
+-- a point of at most six coordinates with small parts, and two small parts of a multiplier for each of its rows
+pub record IsSized (h : Held) : Type 0 where
+  pub few : length h.far.items ≤ 6
+  pub long_near : length h.near.items ≡ length h.far.items
+  pub long_first : length h.first.items ≡ length h.rows.items
+  pub long_second : length h.second.items ≡ length h.rows.items
+  pub positive : pos 0 <ℤ h.den
+  pub small_den : h.den ≤ℤ pos (320 ^ 4)
+  pub small_far : AreBelow (2 ^ 113) h.far.items
+  pub small_near : AreBelow (2 ^ 113) h.near.items
+  pub small_first : AreBelow (2 ^ 106) h.first.items
+  pub small_second : AreBelow (2 ^ 106) h.second.items
+
+-- no multiplier is below 0, and the point meets all rows
+pub record Passes (rows : List Row) (h : Held) : Type 0 where
+  pub signs : (i : ℕ) → i < length h.rows.items → pos 0 ≤ℤ multiplier_at h i
+  pub meets : (k : ℕ) → k < length rows → (h.den *ℤ bounds rows k) ≤ℤ dot (length h.far.items) (coefficients rows k) (point_at h)
+
+-- the point is right for all rows
+pub record IsRight (target : List ℤ) (weights : List ℕ) (rows : List Row) (h : Held) : Type 0 where
+  pub near : IsNear target weights rows [] 0 h
+  pub parts : HasParts target weights rows h

@@ -3,6 +3,9 @@
 //! The target is lowered by `t` times the weight in each coordinate, where `t` is above every number. The point nearest
 //! to the lowered target has the least sum, and is the nearest to the target among the points of that sum. Its multipliers
 //! are pairs: the far part is the first multiplier, the near part the second.
+//!
+//! A point whose multipliers aren't below 0 and that meets all rows is that point, however its rows were found. So a guess
+//! comes first, and a search only where it finds none.
 #![tactic(auto)]
 
 ghost use Rattle.auction_model.specs.Prices.{AreWeights};
@@ -18,7 +21,10 @@ use lin_solve::far_num::Row;
 use point_laws::wide_num::NumList;
 use std::alloc::{AllocError, Global};
 
+mod exchange;
 mod found;
+mod guess;
+mod judge;
 mod members;
 mod search;
 mod settle;
@@ -28,6 +34,7 @@ mod system;
 mod tests;
 
 pub use found::Nearest;
+use guess::guess;
 pub use lin_solve;
 pub use point_laws::wide_num;
 use search::search_from;
@@ -86,7 +93,7 @@ pub fn nearest(
     ensures small { IfOk result
         (λ p. AreBelow (2 ^ 109) p.at × AreBelow (2 ^ 109) p.first × AreBelow (2 ^ 109) p.second) }
 {
-    let held = search_all(alloc, target, weights, rows, &mut 0)?;
+    let held = guess_or_search(alloc, target, weights, rows)?;
     let first = spread_out(alloc, rows.len(), &held.rows, &held.first)?;
     let second = spread_out(alloc, rows.len(), &held.rows, &held.second)?;
     Ok(Nearest {
@@ -97,7 +104,29 @@ pub fn nearest(
     })
 }
 
-// The point by parts. `systems` counts the systems that are solved.
+// The point by parts: a guess that passes the test, and else what the search finds.
+fn guess_or_search(
+    alloc: Global,
+    target: &[i128],
+    weights: &[u32],
+    rows: &[Row],
+) -> Result<Held, AllocError>
+    requires coordinates { (1 ≤ length target.now) × (length target.now ≤ 6) }
+    requires weights { AreWeights (length target.now) weights.now }
+    requires members { HasMembers (length target.now) rows.now }
+    requires targets { AreTargets target.now }
+    requires bounds { AreBounds rows.now }
+    requires sizes { AreOnes (length target.now) weights.now ⊎ IsNarrow target.now rows.now }
+    ensures near { IfOk result (λ h. IsNear target.now weights.now rows.now [] 0 h) }
+    ensures parts { IfOk result (λ h. HasParts target.now weights.now rows.now h) }
+{
+    match guess(alloc, target, weights, rows, &mut 0)? {
+        Some(held) => Ok(held),
+        None => search_all(alloc, target, weights, rows, &mut 0),
+    }
+}
+
+// The point by parts, by the search alone. `systems` counts the systems that are solved.
 fn search_all(
     alloc: Global,
     target: &[i128],

@@ -53,7 +53,8 @@ pub(crate) fn is_below(far: &[i128], near: &[i128], den: i128, row: Row) -> bool
     is_less(far_sum, near_sum, least)
 }
 
-fn is_less(far: i128, near: i128, least: i128) -> bool
+/// Whether the pair is below the number, the far parts compared first.
+pub(crate) fn is_less(far: i128, near: i128, least: i128) -> bool
     requires near { unsigned_abs near ≤ 2 ^ 117 }
     requires least { unsigned_abs least ≤ 2 ^ 117 }
     ensures below { IsTrue result → ((far *ℤ large) +ℤ near) <ℤ least }

@@ -1,9 +1,9 @@
-ghost use Rattle.nearest_point.specs.Found.{AreMultipliers, AreWithin, HasParts, IsLowered, IsNear, IsPart, point_at, row_of};
+ghost use Rattle.nearest_point.specs.Found.{AreDependent, AreWithin, HasParts, IsLowered, IsNear, IsPart, IsSettledFor, IsSolved, point_at, row_of};
 ghost use Rattle.nearest_point.specs.Numbers.{AreBelow};
 ghost use Rattle.auction_model.specs.Prices.{AreWeights};
 ghost use Rattle.nearest_point.specs.Problem.{IsProblem, bounds, coefficients, weight_at};
 ghost use Rattle.nearest_point.specs.Search.{Independent};
-ghost use Rattle.std.specs.Prelude.{IfOk, IsTrue, length, not, pos, unsigned_abs, ℕ, ◌*ℤ◌, ◌*◌, ◌+ℤ◌, ◌<ℤ◌, ◌<◌, ◌^◌, ◌≡◌, ◌≤ℤ◌, ◌≤◌};
+ghost use Rattle.std.specs.Prelude.{IfOk, IsTrue, MatchOption, length, not, pos, unsigned_abs, ℕ, ◌*ℤ◌, ◌*◌, ◌+ℤ◌, ◌<ℤ◌, ◌<◌, ◌^◌, ◌≡◌, ◌≤ℤ◌, ◌≤◌};
 ghost use Rattle.point_laws.specs.wide_num.specs.Sums.{dot, nth, total};
 
 use crate::members::{is_below, member_part};
@@ -50,7 +50,7 @@ struct Multipliers {
     second: Vec<i128>,
 }
 
-/// The point nearest to the lowered target with equality in the forced rows.
+/// The point nearest to the lowered target with equality in the forced rows, which are independent.
 pub(crate) fn settle(
     alloc: Global,
     target: &[i128],
@@ -64,12 +64,58 @@ pub(crate) fn settle(
     ensures near { IfOk result (λ h. IsNear target.now weights.now rows.now forced.now (length rows.now) h) }
     ensures parts { IfOk result (λ h. HasParts target.now weights.now rows.now h) }
 {
+    match settle_if_independent(alloc, target, weights, rows, forced)? {
+        Some(held) => Ok(held),
+        None => unreachable!(),
+    }
+}
+
+/// The point nearest to the lowered target with equality in the forced rows, or None where these aren't independent.
+pub(crate) fn settle_if_independent(
+    alloc: Global,
+    target: &[i128],
+    weights: &[u32],
+    rows: &[Row],
+    forced: &[usize],
+) -> Result<Option<Held>, AllocError>
+    requires problem { IsProblem target.now weights.now rows.now }
+    requires within { AreWithin forced.now rows.now }
+    requires few { length forced.now ≤ length target.now }
+    ensures { IfOk result
+        (λ found. MatchOption found (AreDependent target.now rows.now forced.now)
+        (IsSettledFor target.now weights.now rows.now forced.now)) }
+{
     let lowered = lowered_target(alloc, weights)?;
-    let found = solve_forced(alloc, target, weights, &lowered, rows, forced)?;
+    match solve_forced(alloc, target, weights, &lowered, rows, forced)? {
+        Some(found) => {
+            let held = point_of(alloc, target, weights, &lowered, rows, forced, found)?;
+            Ok(Some(held))
+        }
+        None => Ok(None),
+    }
+}
+
+// The point that solved multipliers give.
+fn point_of(
+    alloc: Global,
+    target: &[i128],
+    weights: &[u32],
+    lowered: &[i128],
+    rows: &[Row],
+    forced: &[usize],
+    found: Multipliers,
+) -> Result<Held, AllocError>
+    requires problem { IsProblem target.now weights.now rows.now }
+    requires lowered { IsLowered weights.now lowered.now }
+    requires within { AreWithin forced.now rows.now }
+    requires few { length forced.now ≤ length target.now }
+    requires solved { IsSolved target.now weights.now rows.now forced.now found }
+    ensures { IfOk result (IsSettledFor target.now weights.now rows.now forced.now) }
+{
     let far = point_part(
         alloc,
         found.den,
-        &lowered,
+        lowered,
         weights,
         rows,
         forced,
@@ -95,8 +141,8 @@ pub(crate) fn settle(
     })
 }
 
-// The far part of the lowered target.
-fn lowered_target(alloc: Global, weights: &[u32]) -> Result<Vec<i128>, AllocError>
+/// The far part of the lowered target.
+pub(crate) fn lowered_target(alloc: Global, weights: &[u32]) -> Result<Vec<i128>, AllocError>
     ensures { IfOk result (λ v. IsLowered weights.now v.items) }
 {
     let mut out = Vec::new(alloc);
@@ -106,7 +152,7 @@ fn lowered_target(alloc: Global, weights: &[u32]) -> Result<Vec<i128>, AllocErro
     Ok(out)
 }
 
-// The multipliers with which the point meets the forced rows with equality.
+// The multipliers with which the point meets the forced rows with equality, or None where these aren't independent.
 fn solve_forced(
     alloc: Global,
     target: &[i128],
@@ -114,19 +160,21 @@ fn solve_forced(
     lowered: &[i128],
     rows: &[Row],
     forced: &[usize],
-) -> Result<Multipliers, AllocError>
+) -> Result<Option<Multipliers>, AllocError>
     requires problem { IsProblem target.now weights.now rows.now }
     requires lowered { IsLowered weights.now lowered.now }
     requires within { AreWithin forced.now rows.now }
-    requires independent { Independent (length target.now) (length forced.now) (row_of rows.now forced.now) }
-    ensures { IfOk result (λ f. AreMultipliers target.now weights.now rows.now forced.now f) }
+    requires few { length forced.now ≤ length target.now }
+    ensures { IfOk result
+        (λ found. MatchOption found (AreDependent target.now rows.now forced.now)
+        (IsSolved target.now weights.now rows.now forced.now)) }
 {
     if forced.is_empty() {
-        return Ok(Multipliers {
+        return Ok(Some(Multipliers {
             den: 1,
             first: Vec::new(alloc),
             second: Vec::new(alloc),
-        });
+        }));
     }
     let matrix = gram_matrix(alloc, lowered, rows, forced)?;
     let right = right_sides(alloc, lowered, target, rows, forced)?;
@@ -134,9 +182,9 @@ fn solve_forced(
         Solved::One { den, values } => {
             let first = far_parts(alloc, values.items())?;
             let second = near_parts(alloc, values.items())?;
-            Ok(Multipliers { den, first, second })
+            Ok(Some(Multipliers { den, first, second }))
         }
-        Solved::Dependent { .. } => unreachable!(),
+        Solved::Dependent { .. } => Ok(None),
     }
 }
 

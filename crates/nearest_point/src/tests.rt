@@ -2,7 +2,7 @@ ghost use Rattle.nearest_point.specs.Problem.{HasMembers, HasSingles, bounds, ro
 ghost use Rattle.std.specs.Prelude.{IfSome, IsTrue, length, pos, slice_index_or, ℕ, ◌<◌, ◌^◌, ◌≡◌, ◌≤ℤ◌, ◌≤◌};
 ghost use Rattle.point_laws.specs.wide_num.specs.Sums.{nth, total};
 
-use super::{Nearest, nearest, search_all};
+use super::{Nearest, guess, nearest, search_all};
 use lin_solve::far_num::Row;
 use std::alloc::{AllocError, Global};
 use std::process::Abort;
@@ -336,6 +336,39 @@ fn systems(rt: HostRuntime) -> Result<(), Fail> {
     ];
     for (target, count) in table {
         assert_eq!(&rt; systems_solved(&rt, rt.alloc(), &target, &rows)?, count);
+    }
+    Ok(())
+}
+
+// The number of sets that the guess tries until one passes.
+fn sets_tried(
+    rt: &impl Abort,
+    alloc: Global,
+    target: &[i128],
+    rows: &[Row],
+) -> Result<u32, AllocError> {
+    let weights = vec![in alloc; 1u32; target.len()]?;
+    assert!(rt; target.len() <= 6);
+    assert!(rt; are_ones(&weights));
+    assert!(rt; are_targets(MOST, target));
+    assert!(rt; are_bounds(MOST, rows));
+    let mut sets = 0;
+    let found = guess(alloc, target, &weights, rows, &mut sets)?;
+    assert!(rt; found.is_some());
+    Ok(sets)
+}
+
+// Counted by a plain guess over fractions in another language.
+#[test]
+fn guesses(rt: HostRuntime) -> Result<(), Fail> {
+    let rows = all_rows(rt.alloc(), [0, 1, 4, 9, 16, 25, 36])?;
+    let table: [([i128; 6], u32); 3] = [
+        ([0, 0, 0, 0, 0, 0], 2),
+        ([5, 1, 9, 2, 7, 3], 2),
+        ([10, 20, 30, 40, 50, 60], 9),
+    ];
+    for (target, count) in table {
+        assert_eq!(&rt; sets_tried(&rt, rt.alloc(), &target, &rows)?, count);
     }
     Ok(())
 }

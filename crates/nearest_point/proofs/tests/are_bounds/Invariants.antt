@@ -1,4 +1,4 @@
-use Rattle.std.proofs.Common.{ℕ, ◌<◌, ◌^◌, pos, ◌≤ℤ◌}
+use Rattle.std.proofs.Common.{ℕ, ◌<◌, pos, ◌≤ℤ◌}
 use Rattle.nearest_point.specs.Problem.{bounds}
 use Rattle.nearest_point.proofs.tests.are_bounds.Given as goal
 

@@ -1,4 +1,4 @@
-use Rattle.std.proofs.Common.{◌≡◌, ℕ, ◌<◌, ◌^◌, pos, ◌≤ℤ◌}
+use Rattle.std.proofs.Common.{◌≡◌, ℕ, ◌<◌, pos, ◌≤ℤ◌}
 use Rattle.point_laws.specs.wide_num.specs.Sums.{nth, total}
 use Rattle.nearest_point.proofs.tests.are_targets.Given as goal
 
