@@ -1,6 +1,6 @@
 -- Which lines of both sides stay where one bidder has other bids.
-use Rattle.std.specs.Prelude.{◌≡◌, ◌≢◌, ℕ, zero, suc, ◌+◌, ◌-◌, ◌≤◌, ◌<◌, true, List, [], length, get_or, ℤ, pos, ◌-ℤ◌, refl}
-use Rattle.std.proofs.Common.{set, sym, ◌∙◌, ap, subst, arith}
+use Rattle.std.specs.Prelude.{◌≡◌, ◌≢◌, ℕ, zero, suc, ◌-◌, ◌≤◌, ◌<◌, true, List, length, get_or, ℤ, pos, ◌-ℤ◌, refl}
+use Rattle.std.proofs.Common.{sym, ◌∙◌, ap, subst, arith}
 use Rattle.std.proofs.lemmas.List.{get_or-set_other}
 use Rattle.std.proofs.Math.ListN.{length-set}
 use Rattle.value_table.specs.auction_model.specs.Book.{Book, BookBid, Bidder, bid_of, bidder_of, bids_of, lots_of, menu_of, net_of, no_bid, no_bidder}
@@ -24,17 +24,17 @@ module _ (book : Book) (j : ℕ) (bids : List BookBid) (some : 0 < j) where
       let apart : q - 1 ≢ j - 1 = λ e. other (omega (arith, e, first, some)) in
       get_or-set_other book.bidders (j - 1) (q - 1) (bidder_with (bidder_of book j).name bids) no_bidder apart
 
-  count-other : (q : ℕ) → 0 < q → q ≢ j → length (bids_of (with_bids book j bids) q) ≡ length (bids_of book q)
+  pub count-other : (q : ℕ) → 0 < q → q ≢ j → length (bids_of (with_bids book j bids) q) ≡ length (bids_of book q)
   count-other q first other = ap (λ (b : Bidder). length b.bids) (bidder-other q first other)
 
-  bid-other : (q h : ℕ) → 0 < q → q ≢ j → bid_of (with_bids book j bids) q h ≡ bid_of book q h
+  pub bid-other : (q h : ℕ) → 0 < q → q ≢ j → bid_of (with_bids book j bids) q h ≡ bid_of book q h
   bid-other q zero first other = refl
   bid-other q (suc h) first other = ap (λ (b : Bidder). get_or b.bids h no_bid) (bidder-other q first other)
 
-  lots-other : (q h : ℕ) → 0 < q → q ≢ j → lots_of (with_bids book j bids) q h ≡ lots_of book q h
+  pub lots-other : (q h : ℕ) → 0 < q → q ≢ j → lots_of (with_bids book j bids) q h ≡ lots_of book q h
   lots-other q h first other = ap (λ (b : BookBid). b.lots) (bid-other q h first other)
 
-  net-other : (q h : ℕ) → 0 < q → q ≢ j → net_of (with_bids book j bids) q h ≡ net_of book q h
+  pub net-other : (q h : ℕ) → 0 < q → q ≢ j → net_of (with_bids book j bids) q h ≡ net_of book q h
   net-other q zero first other = refl
   net-other q (suc h) first other = ap (λ (b : BookBid). pos b.amount -ℤ pos (cost_of book.reserves b.lots)) (bid-other q (suc h) first other)
 

@@ -1,6 +1,13 @@
+pub mod Pairing
+pub mod WithBid
+pub mod BidNumbers
+pub mod KeepLaws
 pub mod SameLines
 pub mod EditedLines
 pub mod ReplyLaws
 pub mod RemoveLaws
 pub mod LineSets
 pub mod EditLaws
+pub mod SizeLaws
+pub mod RaiseLaws
+pub mod AmountLaws

@@ -1,5 +1,5 @@
 -- Lines of which one is worked out again.
-use Rattle.std.specs.Prelude.{◌≡◌, ◌≢◌, ℕ, suc, ◌+◌, ◌-◌, ◌≤◌, ◌<◌, true, List, [], length, get_or, map, replicate, ℤ, pos, refl}
+use Rattle.std.specs.Prelude.{◌≡◌, ◌≢◌, ℕ, ◌+◌, ◌-◌, ◌≤◌, ◌<◌, true, List, [], length, get_or, replicate, ℤ, pos, refl}
 use Rattle.std.proofs.Common.{inl, inr, set, sym, ◌∙◌, ap, subst, arith, Vec, Global}
 use Rattle.std.proofs.lemmas.Bool.{cases_order}
 use Rattle.std.proofs.lemmas.List.{get_or-map, get_or_default, get_or-set_other, get_or-set_same, get_or-replicate, length-map, length-replicate, map-set, set-set}

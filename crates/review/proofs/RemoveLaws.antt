@@ -1,6 +1,6 @@
 -- The list without the bid for a package is that without the bid of its number.
-use Rattle.std.specs.Prelude.{◌≡◌, ℕ, zero, suc, ◌<◌, true, false, not, List, [], ◌∷◌, length, get_or, refl}
-use Rattle.std.proofs.Common.{sym, ◌∙◌, ap, subst, arith}
+use Rattle.std.specs.Prelude.{◌≡◌, ℕ, zero, suc, ◌<◌, true, false, List, [], ◌∷◌, length, get_or, refl}
+use Rattle.std.proofs.Common.{ap, subst, arith}
 use Rattle.std.specs.List.{remove}
 use Rattle.value_table.specs.auction_model.specs.Book.{BookBid, no_bid}
 use Rattle.value_table.specs.auction_model.specs.Entries.{without_entry}

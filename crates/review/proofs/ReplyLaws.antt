@@ -1,14 +1,14 @@
 -- What it says of an edit that it is answered Ok.
-use Rattle.std.specs.Prelude.{◌≡◌, ◌⊎◌, ℕ, zero, suc, ◌+◌, ◌-◌, ◌≤◌, ◌<◌, ◌^◌, Bool, true, false, not, ◌&&◌, nat_le, nat_lt, IsTrue, Option, Some, None, List, [], ◌∷◌, length, drop, get_or, ℤ, pos, ◌-ℤ◌, ◌≤ℤ◌, refl}
-use Rattle.std.proofs.Common.{inl, inr, sym, ◌∙◌, ap, subst, arith}
+use Rattle.std.specs.Prelude.{◌≡◌, ℕ, zero, suc, ◌+◌, ◌≤◌, ◌<◌, ◌^◌, Bool, true, false, not, ◌&&◌, nat_le, nat_lt, IsTrue, Option, Some, None, List, [], ◌∷◌, length, drop, get_or, pos, ◌-ℤ◌, ◌≤ℤ◌, refl}
+use Rattle.std.proofs.Common.{inl, inr, subst, arith}
 use Rattle.std.proofs.lemmas.Bool.{cases_Bool}
 use Rattle.std.proofs.lemmas.Bool.Decides.{nat_tests}
 use Rattle.std.proofs.lemmas.Int.{ints}
-use Rattle.value_table.specs.auction_model.specs.Book.{Book, BookBid, bid_of, bids_of, lots_of, no_bid}
+use Rattle.value_table.specs.auction_model.specs.Book.{Book, BookBid, bid_of, bids_of, no_bid}
 use Rattle.value_table.specs.auction_model.specs.Package.{cost_of, is_within}
 use Rattle.value_table.specs.auction_model.specs.PackageTests.{first_over, is_empty, is_same}
 use Rattle.value_table.specs.auction_model.proofs.PackageTestLaws.{first_over-within, is_same-refl, is_same-true}
-use Rattle.value_table.specs.bid_book.specs.Changes.{CanPut, IsBidFor}
+use Rattle.value_table.specs.bid_book.specs.Changes.{CanPut}
 use Rattle.value_table.specs.bid_book.specs.Kept.{IsBidBook}
 use Rattle.review.specs.declared.edit.Edit.{Edit}
 use Rattle.review.specs.declared.edit.Edit.TheVariants.{Add, Raise, Remove}

@@ -1,5 +1,5 @@
 -- Edits of a book: what each is answered, and the book that it gives.
-use Rattle.std.specs.Prelude.{ℕ, ◌-◌, Bool, true, false, not, ◌&&◌, ◌||◌, nat_le, nat_lt, Option, Some, None, List, [], ◌∷◌, length, if◌then◌else◌}
+use Rattle.std.specs.Prelude.{ℕ, Bool, not, ◌&&◌, nat_le, nat_lt, Option, Some, None, List, [], ◌∷◌, length, if◌then◌else◌}
 use Rattle.value_table.specs.auction_model.specs.Book.{Book, BookBid, bids_of}
 use Rattle.value_table.specs.auction_model.specs.Package.{cost_of}
 use Rattle.value_table.specs.auction_model.specs.Entries.{without_entry}
@@ -22,6 +22,12 @@ abbrev pub edit_bidder : Edit → ℕ
 edit_bidder (Add bidder lots amount) = bidder
 edit_bidder (Raise bidder lots amount) = bidder
 edit_bidder (Remove bidder lots) = bidder
+
+-- the amount that the bidder has for the package then, if it has a bid for it
+abbrev pub edit_amount : Edit → Option ℕ
+edit_amount (Add bidder lots amount) = Some amount
+edit_amount (Raise bidder lots amount) = Some amount
+edit_amount (Remove bidder lots) = None
 
 -- the amount of the bid for the package
 abbrev pub amount_for : List ℕ → List BookBid → Option ℕ

@@ -1,5 +1,6 @@
 pub mod Edits
 pub mod ReviewValue
+pub mod Reviewed
 pub use Rattle.value_table.specs.auction_model
 pub use Rattle.value_table.specs.bid_book
 pub use Rattle.value_table.specs.book_form

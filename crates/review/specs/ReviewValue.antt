@@ -1,9 +1,8 @@
--- What a review is: a book and its winning choice; and the lines that it keeps of both sides of the book.
+-- What a review is: a book and its winning choice; and lines of both sides of the book.
 use Rattle.std.specs.Prelude.{◌≡◌, ℕ, ◌+◌, ◌≤◌, List, [], length, map, slice_index_or, ℤ, Vec}
 use Rattle.std.specs.Global.{Global}
 use Rattle.value_table.specs.auction_model.specs.Place.{states_of}
-use Rattle.value_table.specs.auction_model.specs.Book.{Book, market_of}
-use Rattle.value_table.specs.auction_model.specs.Greatest.{IsWinning}
+use Rattle.value_table.specs.auction_model.specs.Book.{Book}
 use Rattle.value_table.specs.SideLines.{IsLeftLine, IsRightLine}
 
 pub record ReviewValue : Type 0 where
@@ -28,9 +27,3 @@ pub record AreRightLines (book : Book) (from : ℕ) (lines : List (List ℤ)) : 
 pub record AreLeftLines (book : Book) (to : ℕ) (lines : List (List ℤ)) : Type 0 where
   pub full : AreFull book lines
   pub exact : (k : ℕ) → k ≤ to → k ≤ length book.bidders → IsLeftLine book k (slice_index_or lines k [])
-
--- the choice is the winning one, and all lines of both sides are those of the book
-pub record IsReviewed (book : Book) (right left : List (List ℤ)) (choice : List ℕ) : Type 0 where
-  pub winning : IsWinning (market_of book) choice
-  pub after : AreRightLines book 0 right
-  pub before : AreLeftLines book (length book.bidders) left

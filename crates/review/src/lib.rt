@@ -1,13 +1,17 @@
 //! Reviews: what a book would give with other bids. Edits change a copy of a book, of which the winning choice is kept.
 #![tactic(auto)]
 
+mod changes;
 mod edit;
+mod keeping;
+mod laws;
 mod lines;
 mod replies;
 mod review;
 mod tracing;
 
 pub use edit::{Edit, EditReply};
+pub use laws::edited_amounts;
 pub use review::Review;
 pub use value_table;
 pub use value_table::{auction_model, bid_book, limits, line_text, lots, text_lines, wide_num};

@@ -1,14 +1,112 @@
-// The lines that a review keeps: for each bidder and one more, a number for each place of the supply.
-ghost use Rattle.std.specs.Prelude.{◌≡◌, ℕ, ◌+◌, ◌-◌, ◌≤◌, ◌<◌, IfOk, length, pos, replicate};
+// The lines of both sides of a book that a review keeps: for each bidder and one more, a number for each place of the supply.
+ghost use Rattle.std.specs.Prelude.{◌≡◌, ◌+◌, ◌-◌, ◌≤◌, ◌<◌, IfOk, List, length, pos, replicate};
+ghost use Rattle.value_table.specs.auction_model.specs.Book.{Book, BookBid};
+ghost use Rattle.value_table.specs.bid_book.specs.Changes.{with_bids};
 ghost use Rattle.review.specs.ReviewValue.{AreLeftLines, AreRightLines, lines_of};
+ghost use Rattle.review.specs.Reviewed.{AreRooms, AreSideLines};
 
 use std::alloc::{AllocError, Global};
 use std::mem;
 use value_table::bid_book::BidBook;
-use value_table::{left_line, right_line};
+use value_table::{narrow_left_line, narrow_right_line};
+
+/// The lines of both sides of a book. An edit makes some of them stale, and these are worked out again only where they are needed.
+#[derive(Drop)]
+pub struct SideLines {
+    /// Line `k` is that of the bidders after `k`.
+    pub right: Vec<Vec<i128>>,
+    /// The lines of the right side are those of the book from this one on.
+    pub right_from: usize,
+    /// Line `k` is that of the bidders up to `k`.
+    pub left: Vec<Vec<i128>>,
+    /// The lines of the left side are those of the book up to this one.
+    pub left_to: usize,
+    /// Room for two lines in 64 bits.
+    pub rooms: Rooms,
+}
+
+/// Room in which a line is worked out in 64 bits.
+#[derive(Drop)]
+pub struct Rooms {
+    /// For the line that it is worked out from.
+    pub below: Vec<i64>,
+    /// For the line itself.
+    pub line: Vec<i64>,
+}
+
+impl SideLines {
+    /// The lines of a book, of which all but the one of no bidder on each side are stale.
+    pub fn new(alloc: Global, book: &BidBook) -> Result<SideLines, AllocError>
+        ensures { IfOk result (λ lines. AreSideLines book.now lines) }
+    {
+        let bidders = book.bidders();
+        let states = book.supply().states();
+        let right = zero_lines(alloc, bidders + 1, states)?;
+        let left = zero_lines(alloc, bidders + 1, states)?;
+        let rooms = new_rooms(alloc, states)?;
+        Ok(SideLines {
+            right,
+            right_from: bidders,
+            left,
+            left_to: 0,
+            rooms,
+        })
+    }
+
+    /// Works out the stale lines of the right side from line `k` on.
+    pub fn renew_right(&mut self, alloc: Global, book: &BidBook, k: usize)
+        requires known { k ≤ length book.now.bidders }
+        requires lines { AreSideLines book.now self.old }
+        ensures lines { AreSideLines book.now self.new }
+        ensures exact { self.new.right_from ≤ k }
+        ensures left { self.new.left_to ≡ self.old.left_to }
+    {
+        if k < self.right_from {
+            renew_right(
+                alloc,
+                book,
+                &mut self.right,
+                &mut self.rooms,
+                k,
+                self.right_from,
+            );
+            self.right_from = k;
+        }
+    }
+
+    /// Works out the stale lines of the left side up to line `k`.
+    pub fn renew_left(&mut self, alloc: Global, book: &BidBook, k: usize)
+        requires known { k ≤ length book.now.bidders }
+        requires lines { AreSideLines book.now self.old }
+        ensures lines { AreSideLines book.now self.new }
+        ensures exact { k ≤ self.new.left_to }
+    {
+        if self.left_to < k {
+            renew_left(
+                alloc,
+                book,
+                &mut self.left,
+                &mut self.rooms,
+                self.left_to,
+                k,
+            );
+            self.left_to = k;
+        }
+    }
+
+    /// Marks the lines as stale in which bidder `j` counts: the others are those of each book in which it has other bids.
+    pub fn mark(&mut self, j: u16)
+        requires { 0 < j }
+        ensures { (book : Book) → (bids : List BookBid) → AreSideLines book self.old → j ≤ length book.bidders
+            → AreSideLines (with_bids book j bids) self.new }
+    {
+        self.right_from = self.right_from.max(j as usize);
+        self.left_to = self.left_to.min(j as usize - 1);
+    }
+}
 
 /// So many lines of so many zeros.
-pub fn zero_lines(alloc: Global, count: usize, states: usize) -> Result<Vec<Vec<i128>>, AllocError>
+fn zero_lines(alloc: Global, count: usize, states: usize) -> Result<Vec<Vec<i128>>, AllocError>
     ensures { IfOk result (λ v. lines_of v.items ≡ replicate count (replicate states (pos 0))) }
 {
     let mut lines = Vec::new(alloc);
@@ -19,6 +117,15 @@ pub fn zero_lines(alloc: Global, count: usize, states: usize) -> Result<Vec<Vec<
     Ok(lines)
 }
 
+/// Room for lines of so many numbers.
+fn new_rooms(alloc: Global, states: usize) -> Result<Rooms, AllocError>
+    ensures { IfOk result (λ rooms. (length rooms.below.items ≡ states) × (length rooms.line.items ≡ states)) }
+{
+    let below = vec![in alloc; 0i64; states]?;
+    let line = vec![in alloc; 0i64; states]?;
+    Ok(Rooms { below, line })
+}
+
 /// A line of so many zeros.
 fn zero_line(alloc: Global, states: usize) -> Result<Vec<i128>, AllocError>
     ensures { IfOk result (λ v. v.items ≡ replicate states (pos 0)) }
@@ -26,49 +133,100 @@ fn zero_line(alloc: Global, states: usize) -> Result<Vec<i128>, AllocError>
     vec![in alloc; 0i128; states]
 }
 
-/// Works out the lines below line `top` again, each from the one behind it, in place. Line `k` is that of the bidders after `k`.
-pub fn renew_right(alloc: Global, book: &BidBook, lines: &mut Vec<Vec<i128>>, top: usize)
-    requires top { top ≤ length book.now.bidders }
+/// Works out the lines from line `bottom` to the one below line `top` again, each from the one behind it, in place. Line `k` is that of
+/// the bidders after `k`.
+fn renew_right(
+    alloc: Global,
+    book: &BidBook,
+    lines: &mut Vec<Vec<i128>>,
+    rooms: &mut Rooms,
+    bottom: usize,
+    top: usize,
+)
+    requires top { (bottom ≤ top) × (top ≤ length book.now.bidders) }
     requires lines { AreRightLines book.now top (lines_of lines.old.items) }
-    ensures { AreRightLines book.now 0 (lines_of lines.new.items) }
+    requires rooms { AreRooms book.now rooms.old }
+    ensures lines { AreRightLines book.now bottom (lines_of lines.new.items) }
+    ensures rooms { AreRooms book.now rooms.new }
 {
     let _bidders = book.bidders();
-    for k in (0..top).rev() {
-        renew_right_line(alloc, book, lines, k);
+    for k in (bottom..top).rev() {
+        renew_right_line(alloc, book, lines, rooms, k);
     }
 }
 
 /// Works out line `k` from line `k + 1`.
-fn renew_right_line(alloc: Global, book: &BidBook, lines: &mut Vec<Vec<i128>>, k: usize)
+fn renew_right_line(
+    alloc: Global,
+    book: &BidBook,
+    lines: &mut Vec<Vec<i128>>,
+    rooms: &mut Rooms,
+    k: usize,
+)
     requires bidder { k < length book.now.bidders }
     requires lines { AreRightLines book.now (k + 1) (lines_of lines.old.items) }
-    ensures { AreRightLines book.now k (lines_of lines.new.items) }
+    requires rooms { AreRooms book.now rooms.old }
+    ensures lines { AreRightLines book.now k (lines_of lines.new.items) }
+    ensures rooms { AreRooms book.now rooms.new }
 {
     let _bidders = book.bidders();
     let mut line = mem::replace(&mut lines[k], Vec::new(alloc));
-    right_line(book, k as u16 + 1, &lines[k + 1], &mut line);
+    narrow_right_line(
+        book,
+        k as u16 + 1,
+        &lines[k + 1],
+        &mut line,
+        &mut rooms.below,
+        &mut rooms.line,
+    );
     lines[k] = line;
 }
 
-/// Works out the lines from line `from` on again, each from the one before it, in place. Line `k` is that of the bidders up to `k`.
-pub fn renew_left(alloc: Global, book: &BidBook, lines: &mut Vec<Vec<i128>>, from: usize)
-    requires from { 0 < from }
-    requires lines { AreLeftLines book.now (from - 1) (lines_of lines.old.items) }
-    ensures { AreLeftLines book.now (length book.now.bidders) (lines_of lines.new.items) }
+/// Works out the lines behind line `bottom` up to line `top` again, each from the one before it, in place. Line `k` is that of the
+/// bidders up to `k`.
+fn renew_left(
+    alloc: Global,
+    book: &BidBook,
+    lines: &mut Vec<Vec<i128>>,
+    rooms: &mut Rooms,
+    bottom: usize,
+    top: usize,
+)
+    requires top { (bottom ≤ top) × (top ≤ length book.now.bidders) }
+    requires lines { AreLeftLines book.now bottom (lines_of lines.old.items) }
+    requires rooms { AreRooms book.now rooms.old }
+    ensures lines { AreLeftLines book.now top (lines_of lines.new.items) }
+    ensures rooms { AreRooms book.now rooms.new }
 {
-    for k in from..book.bidders() + 1 {
-        renew_left_line(alloc, book, lines, k);
+    let _bidders = book.bidders();
+    for k in bottom..top {
+        renew_left_line(alloc, book, lines, rooms, k + 1);
     }
 }
 
 /// Works out line `k` from line `k - 1`.
-fn renew_left_line(alloc: Global, book: &BidBook, lines: &mut Vec<Vec<i128>>, k: usize)
+fn renew_left_line(
+    alloc: Global,
+    book: &BidBook,
+    lines: &mut Vec<Vec<i128>>,
+    rooms: &mut Rooms,
+    k: usize,
+)
     requires bidder { (0 < k) × (k ≤ length book.now.bidders) }
     requires lines { AreLeftLines book.now (k - 1) (lines_of lines.old.items) }
-    ensures { AreLeftLines book.now k (lines_of lines.new.items) }
+    requires rooms { AreRooms book.now rooms.old }
+    ensures lines { AreLeftLines book.now k (lines_of lines.new.items) }
+    ensures rooms { AreRooms book.now rooms.new }
 {
     let _bidders = book.bidders();
     let mut line = mem::replace(&mut lines[k], Vec::new(alloc));
-    left_line(book, k as u16, &lines[k - 1], &mut line);
+    narrow_left_line(
+        book,
+        k as u16,
+        &lines[k - 1],
+        &mut line,
+        &mut rooms.below,
+        &mut rooms.line,
+    );
     lines[k] = line;
 }

@@ -5,13 +5,26 @@ ghost use Rattle.value_table.specs.auction_model.specs.Greatest.{IsWinning};
 ghost use Rattle.value_table.specs.auction_model.specs.Package.{is_within, less};
 ghost use Rattle.value_table.specs.auction_model.specs.Place.{states_of, place_of, left_at};
 ghost use Rattle.review.specs.ReviewValue.{AreRightLines, lines_of};
+ghost use Rattle.review.specs.Reviewed.{AreSideLines, IsReviewed};
 
+use crate::lines::SideLines;
+use std::alloc::Global;
 use value_table::bid_book::BidBook;
 use value_table::choices::{Choice, place_after};
 use value_table::right_number;
 
-/// Makes a choice of as many numbers the winning one.
-pub fn trace(book: &BidBook, right: &[Vec<i128>], choice: &mut Choice)
+/// Makes a choice of as many numbers the winning one, from lines of which some may be stale.
+pub fn retrace(alloc: Global, book: &BidBook, lines: &mut SideLines, choice: &mut Choice)
+    requires lines { AreSideLines book.now lines.old }
+    requires count { length choice.old ≡ length book.now.bidders }
+    ensures { IsReviewed book.now lines.new choice.new }
+{
+    lines.renew_right(alloc, book, 0);
+    trace(book, &lines.right, choice);
+}
+
+/// Makes a choice of as many numbers the winning one, from the lines of the bidders after each.
+fn trace(book: &BidBook, right: &[Vec<i128>], choice: &mut Choice)
     requires right { AreRightLines book.now 0 (lines_of right.now) }
     requires count { length choice.old ≡ length book.now.bidders }
     ensures { IsWinning (market_of book.now) choice.new }

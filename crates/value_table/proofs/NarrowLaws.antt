@@ -1,5 +1,5 @@
 -- Tables whose sums are of 62 bits.
-use Rattle.std.specs.Prelude.{ℕ, zero, suc, ◌+◌, ◌-◌, ◌*◌, ◌^◌, ◌≤◌, ◌<◌, List, length, get_or, ℤ, pos, ◌+ℤ◌, unsigned_abs, ◌==◌}
+use Rattle.std.specs.Prelude.{◌≡◌, ℕ, zero, suc, ◌+◌, ◌-◌, ◌*◌, ◌^◌, ◌≤◌, ◌<◌, List, length, get_or, ℤ, pos, ◌+ℤ◌, unsigned_abs, ◌==◌}
 use Rattle.std.proofs.Common.{arith}
 use Rattle.std.proofs.lemmas.Int.{ints}
 use Rattle.std.proofs.lemmas.Bool.{cond_both}
@@ -30,6 +30,10 @@ module _ (l : Lowering) where
       let small : (j : ℕ) → top j ≤ 2 ^ 42 = λ j. greatest-at_most (net_at l j) (bids j) (2 ^ 42) (λ i low. net-small l.book.now (seat l j) i kept (omega (arith, low, counted-fewer l j))) in
       let one : (j : ℕ) → unsigned_abs l.den * top j + unsigned_abs (of_bidder l.surplus.now j) ≤ 2 ^ 55 + 2 ^ 56 = λ j. omega (arith, surplus (j - 1), mul-le (unsigned_abs l.den) (top j) (2 ^ 13) (2 ^ 42) den (small j)) in
       omega (arith, kept.bidders, sum_to-at_most (λ j. unsigned_abs l.den * top j + unsigned_abs (of_bidder l.surplus.now j)) (length l.book.now.bidders) (2 ^ 55 + 2 ^ 56) one)
+
+  -- so none does where bids count their net amounts
+  pub plain-narrow : IsBidBook l.book.now → l.den ≡ pos 1 → ((k : ℕ) → get_or l.surplus.now k (pos 0) ≡ pos 0) → IsNarrow l
+  plain-narrow kept den zeros = narrow-spread kept (rw den (omega arith)) (λ k. rw (zeros k) (omega arith))
 
   -- then no number of a line is above 2^61 in size
   pub line-narrow : IsNarrow l → (k : ℕ) (line : List ℤ) → IsCountedLine l k line → (s : ℕ) → unsigned_abs (get_or line s (pos 0)) ≤ 2 ^ 61

@@ -90,3 +90,30 @@ pub fn count_narrow(
     let counted = widened(alloc, &line)?;
     Ok(counted)
 }
+
+/// Makes `line` line `j - 1` from line `j`, where bids count their net amounts: worked out in 64 bits, in the two lists of room. It takes no
+/// memory.
+pub fn put_narrow_line(
+    lowering: &Lowering,
+    j: u16,
+    below: &[i128],
+    line: &mut [i128],
+    below_room: &mut [i64],
+    line_room: &mut [i64],
+)
+    requires bidder { (0 < j) × (j ≤ length lowering.now.book.now.bidders) }
+    requires den { lowering.now.den ≡ pos 1 }
+    requires zeros { (k : ℕ) → slice_index_or lowering.now.surplus.now k (pos 0) ≡ pos 0 }
+    requires idle { counted lowering.now j 0 ≡ pos 0 }
+    requires below { IsCountedLine lowering.now j below.now }
+    requires places { length line.old ≡ length below.now }
+    requires below_room { length below_room.old ≡ length below.now }
+    requires line_room { length line_room.old ≡ length below.now }
+    ensures { IsCountedLine lowering.now (j - 1) line.new }
+{
+    lowering.book.kept();
+    narrow_into(below_room, below);
+    line_room.copy_from_slice(below_room);
+    count_narrow_bids(lowering, j, line_room, below_room);
+    widen_into(line, line_room);
+}

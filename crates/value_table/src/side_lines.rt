@@ -10,6 +10,7 @@ ghost use Rattle.value_table.specs.Turned.{in_order, worths_in_order};
 
 use crate::lines::put_line;
 use crate::lowering::Lowering;
+use crate::narrow::put_narrow_line;
 use crate::tracing::first_number;
 use choices::bid_book::BidBook;
 use choices::limits::MOST_BIDDERS;
@@ -38,6 +39,66 @@ pub fn left_line(book: &BidBook, k: u16, before: &[i128], line: &mut [i128])
     let bidders = book.bidders();
     let turned = bidders as u16 - k + 1;
     plain_line(book, true, &zeros[..bidders], turned, before, line);
+}
+
+/// The same as `right_line`, faster: it is worked out in 64 bits, in two lists of room as long as a line.
+pub fn narrow_right_line(
+    book: &BidBook,
+    k: u16,
+    after: &[i128],
+    line: &mut [i128],
+    after_room: &mut [i64],
+    line_room: &mut [i64],
+)
+    requires bidder { (0 < k) × (k ≤ length book.now.bidders) }
+    requires after { IsRightLine book.now k after.now }
+    requires places { length line.old ≡ states_of book.now.supply }
+    requires after_room { length after_room.old ≡ states_of book.now.supply }
+    requires line_room { length line_room.old ≡ states_of book.now.supply }
+    ensures { IsRightLine book.now (k - 1) line.new }
+{
+    let zeros = [0i128; MOST_BIDDERS];
+    plain_narrow_line(
+        book,
+        false,
+        &zeros[..book.bidders()],
+        k,
+        after,
+        line,
+        after_room,
+        line_room,
+    );
+}
+
+/// The same as `left_line`, faster: it is worked out in 64 bits, in two lists of room as long as a line.
+pub fn narrow_left_line(
+    book: &BidBook,
+    k: u16,
+    before: &[i128],
+    line: &mut [i128],
+    before_room: &mut [i64],
+    line_room: &mut [i64],
+)
+    requires bidder { (0 < k) × (k ≤ length book.now.bidders) }
+    requires before { IsLeftLine book.now (k - 1) before.now }
+    requires places { length line.old ≡ states_of book.now.supply }
+    requires before_room { length before_room.old ≡ states_of book.now.supply }
+    requires line_room { length line_room.old ≡ states_of book.now.supply }
+    ensures { IsLeftLine book.now k line.new }
+{
+    let zeros = [0i128; MOST_BIDDERS];
+    let bidders = book.bidders();
+    let turned = bidders as u16 - k + 1;
+    plain_narrow_line(
+        book,
+        true,
+        &zeros[..bidders],
+        turned,
+        before,
+        line,
+        before_room,
+        line_room,
+    );
 }
 
 /// The first number of bidder `k`, by the order of ties, with which it and the bidders after it reach the entry of a place: the entry
@@ -82,6 +143,39 @@ fn plain_line(
         surplus,
     };
     put_line(&lowering, j, below, line);
+}
+
+/// The same as `plain_line`, worked out in 64 bits.
+fn plain_narrow_line(
+    book: &BidBook,
+    turned: bool,
+    surplus: &[i128],
+    j: u16,
+    below: &[i128],
+    line: &mut [i128],
+    below_room: &mut [i64],
+    line_room: &mut [i64],
+)
+    requires bidder { (0 < j) × (j ≤ length book.now.bidders) }
+    requires count { length surplus.now ≡ length book.now.bidders }
+    requires zeros { (k : ℕ) → slice_index_or surplus.now k (pos 0) ≡ pos 0 }
+    requires below { IsLine (in_order turned (menu_of book.now))
+        (worths_in_order turned (length book.now.bidders) (net_of book.now)) book.now.supply j below.now }
+    requires places { length line.old ≡ states_of book.now.supply }
+    requires below_room { length below_room.old ≡ states_of book.now.supply }
+    requires line_room { length line_room.old ≡ states_of book.now.supply }
+    ensures { IsLine (in_order turned (menu_of book.now))
+        (worths_in_order turned (length book.now.bidders) (net_of book.now)) book.now.supply (j - 1) line.new }
+{
+    book.kept();
+    let lowering = Lowering {
+        book,
+        turned,
+        skip: 0,
+        den: 1,
+        surplus,
+    };
+    put_narrow_line(&lowering, j, below, line, below_room, line_room);
 }
 
 /// The first number of bidder `k` that reaches the entry, where no bidder has a surplus.

@@ -1,6 +1,6 @@
-use Rattle.std.proofs.Common.{◌-◌}
 use Rattle.review.specs.ReviewValue.{AreLeftLines, lines_of}
+use Rattle.review.specs.Reviewed.{AreRooms}
 use Rattle.review.proofs.lines.renew_left.Given as goal
 
 abbrev pub invariant-loop-k : goal.invariant-loop-k
-invariant-loop-k l = AreLeftLines l.book (l.k - 1) (lines_of l.lines.items)
+invariant-loop-k l = record { lines : AreLeftLines l.book l.k (lines_of l.lines.items); rooms : AreRooms l.book l.rooms }

@@ -1,4 +1,4 @@
-use Rattle.std.proofs.Common.{◌≡◌, ◌≢◌, ◌-◌, ◌<◌, ℕ, List, ℤ, [], length, drop, get_or, set, sym, ap, subst, ◌∙◌, arith, Vec, Global}
+use Rattle.std.proofs.Common.{◌≡◌, ◌≢◌, ◌-◌, ◌<◌, List, ℤ, [], length, drop, get_or, set, sym, ap, subst, ◌∙◌, arith, Vec, Global}
 use Rattle.value_table.specs.SideLines.{IsLeftLine}
 use Rattle.std.specs.Vec.{with_items}
 use Rattle.std.proofs.lemmas.List.{take_at}
@@ -6,8 +6,8 @@ use Rattle.review.specs.ReviewValue.{AreLeftLines, lines_of}
 use Rattle.review.proofs.LineSets.{count-of, left-set, lines-set, read-other, read-own}
 use Rattle.review.proofs.lines.renew_left_line.Goals as goal
 
-pub left_line-requires-clause-before : goal.left_line-requires-clause-before
-left_line-requires-clause-before c =
+pub narrow_left_line-requires-clause-before : goal.narrow_left_line-requires-clause-before
+narrow_left_line-requires-clause-before c =
     let lines = c.args.lines.now.items in
     let k = c.args.k in
     let apart : k - 1 ≢ k = λ e. absurd (omega (arith, e, c.requires.bidder.0)) in
@@ -15,8 +15,8 @@ left_line-requires-clause-before c =
     let is : c.deref.result.now ≡ get_or (lines_of lines) (k - 1) [] = c.deref.ensures.value ∙ read-other lines k c.replace-line.new.dest c.index.result.now (k - 1) apart inside c.index.ensures in
     subst (λ (l : List ℤ). IsLeftLine c.args.book.now (k - 1) l) (sym is) (c.requires.lines.exact (k - 1) (omega arith) (omega (arith, c.requires.bidder.1)))
 
-pub left_line-requires-clause-places : goal.left_line-requires-clause-places
-left_line-requires-clause-places c =
+pub narrow_left_line-requires-clause-places : goal.narrow_left_line-requires-clause-places
+narrow_left_line-requires-clause-places c =
     let lines = c.args.lines.now.items in
     let k = c.args.k in
     let inside : k < length lines = omega (arith, c.requires.bidder.1, c.requires.lines.full.count, count-of lines k) in
@@ -24,13 +24,13 @@ left_line-requires-clause-places c =
     c.deref_mut.ensures.value ∙ ap (λ (v : Vec ℤ Global). v.items) c.replace-line.ensures.value ∙ read-own lines k c.index_mut.result.now inside c.index_mut.ensures.value in
     ap (λ (l : List ℤ). length l) is ∙ c.requires.lines.full.places k c.requires.bidder.1
 
-pub returns : goal.returns
-returns c =
+pub returns-clause-lines : goal.returns-clause-lines
+returns-clause-lines c =
     let lines = c.args.lines.now.items in
     let k = c.args.k in
-    let line = c.left_line.new.line in
+    let line = c.narrow_left_line.new.line in
     let put = with_items c.replace-line.result line in
-    let long : length line ≡ c.replace-line.result.len = c.left_line.auto.line ∙ c.deref_mut.ensures.len in
+    let long : length line ≡ c.replace-line.result.len = c.narrow_left_line.auto.line ∙ c.deref_mut.ensures.len in
     let same : put.items ≡ line = take_at line (drop (length line) c.replace-line.result.items) c.replace-line.result.len long in
-    let made = left-set c.args.book.now k (lines_of lines) line c.requires.bidder.1 c.requires.bidder.0 c.requires.lines c.left_line.ensures in
+    let made = left-set c.args.book.now k (lines_of lines) line c.requires.bidder.1 c.requires.bidder.0 c.requires.lines c.narrow_left_line.ensures in
     subst (AreLeftLines c.args.book.now k) (sym (lines-set lines k c.replace-line.new.dest put ∙ ap (set (lines_of lines) k) same)) made

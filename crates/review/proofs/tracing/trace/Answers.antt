@@ -1,6 +1,6 @@
-use Rattle.std.proofs.Common.{◌≡◌, ◌∙◌, ◌≤◌, ◌<◌, ◌+◌, ◌-◌, ◌++◌, ◌∷◌, [], ℕ, ℤ, List, length, get_or, set, take, pos, sym, ap, subst, arith, rules, append_assoc, vec_len}
+use Rattle.std.proofs.Common.{◌≡◌, ◌∙◌, ◌≤◌, ◌<◌, ◌+◌, ◌-◌, ◌++◌, ◌∷◌, [], ℕ, ℤ, List, length, get_or, set, take, sym, ap, subst, arith, rules, append_assoc, vec_len}
 use Rattle.std.proofs.lemmas.Int.{to_z-of_z}
-use Rattle.std.proofs.lemmas.List.{append-nil, get_or_default, take_all, take_more_set}
+use Rattle.std.proofs.lemmas.List.{append-nil, take_all, take_more_set}
 use Rattle.std.proofs.Math.ListN.{length-set}
 use Rattle.value_table.specs.auction_model.specs.Book.{market_of, menu_of, net_of}
 use Rattle.value_table.specs.auction_model.specs.Greatest.{IsFirstGreatest, IsWinning}
@@ -13,7 +13,6 @@ use Rattle.value_table.specs.auction_model.proofs.PlaceLaws.{states-positive, le
 use Rattle.value_table.specs.auction_model.proofs.TraceLaws.{first-last}
 use Rattle.value_table.specs.auction_model.proofs.WalkLaws.{walk-by}
 use Rattle.value_table.specs.SideLines.{IsRightLine}
-use Rattle.review.specs.ReviewValue.{AreRightLines, lines_of}
 use Rattle.review.proofs.LineSets.{count-of, entry-read, line-read, read-own}
 use mir.Val.{SFits}
 use mir.Syntax.{w128}
