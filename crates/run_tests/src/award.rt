@@ -8,10 +8,20 @@ use std::test::Fail;
 
 const AWARD: &[&str] = &["award", "AWARD", "LOG", "CERT"];
 
+const AWARD_ROUNDS: &[&str] = &["award", "AWARD", "LOG", "CERT", "--rounds"];
+
+const AWARD_JSON: &[&str] = &["award", "AWARD", "LOG", "CERT", "--json"];
+
 const AUDIT: &[&str] = &["audit", "AWARD", "LOG", "CERT"];
 
 const LOWERED_OUTCOME: &str =
     "winner east 1 bid 20 vickrey 10 pays 10\nwinner west 2 bid 24 vickrey 24 pays 24\nnet 14\nrevenue 34\n";
+
+const LOWERED_JSON: &[&str] = &[
+    "{\"net\":14,\"revenue\":\"34\",\"winners\":[",
+    "{\"bid\":20,\"name\":\"east\",\"package\":[1],\"pays\":\"10\",\"vickrey\":10},",
+    "{\"bid\":24,\"name\":\"west\",\"package\":[2],\"pays\":\"24\",\"vickrey\":24}]}\n",
+];
 
 const DROPPED_OUTCOME: &str =
     "winner east 1 bid 20 vickrey 10 pays 10\nwinner west 2 bid 24 vickrey 20 pays 20\nnet 14\nrevenue 30\n";
@@ -35,6 +45,29 @@ fn prices_and_audits_logs(rt: HostRuntime) -> Result<(), Fail> {
     let alloc = rt.alloc();
     shows(&rt, alloc, LOWERED, LOWERED_OUTCOME)?;
     shows(&rt, alloc, DROPPED, DROPPED_OUTCOME)
+}
+
+// Prices the log of the lowered draft in a form, which prints this.
+fn prints(rt: &impl Abort, alloc: Global, words: &[&str], printed: &[&str]) -> Result<(), Fail> {
+    let award = joined(alloc, SAMPLE)?;
+    let log = joined(alloc, LOWERED)?;
+    let ended = run_three(alloc, words, &award, &log, None)?;
+    let wanted = joined(alloc, printed)?;
+    assert_eq!(rt; ended.status, Status::Done);
+    assert_eq!(rt; ended.printed.as_slice(), wanted.as_slice());
+    Ok(())
+}
+
+#[test]
+fn prints_the_turns_and_the_object_of_a_log(rt: HostRuntime) -> Result<(), Fail> {
+    let alloc = rt.alloc();
+    prints(
+        &rt,
+        alloc,
+        AWARD_ROUNDS,
+        &["round 1 point 0 4 end\n", LOWERED_OUTCOME],
+    )?;
+    prints(&rt, alloc, AWARD_JSON, LOWERED_JSON)
 }
 
 #[test]

@@ -12,6 +12,8 @@ pub const WEIGH: &[&str] = &["weigh", "BOOK", "WEIGHTS", "CERT"];
 
 const WEIGH_ROUNDS: &[&str] = &["weigh", "BOOK", "WEIGHTS", "CERT", "--rounds"];
 
+const WEIGH_JSON: &[&str] = &["weigh", "BOOK", "WEIGHTS", "CERT", "--json"];
+
 pub const WEIGH_CHECK: &[&str] = &["weigh-check", "BOOK", "WEIGHTS", "CERT"];
 
 /// The second of five bidders weighs 3.
@@ -26,6 +28,12 @@ const HEAVY_ROUNDS: &str =
 
 const HEAVY_PRICES: &str =
     "winner b1 1 0 bid 28 vickrey 14 pays 15+1/2\nwinner b2 0 1 bid 20 vickrey 12 pays 16+1/2\nnet 48\nrevenue 32\n";
+
+const HEAVY_JSON: &[&str] = &[
+    "{\"net\":48,\"revenue\":\"32\",\"winners\":[",
+    "{\"bid\":28,\"name\":\"b1\",\"package\":[1,0],\"pays\":\"15+1/2\",\"vickrey\":14},",
+    "{\"bid\":20,\"name\":\"b2\",\"package\":[0,1],\"pays\":\"16+1/2\",\"vickrey\":12}]}\n",
+];
 
 const PLAIN_PRICES: &str =
     "winner b1 1 0 bid 28 vickrey 14 pays 17\nwinner b2 0 1 bid 20 vickrey 12 pays 15\nnet 48\nrevenue 32\n";
@@ -69,6 +77,22 @@ fn shares_by_weights(rt: HostRuntime) -> Result<(), Fail> {
     let yes = joined(alloc, &["yes\n", HEAVY_PRICES])?;
     assert_eq!(rt; tested.status, Status::Done);
     assert_eq!(rt; tested.printed.as_slice(), yes.as_slice());
+    Ok(())
+}
+
+#[test]
+fn prints_the_object_of_weighed_prices(rt: HostRuntime) -> Result<(), Fail> {
+    let alloc = rt.alloc();
+    let priced = run_three(
+        alloc,
+        WEIGH_JSON,
+        DAY_CRAMTON.as_bytes(),
+        ONE_HEAVY.as_bytes(),
+        None,
+    )?;
+    let printed = joined(alloc, HEAVY_JSON)?;
+    assert_eq!(rt; priced.status, Status::Done);
+    assert_eq!(rt; priced.printed.as_slice(), printed.as_slice());
     Ok(())
 }
 
