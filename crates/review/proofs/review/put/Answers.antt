@@ -1,9 +1,0 @@
-use Rattle.std.proofs.Common.{ℕ, List, sym, subst}
-use Rattle.value_table.specs.book_form.specs.BookLines.{IsBookWithinLimits}
-use Rattle.value_table.specs.bid_book.specs.Changes.{with_put}
-use Rattle.review.proofs.review.put.Goals as goal
-
-pub put_bid-requires-clause-kept : goal.put_bid-requires-clause-kept
-put_bid-requires-clause-kept c =
-    subst (λ (p : List ℕ). IsBookWithinLimits (with_put c.args.book.now c.args.j (record { lots = p; amount = c.args.amount }))) (sym c.in_ok-package.ensures)
-    (c.rules_with_bid.ensures c.args.book.now c.args.j (record { lots = c.args.wanted.now; amount = c.args.amount }) c.kept.ensures.rules c.requires)
