@@ -12,4 +12,4 @@ pub append_faults-requires : goal.append_faults-requires
 append_faults-requires c =
     let before : IsTrue (is_some (known c.in_ok-files.files.counted.files.items c.args.second.now)) = search rules in
     known_after _ _ _ _ _ _ c.args.second.now c.write_file-stop.ensures.prefix.2
-      (known_after _ _ _ _ _ _ c.args.second.now c.write_file.ensures.prefix.2 before)
+    (known_after _ _ _ _ _ _ c.args.second.now c.write_file.ensures.prefix.2 before)
