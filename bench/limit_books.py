@@ -3,7 +3,7 @@ import itertools, os, random, resource, subprocess
 
 HERE = os.path.dirname(os.path.realpath(__file__))
 OUT = os.path.join(HERE, "out")
-CCA = os.path.join(HERE, "..", "crates", "cca", "out", "cca.built")
+CCA = os.environ.get("CCA_PROGRAM") or os.path.join(HERE, "..", "crates", "cca", "out", "cca.built")
 BIDDERS, SUPPLY, RESERVE = 16, (6, 8, 8, 13, 1), (1000, 1500, 100, 10, 400)
 KINDS = ("small", "random", "halves")
 
@@ -14,12 +14,14 @@ def build_cca():
     subprocess.run([os.path.join(HERE, "..", "cca"), "win", tie], check=True, capture_output=True)
 
 
-def build_plain(name):
-    """A plain Rust program of this folder, for the processor that cca is built for."""
+def build_plain():
+    """The plain Rust program of this folder. It has the commands `win`, `price` and `check` of cca, and as cca it runs on any processor: the
+    vector code that it could choose at run time is left out."""
     os.makedirs(OUT, exist_ok=True)
-    program = os.path.join(OUT, name)
-    source = os.path.join(HERE, name + ".rs")
-    subprocess.run(["rustc", "--edition", "2021", "-O", "-C", "target-cpu=x86-64-v2", "-o", program, source], check=True)
+    os.environ["PLAIN_OFF"] = "simd"
+    program, source = os.path.join(OUT, "plain"), os.path.join(HERE, "plain", "main.rs")
+    flags = ["opt-level=3", "codegen-units=1", "panic=abort", "lto=fat"]
+    subprocess.run(["rustc", "--edition", "2021", "-A", "warnings", *(it for flag in flags for it in ("-C", flag)), "-o", program, source], check=True)
     return program
 
 
@@ -43,11 +45,11 @@ def memory_of(words):
     return spent.ru_maxrss / 1024
 
 
-def price(book, cert, *flags):
-    """The CPU time of `cca price` with a fresh certificate file, and what it prints."""
+def price(book, cert, *flags, program=CCA):
+    """The CPU time of `price` with a fresh certificate file, and what it prints."""
     if os.path.exists(cert):
         os.remove(cert)
-    return timed([CCA, "price", book, cert, *flags])
+    return timed([program, "price", book, cert, *flags])
 
 
 def packages_of(kind, rng):

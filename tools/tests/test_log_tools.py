@@ -1,0 +1,252 @@
+"""tools/audit, explain, caps and what-if on the samples, on worked examples and on faulty files."""
+import os, subprocess, sys, tempfile, unittest, unittest.mock
+from samples import EXAMPLES, TOOLS, certificate_of, lines, said, sample, tool
+from test_auction import ROW, TWO, TWO_LOG
+from rules.stops import MOST
+
+audit, caps, explain, what_if = tool("audit").audit, tool("caps").caps, tool("explain").explain, tool("what-if").what_if
+SMALL = sample("sample.award")
+BIDS = [[((1,), 20), ((3,), 44)], [((2,), 24)]]
+PRICES = "winner east 1 bid 20 vickrey 10 pays 10\nwinner west 2 bid 24 vickrey 24 pays 24\nnet 14\nrevenue 34"
+
+
+def small_cert(pay=(0, 4)):
+    """The certificate of the worked log: without east west wins alone, without west east's three lots do."""
+    rows = [([1], 1, 0, (0, 1)), ([2], 1, 0, (2, 0))]
+    return certificate_of((3,), BIDS, (1, 1), {1: (0, 1), 2: (2, 0)}, 1, pay, rows, reserves=(10,))
+
+
+def run(name, *words, stdin=b""):
+    """What a tool prints as a program, its status, and what it says on its standard error."""
+    made = subprocess.run([sys.executable, os.path.join(TOOLS, name), *words], input=stdin, capture_output=True)
+    return made.stdout.decode(), made.returncode, made.stderr.decode()
+
+
+class Audit(unittest.TestCase):
+    def test_yes(self):
+        self.assertEqual(said(audit, SMALL, lines(ROW), small_cert()), ("yes\n" + PRICES, 0))
+
+    def test_no(self):
+        self.assertEqual(said(audit, SMALL, lines(ROW), small_cert((0, 3))), ("no C6 2", 1))
+        # without east's draft for three lots its clock amount of 30 stands, and west's part shows too much
+        self.assertEqual(said(audit, SMALL, lines(ROW.replace("draft,east,3,44", "drop,east,3,")), small_cert())[1], 1)
+
+    def test_sample(self):
+        """The answers are those of the guide."""
+        award, log, cert = (sample(f"spectrum.{kind}") for kind in ("award", "log", "cert"))
+        text, status = said(audit, award, log, cert)
+        self.assertEqual((text.splitlines()[0], text.splitlines()[-2:], status), ("yes", ["net 559100", "revenue 1436700"], 0))
+        self.assertIn("winner niche 0 0 5 0 bid 120000 vickrey 81000 pays 81200", text)
+        for pay, answer in ((b"6100 60300", "no C8 8"), (b"6000 60000", "no C6 4")):
+            self.assertEqual(said(audit, award, log, cert.replace(b"pay 47400 30000 32000 6200 60200", b"pay 47400 30000 32000 " + pay)),
+                             (answer, 1))
+        records = log.splitlines(True)
+        self.assertEqual(said(audit, award, b"".join(records[:35] + records[36:]), cert), ("no C2 7", 1))
+
+    def test_order_of_steps(self):
+        award, log, cert = SMALL, lines(ROW), small_cert()
+        dear = SMALL.replace(b"reserve = 10", b"reserve = 68719476736")
+        rows = [((b"version =", b"x", b"x"), "refused award 0 0", 3), ((award, b"x", b"x"), "refused log 1", 3),
+                ((dear, lines(" / ".join(ROW.split(" / ")[:3])), b"x"), "limit price 82463372084", 7),
+                ((award, lines(" / ".join(ROW.split(" / ")[:3])), b"x"), "refused log 4", 3), ((award, log, b"x"), "refused cert 0", 3),
+                ((award, log, cert[:-2]), f"refused cert {len(cert) - 4}", 3), ((award + b"#" * 65536, log, cert), "limit bytes 65537", 7),
+                ((award, b"\n" * 8388609, cert), "limit bytes 8388609", 7)]
+        for files, line, status in rows:
+            with self.subTest(line=line):
+                self.assertEqual(said(audit, *files), ("cca: " + line, status))
+
+    def test_long_certificate(self):
+        self.assertEqual(MOST["cert bytes"], 67_108_864)
+        with unittest.mock.patch.dict(MOST, {"cert bytes": 1000}):
+            self.assertEqual(said(audit, SMALL, lines(ROW), b"x" * 1001), ("cca: limit bytes 1001", 7))
+
+    def test_as_a_program(self):
+        award, log = os.path.join(EXAMPLES, "sample.award"), os.path.join(EXAMPLES, "spectrum.log")
+        self.assertEqual(run("audit", award, log, "nothing.cert"), ("cca: refused log 1\n", 3, ""))
+        self.assertEqual(run("audit", award, "nothing.log", "nothing.cert"), ("cca: read fault log\n", 4, ""))
+        self.assertEqual(run("audit", EXAMPLES, log, "nothing.cert"), ("cca: read fault award\n", 4, ""))
+        self.assertEqual(run("audit", award, "-", "nothing.cert", stdin=lines(ROW)), ("cca: read fault cert\n", 4, ""))
+        for words in ((), (award, log), (award, log, log), (award, log, "-x"), (award, log, ""), (award, log, "c", "d")):
+            self.assertEqual(run("audit", *words), ("cca: words\n", 2, ""))
+        for name in ("audit", "explain", "caps", "what-if"):
+            text, status, _ = run(name, "--help")
+            self.assertEqual((text.startswith(f"usage: tools/{name}"), "test" in text or "tell" in text, status), (True, True, 0))
+
+
+class Explain(unittest.TestCase):
+    def told(self, command, *texts):
+        return said(lambda names: explain([command, *names]), *texts)
+
+    def test_log(self):
+        rows = [("bid,everest,1 0 28.5 0,",
+                 "The package, `28.5`: counts are whole numbers of at most 65535; a whole number has no point or comma."),
+                ('draft,everest,1 0 3 0,"420,000"', "a number has nothing between its thousands"),
+                ("draft,everest,1 0 3 0,420,000", "this one has 5; a number seems to have a comma between its thousands"),
+                ("bid,Everest,1 0 3 0,", "a name has no capitals"), ("bid;everest;1 0 3 0;", "the fields seem to stand between semicolons"),
+                ("draft,everest,1 0 3 0, 420000", "there is a space too many"), ("draft,everest,1 0 3 0,-5", "a number has no sign"),
+                ("submit,everest,1 0 3 0,", "a submit has no package"), ('draft,everest,"1 0 3 0,42\nclose,,,', "a quote is open here")]
+        for text, part in rows:
+            said_text, status = self.told("auction", sample("spectrum.award"),
+                                          b"\n" + sample("spectrum.log") + b"\n" + text.encode() + b"\n")
+            with self.subTest(text=text):
+                self.assertEqual((said_text.splitlines()[0], status), ("cca: refused log 64", 3))
+                self.assertIn("Record 64, line 66 of the file", said_text)
+                self.assertIn(part, said_text)
+
+    def test_log_head(self):
+        text, status = self.told("audit", SMALL, b"kind,bidder,package,amount\n" + lines(ROW), b"")
+        self.assertEqual((text.splitlines()[:2], status),
+                         (["cca: refused log 1", "Record 1, line 1 of the file: `kind,bidder,package,amount`"], 3))
+        self.assertIn("this seems to be a head", text)
+
+    def test_award(self):
+        text, status = self.told("award", sample("spectrum.award").replace(b"permille = 50", b"permille = 0"), b"")
+        self.assertEqual((text, status),
+                         ("cca: refused award 14 1\nLine 52 of the file. Field 14: `permille` is 0 in table 1 of [[step]]; it has "
+                                          "to be a whole number from 1 to 1000.", 3))
+        self.assertIn("line 1", self.told("award", b"version 1", b"")[0])
+
+    def test_replies(self):
+        text, status = self.told("auction", sample("spectrum.award"), sample("spectrum.log"))
+        self.assertEqual((text.count("of the file"), status), (14, 0))
+        self.assertIn("5 points 96: record 5, line 5 of the file, `bid,tarn,3 1 0 0,`", text)
+        text, status = self.told("auction", SMALL, lines(" / ".join(ROW.split(" / ")[:3])))
+        self.assertEqual((text.splitlines()[0], status), ("cca: refused log 4", 3))
+        self.assertIn("isn't complete", text)
+
+    def test_certificate(self):
+        cert = sample("day-cramton.cert")
+        text, status = self.told("check", sample("day-cramton.book"), cert + cert)
+        self.assertEqual((text.splitlines()[0], status), ("cca: refused cert 476", 3))
+        self.assertIn("A second certificate begins here", text)
+        text, status = self.told("check", sample("day-cramton.book"), cert.replace(b"pay 17 15", b"pay 16 16"))
+        self.assertEqual((text.splitlines()[0], status), ("no C8 2", 1))
+        self.assertIn("b1", text)
+
+    def test_winners(self):
+        eleven = lines("book 1 / supply 11 / reserve 0 / " + " / ".join(f"bidder b{j} / bid 1 5" for j in range(11)) + " / end")
+        text, status = self.told("price", eleven)
+        self.assertEqual((text.splitlines()[0], status), ("cca: limit winners 11", 7))
+        weights = lines("weights 1 / " + " / ".join(f"weight b{j} 2" for j in range(5)) + " / end")
+        five = lines("book 1 / supply 11 / reserve 0 / " + " / ".join(f"bidder b{j} / bid 1 5" for j in range(5)) + " / end")
+        self.assertEqual(self.told("weigh", five, weights)[0].splitlines()[0], "cca: limit winners 5")
+        self.assertEqual(self.told("price", five)[1], 0)
+
+    def test_edits(self):
+        book, edits = sample("day-cramton.book"), sample("day-cramton.edits")
+        self.assertEqual(self.told("review", book, edits)[1], 0)
+        rows = [(b"edits 1", b"edits 2", 0), (b"raise b3 1 1 50", b"raise b3 1 50", 8), (b"add b4 0 1 23", b"add B4 0 1 23", 24),
+                (b"drop b1 1 0", b"drop b1 1 65536", 38), (b"end", b"stop", 82), (b"add b4 0 1 23", b"add b4 0 1 1000000000000000001", 24)]
+        for old, new, place in rows:
+            text, status = self.told("review", book, edits.replace(old, new, 1))
+            self.assertEqual((text.splitlines()[0], status), (f"cca: refused edits {place}", 3))
+        many = b"edits 1\n" + b"drop b1 1 0\n" * 1001 + b"end\n"
+        self.assertEqual(self.told("review", book, many)[0].splitlines()[0], "cca: limit records 1001")
+
+    def test_words(self):
+        for words in ([], ["nothing"], ["check", "a"], ["check", "a", "a"], ["check", "a", "-x"], ["win", "a", "b"],
+                      ["audit", "a", "b", "c", "--json"]):
+            text, status, _ = run("explain", *words)
+            self.assertEqual((text.splitlines()[0], len(text.splitlines()), status), ("cca: words", 2, 2))
+        self.assertEqual(run("explain", "win", "nothing.book")[:2], ("cca: read fault book\nNothing.book: No such file or directory.\n", 4))
+
+
+class CapsTool(unittest.TestCase):
+    def asked(self, award, log, *words):
+        return said(lambda names: caps([*names, *words]), award, log)
+
+    def test_sample(self):
+        text, status = self.asked(sample("spectrum.award"), sample("spectrum.log"), "everest")
+        self.assertEqual((text.splitlines()[0], status), ("everest final round 4 held 1 0 3 0 list 3", 0))
+        self.assertIn("package 2 0 4 0 listed 660000 least 506000 round 3 held 1 0 4 0 stands 430000 prices 231000 275700 18200 300 cap "
+                      "661000", text)
+        self.assertIn("package 1 0 3 0 listed 420000 least 300200 no cap", text)
+
+    def test_first_list(self):
+        text, _ = self.asked(sample("spectrum.award"), b"".join(sample("spectrum.log").splitlines(True)[:32]), "everest", "2", "0", "4",
+                             "0")
+        self.assertIn("round 3 held 1 0 4 0 stands 303800 prices 231000 275700 18200 300 cap 534800", text)
+
+    def test_final_cap(self):
+        for version, part in (1, "cap 52"), (2, "cap 32"):
+            text, _ = self.asked(TWO.format(version).encode(), lines(TWO_LOG), "east", "0 3")
+            self.assertEqual(part in text, True, text)
+
+    def test_views(self):
+        for name in ("everest", "harbour", "meridian", "niche", "tarn"):
+            view, _ = self.asked(sample("spectrum.award"), sample("spectrum.log"), name, "--view")
+            others = {"everest", "harbour", "meridian", "niche", "tarn"} - {name}
+            self.assertFalse(any(other in view for other in others))
+            self.assertEqual(self.asked(sample("spectrum.award"), view.encode(), name),
+                             self.asked(sample("spectrum.award"), sample("spectrum.log"), name))
+
+    def test_faulty_views(self):
+        rows = ["close,,12, / close,,, / ", "close,,sealed, / close,,12, / ", "close,,closed, / ", "close,,12 13, / ",
+                "close,,sealed, / close,,sealed, / ",
+                "close,,68719476737, / ", "close,west,12, / ", "close,,12,5 / ", "close,,sealed, / close,,closed, / close,,closed, / "]
+        for text in rows:
+            with self.subTest(text=text):
+                self.assertIn("cca: refused log", self.asked(SMALL, lines(text + "bid,east,1,"), "east")[0])
+
+    def test_no_caps(self):
+        self.assertEqual(self.asked(SMALL, lines("bid,east,1,"), "east")[1], 1)
+        self.assertEqual(self.asked(SMALL, lines(ROW), "north")[1], 2)
+        self.assertIn("supply 1", self.asked(SMALL, lines(ROW), "east", "4")[0])
+        self.assertIn("points 2", self.asked(SMALL, lines(ROW), "west", "3")[0])
+        self.assertEqual(self.asked(SMALL, lines(ROW), "east", "x")[1], 2)
+
+
+class WhatIf(unittest.TestCase):
+    def setUp(self):
+        self.kept = os.environ.pop("CCA_PROGRAM", None)
+        os.environ["CCA_PROGRAM"] = "nothing"
+
+    def tearDown(self):
+        os.environ.pop("CCA_PROGRAM")
+        if self.kept:
+            os.environ["CCA_PROGRAM"] = self.kept
+
+    def test_dropped_draft(self):
+        text, status = said(what_if, SMALL, lines(ROW), lines(ROW.replace("draft,east,3,44", "drop,east,3,")))
+        self.assertEqual((text.splitlines()[:5], status),
+                         (["lines", "- 10 draft,east,3,44: ok", "+ 10 drop,east,3,: ok", "book", "bid east 3 30, before 44"], 0))
+        self.assertEqual(text.count("winner east 1 20"), 2)
+
+    def test_changed_reply(self):
+        text, _ = said(what_if, SMALL, lines(ROW), lines(ROW.replace("draft,east,3,44", "draft,east,3,46")))
+        self.assertIn("  11 submit,east,,: relative-cap 2 44, before ok\n    Entry 2 of the list", text)
+        self.assertIn("bid east 1 12, before 20", text)
+
+    def test_faulty_files(self):
+        with tempfile.TemporaryDirectory() as folder:
+            names = [os.path.join(folder, name) for name in ("award", "log", "edited")]
+            for name, data in zip(names, (SMALL, lines(ROW), lines(ROW + " / draft,east,1,1.5"))):
+                with open(name, "wb") as file:
+                    file.write(data)
+            text, status, _ = run("what-if", *names)
+            self.assertEqual((text.splitlines()[:2], status),
+                             (["cca: refused log 13", "Record 13, line 13 of the file: `draft,east,1,1.5`"], 3))
+            self.assertIn("(in the edited log)", text)
+            text, status, _ = run("caps", names[0], names[2], "east")
+            self.assertEqual((text.splitlines()[0], "(in the" in text, status), ("cca: refused log 13", False, 3))
+
+    def test_gone_and_new(self):
+        head, log = "bid,west,1, / ", lines(ROW)
+        text = said(what_if, SMALL, log, lines(head + ROW))[0]
+        self.assertEqual(text.splitlines()[:3], ["lines", "+ 1 bid,west,1,: ok", "book"])
+        text = said(what_if, SMALL, lines(ROW + " / close,,,"), log)[0]
+        self.assertEqual(text.splitlines()[:3], ["lines", "- 13 close,,,: stage", "book"])
+
+    def test_least(self):
+        # with 20 and 24 the net value is 14; three lots have to bring more than that, and come behind one lot in the order of ties
+        text, status = said(lambda names: what_if([*names, "--least", "east", "3"]), SMALL, lines(ROW))
+        self.assertEqual((text.splitlines()[0], status), ("least east 3 45", 0))
+        self.assertIn("The rules would refuse it, since it is above its cap, 44.", text)
+        # of west's two lots 20 is the least that the reserve and the clock allow, and they win beside one of east's
+        self.assertEqual(said(lambda names: what_if([*names, "--least", "west", "2"]), SMALL, lines(ROW))[0].splitlines()[0],
+                         "least west 2 24")
+        self.assertEqual(said(lambda names: what_if([*names, "--least", "west", "3"]), SMALL, lines(ROW))[1], 1)
+
+
+if __name__ == "__main__":
+    unittest.main()
