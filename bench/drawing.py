@@ -1,21 +1,15 @@
-"""The style of the pictures: ink that is legible on a white and on a dark page, no ground, and letters as shapes."""
-import os
+"""The pictures of docs/pictures, drawn as those of reports are: letters stay letters, and each has its title, what it shows in words,
+and a ground of its own with colours for a white and for a dark page."""
+import os, sys
 
-INK, GREEN, ORANGE, BLUE, RED = "#7d8590", "#2da44e", "#d9730d", "#3b82f6", "#e5484d"
-PICTURES = os.path.join(os.path.dirname(os.path.realpath(__file__)), "..", "docs", "pictures")
-
-
-def styled(salt):
-    """The module pyplot, set up so that the same lines give the same bytes."""
-    import matplotlib
-    matplotlib.use("svg")
-    from matplotlib import pyplot
-    pyplot.rcParams.update({"text.color": INK, "axes.labelcolor": INK, "xtick.color": INK, "ytick.color": INK, "axes.edgecolor": INK,
-                            "font.size": 11, "svg.hashsalt": salt, "svg.fonttype": "path"})
-    return pyplot
+HERE = os.path.dirname(os.path.realpath(__file__))
+PICTURES = os.path.join(HERE, "..", "docs", "pictures")
+sys.path.insert(0, os.path.join(HERE, "..", "tools"))
+from page.ink import BLUE, GREEN, GREENISH, INK, ORANGE, ORANGISH, RED, REDDISH, RULE, SOFT, as_file, new_figure  # noqa: E402,F401
 
 
-def keep(figure, name):
-    figure.tight_layout()
+def keep(figure, name, title, about):
+    figure.tight_layout(rect=(0, 0.07 if figure.legends else 0, 1, 1))
     os.makedirs(PICTURES, exist_ok=True)
-    figure.savefig(os.path.join(PICTURES, name), transparent=True, metadata={"Date": None})
+    with open(os.path.join(PICTURES, name + ".svg"), "w") as file:
+        file.write(as_file(figure, name, title, about))

@@ -1,0 +1,1 @@
+"""What only the report needs: its words, its pictures and its pages."""

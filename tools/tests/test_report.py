@@ -1,0 +1,556 @@
+"""The report: what stands in it, as text and as a page."""
+import hashlib, importlib.util, os, re, subprocess, sys, tempfile, unittest
+from fractions import Fraction
+from html.parser import HTMLParser
+
+from samples import EXAMPLES, TOOLS, certificate_of, book_of, sample, spectrum
+from page import core, html, plain, source, words
+from page.report import page
+from rules.stops import Stop
+from rules.view import view_text
+
+HAS_LIBRARIES = all(importlib.util.find_spec(name) for name in ("jinja2", "matplotlib"))
+NEEDED = "a page needs jinja2 and matplotlib: apt-get install python3-jinja2 python3-matplotlib"
+AWARD, LOG = sample("spectrum.award"), sample("spectrum.log")
+BIDDERS = "everest", "harbour", "meridian", "niche", "tarn"
+# The refused lines of the sample, as docs/GUIDE.md has them.
+REFUSED = {
+    5: "points 96",
+    7: "unknown",
+    8: "supply 2",
+    9: "spectrum-cap 1 11",
+    10: "stage",
+    17: "points 68",
+    33: "relative-cap 2 534800",
+    37: "below-clock 315700",
+    40: "empty",
+    44: "below-reserve 505600",
+    46: "relative-cap 3 636400",
+    51: "points 22",
+    59: "no-draft",
+    63: "stage",
+}
+# What `cca price .. --rounds` prints of Day and Cramton's book, as README.md has it.
+TURNS = "round 1 point 14 12 row 1 2 choice 0 0 1 0 0 excess 6\nround 2 point 17 15 end\n"
+PROGRAM = f"#!/bin/sh\nif [ $1 = price ]; then cat <<TURNS\n{TURNS}TURNS\nelse echo yes; fi\n"
+
+
+def facts_of(*texts, program="", bidder=""):
+    """The facts of files with these bytes, beside a program of these bytes or none."""
+    with tempfile.TemporaryDirectory() as folder:
+        names = [os.path.join(folder, f"file{at}") for at, _ in enumerate(texts)]
+        for name, text in zip(names, texts):
+            with open(name, "wb") as file:
+                file.write(text)
+        made = os.path.join(folder, "program")
+        if program:
+            with open(made, "w") as file:
+                file.write(program)
+            os.chmod(made, 0o755)
+        return with_program(made if program else "/nowhere", lambda: source.of_files(names, bidder))
+
+
+def with_program(path, run):
+    before = os.environ.get("CCA_PROGRAM")
+    os.environ["CCA_PROGRAM"] = path
+    try:
+        return run()
+    finally:
+        del os.environ["CCA_PROGRAM"]
+        if before is not None:
+            os.environ["CCA_PROGRAM"] = before
+
+
+def text_of(*texts, name="", program=""):
+    return plain.text(page(facts_of(*texts, program=program, bidder=name), name))
+
+
+def flat(text):
+    """A text with one space between words, so that its breaks don't matter."""
+    return " ".join(text.split())
+
+
+def log_of(*lines):
+    return "".join(line + "\n" for line in lines).encode()
+
+
+def tables(made, title):
+    """The rows of the tables of this title, in words."""
+    found = []
+
+    def walk(blocks):
+        for block in blocks:
+            kind = html.kind(block)
+            if kind == "cards":
+                for card in block.cards:
+                    walk(card.blocks)
+            table = block if kind == "table" else block.table if kind == "picture" else None
+            if table and table.title == title:
+                found.append([[html.parts(cell)[0] for cell in row] for row in table.rows])
+
+    for section in made.sections:
+        walk(section.blocks)
+    return found
+
+
+def replies(made):
+    """Of each line its reply, in words and in the program's form."""
+    (section,) = [it for it in made.sections if it.key == "lines"]
+    rows = [row for card in section.blocks[-1].cards for table in card.blocks for row in table.rows]
+    return {int(html.parts(line)[0]): reply for line, _, reply in rows}
+
+
+class Told(unittest.TestCase):
+    def assert_told(self, sentence, text):
+        """(without the whole report in the message)"""
+        if sentence not in text:
+            self.fail(f"{sentence!r} isn't told")
+
+
+class Numbers(unittest.TestCase):
+    def test_a_price_stands_as_the_program_prints_it(self):
+        self.assertEqual(words.price(Fraction(46, 3)), "15+1/3")
+        self.assertEqual(words.price(292400), "292,400")
+        self.assertEqual(words.price(Fraction(4398046511104 * 2 + 1, 2)), "4,398,046,511,104+1/2")
+
+    def test_per_cent(self):
+        self.assertEqual(words.per_cent(310400, 400000), "77.6 %")
+        self.assertEqual(words.per_cent(Fraction(1, 3), 1), "33.3 %")
+        self.assertEqual(words.per_cent(1, 16), "6.3 %")
+        self.assertEqual(words.per_cent(0, 0), "\N{EN DASH}")
+
+    def test_commas_leave_names_and_short_numbers_alone(self):
+        self.assertEqual(words.commas("a800 and c2600 at 534800, 6 of 999"), "a800 and c2600 at 534,800, 6 of 999")
+        self.assertEqual(words.commas("81200+1/3"), "81,200+1/3")
+
+    def test_lists(self):
+        self.assertEqual(words.listed([]), "nobody")
+        self.assertEqual(words.listed(["a"]), "a")
+        self.assertEqual(words.listed(["a", "b", "c"]), "a, b and c")
+
+    def test_turns_as_the_program_prints_them(self):
+        first, second = source.turns_of(
+            "round 1 point 14 12 row 1 2 choice 0 0 1 0 0 excess 6\nround 2 point 15+1/2 16+1/2 end\nwinner b1 1 0 bid 28 vickrey 14 pays 17\n"
+        )
+        self.assertEqual((first.number, first.point, first.row, first.choice, first.excess), (1, (14, 12), (1, 2), (0, 0, 1, 0, 0), 6))
+        self.assertEqual((second.number, second.point, second.row), (2, (Fraction(31, 2), Fraction(33, 2)), ()))
+
+
+class Core(unittest.TestCase):
+    def test_what_each_group_has_to_pay(self):
+        facts = facts_of(sample("day-cramton.book"), sample("day-cramton.cert"))
+        expected = {(1,): 14, (2,): 12, (1, 2): 32}
+        self.assertEqual(core.bounds(facts.book, facts.certificate.choice, [1, 2]), expected)
+        self.assertEqual(core.best_plainly(facts.book, (1, 2)), 32)
+
+    def test_the_core_of_two_has_five_corners(self):
+        corners = core.clipped(core.corner((14, 12), (28, 20)), 1, 1, 32)
+        self.assertEqual(set(corners), {(14, 18), (14, 20), (28, 20), (28, 12), (20, 12)})
+
+    def test_nothing_is_left_of_a_polygon_outside(self):
+        self.assertEqual(core.clipped(core.corner((0, 0), (1, 1)), 1, 1, 3), [])
+
+
+class OfABook(Told):
+    def setUp(self):
+        self.files = sample("day-cramton.book"), sample("day-cramton.cert")
+
+    def test_winners(self):
+        made = page(facts_of(*self.files))
+        self.assertEqual(
+            tables(made, "Winners and prices, reserves included"),
+            [
+                [
+                    ["b1", "1\N{NO-BREAK SPACE}of category 1", "28", "14", "17", "60.7 %"],
+                    ["b2", "1\N{NO-BREAK SPACE}of category 2", "20", "12", "15", "75.0 %"],
+                ]
+            ],
+        )
+
+    def test_each_winner_has_its_sentence(self):
+        told = flat(text_of(*self.files))
+        self.assert_told("b1 pays 17: its Vickrey price of 14, and 3 more, since b3 offers 32 for what b1 and b2 win", told)
+        self.assert_told("b2 pays 15: its Vickrey price of 12, and 3 more, since b3 offers 32 for what b1 and b2 win", told)
+
+    def test_without_a_program_it_says_so(self):
+        told = flat(text_of(*self.files))
+        self.assert_told("The program isn't here to show the turns", told)
+        self.assert_told("The certificate was tested by the second program.", told)
+        self.assertNotIn("Turn 1", told)
+
+    def test_turns_of_a_program(self):
+        told = flat(text_of(*self.files, program=PROGRAM))
+        self.assert_told("Turn 1 Each winner is asked for its Vickrey price: b1 14 and b2 12; together 26.", told)
+        self.assert_told("b3 offers 32 for what b1 and b2 win, and that is 6 more than is paid for it.", told)
+        self.assert_told("b1 17 and b2 15; together 32. No coalition blocks these prices", told)
+
+    def test_a_wrong_certificate_shows_no_prices(self):
+        wrong = re.sub(rb"(?m)^pay .*", b"pay 16 16 0 0 0", self.files[1])
+        facts = facts_of(self.files[0], wrong)
+        told = flat(plain.text(page(facts)))
+        self.assertEqual(facts.fault.line, "no C8 2")
+        self.assert_told("The certificate fails a test, so it shows no winners and no prices.", told)
+        self.assertNotIn("pays 16", told)
+
+    def test_a_book_alone(self):
+        told = flat(text_of(self.files[0]))
+        self.assert_told("No certificate was given, so no winners and no prices are shown.", told)
+        self.assert_told("b3: 1 bid", told)
+
+    def test_a_book_without_bidders(self):
+        told = flat(text_of(b"book 1\nsupply 1\nreserve 5\nend\n"))
+        self.assert_told("A book of bids, with 0 bidders.", told)
+
+    def test_three_winners(self):
+        # Least are 12 for b1 and b2, and 7 for b2 and b3, of which b3 pays no more than its 1: so b2 pays 6, and b1 the other 6.
+        supply, bids = (1, 1, 1), [
+            [((1, 0, 0), 9)],
+            [((0, 1, 0), 9)],
+            [((0, 0, 1), 5)],
+            [((1, 1, 0), 12)],
+            [((0, 1, 1), 7)],
+            [((0, 0, 1), 1)],
+            [((1, 0, 0), 5)],
+        ]
+        pair, chain, small = (0, 0, 1, 1, 0, 0, 0), (1, 0, 0, 0, 1, 0, 0), (1, 1, 0, 0, 0, 1, 0)
+        rows = [((1, 2), 1, 1, pair), ((3,), 1, -2, small), ((2, 3), 0, 2, chain)]
+        cert = certificate_of(
+            supply, bids, (1, 1, 1, 0, 0, 0, 0), {1: (0, 1, 1, 0, 0, 0, 1), 2: pair, 3: small}, 1, (6, 6, 1, 0, 0, 0, 0), rows
+        )
+        facts = facts_of(book_of(supply, bids), cert)
+        self.assertIsNone(facts.fault)
+        (groups,) = tables(page(facts), "What each group of winners has to pay")
+        self.assertEqual(
+            groups,
+            [
+                ["b1", "5", "6", "1"],
+                ["b2", "3", "6", "3"],
+                ["b3", "1", "1", "0"],
+                ["b1 and b2", "12", "12", "0"],
+                ["b1 and b3", "6", "7", "1"],
+                ["b2 and b3", "7", "7", "0"],
+                ["b1, b2 and b3", "13", "13", "0"],
+            ],
+        )
+
+
+class OfALog(Told):
+    @classmethod
+    def setUpClass(cls):
+        cls.cert = spectrum()[1]
+        cls.made = page(facts_of(AWARD, LOG, cls.cert))
+        cls.told = flat(plain.text(cls.made))
+
+    def test_rounds(self):
+        found = tables(self.made, "By round")
+        self.assertEqual(
+            found[0],
+            [
+                ["1", "200,000", "7 of 4", "3"],
+                ["2", "220,000", "6 of 4", "2"],
+                ["3", "231,000", "5 of 4", "1"],
+                ["4", "242,600", "4 of 4", "0"],
+            ],
+        )
+        self.assertEqual([row[2] for row in found[3]], ["15 of 9", "14 of 9", "14 of 9", "9 of 9"])
+
+    def test_eligibility(self):
+        harbour = tables(self.made, "By round")[4 + 1]
+        self.assertEqual([(row[0], row[2]) for row in harbour], [("1", "68 of 68"), ("2", "48 of 68"), ("3 to 4", "48 of 48")])
+
+    def test_each_line_has_its_reply(self):
+        codes = {line: reply.code for line, reply in replies(self.made).items()}
+        self.assertEqual(len(codes), 63)
+        self.assertEqual({line: code for line, code in codes.items() if not re.match(r"ok$|round |sealed$|closed$", code)}, REFUSED)
+
+    def test_a_refusal_is_worked_out(self):
+        told = replies(self.made)
+        self.assert_told("3 x 20 + 1 x 40 = 100 points, and tarn is eligible for 96", told[5].words)
+        self.assert_told("303,800 + 231,000 = 534,800", told[33].words)
+        self.assert_told("315,700", told[37].words)
+
+    def test_winners_and_sums(self):
+        winners = tables(self.made, "Winners and prices, reserves included")[0]
+        self.assertEqual(
+            [(row[0], *row[2:5]) for row in winners],
+            [
+                ("everest", "420,000", "292,400", "292,400"),
+                ("harbour", "400,000", "310,400", "310,400"),
+                ("meridian", "380,000", "292,500", "292,500"),
+                ("niche", "120,000", "81,000", "81,200"),
+                ("tarn", "500,000", "460,000", "460,200"),
+            ],
+        )
+        self.assertRegex(self.told, "revenue 1,436,700 bid by winners 1,820,000 .* 78.9 % net value 559,100")
+
+    def test_the_vickrey_price_is_worked_out(self):
+        (tarn,) = tables(self.made, "Without tarn")
+        self.assertEqual(
+            [(row[0], row[-1]) for row in tarn],
+            [("everest", "+240,000"), ("meridian", "+220,000"), ("harbour and niche", "0"), ("its Vickrey price", "460,000")],
+        )
+        (niche,) = tables(self.made, "Without niche")
+        self.assertEqual(
+            [(row[0], row[-1]) for row in niche],
+            [("tarn", "+36,000"), ("the seller", "+45,000"), ("everest, harbour and meridian", "0"), ("its Vickrey price", "81,000")],
+        )
+
+    def test_files_by_their_sums(self):
+        for data in (AWARD, LOG, self.cert):
+            self.assertIn(hashlib.sha256(data).hexdigest(), self.told)
+
+    def test_lots(self):
+        (lots,) = tables(self.made, "Where the lots went")
+        self.assertEqual(lots[2], ["c2600", "14", "everest 3, harbour 2, meridian 4, niche 5", "0", "0"])
+
+    def test_a_log_in_progress(self):
+        told = flat(text_of(AWARD, b"".join(LOG.splitlines(True)[:15])))
+        self.assert_told("The auction is in round 2.", told)
+        self.assert_told("The auction isn't over: the clock runs. So there are no winners and no prices yet.", told)
+        self.assert_told("2 220,000 4 of 4 so far 0", told)
+
+    def test_a_log_that_a_limit_stops(self):
+        award = AWARD.replace(b"reserve = 250000", b"reserve = 68719476736")
+        told = flat(text_of(award, log_of("bid,everest,0 1 0 0,", "bid,harbour,0 1 0 0,", "close,,,")))
+        self.assert_told("The auction was stopped by a limit: cca: limit price 72155450636. It has no book", told)
+
+    def test_without_bids(self):
+        told = flat(text_of(AWARD, log_of("close,,,", "close,,,")))
+        self.assert_told("The clock ended with round 1", told)
+        self.assert_told("The log has 2 lines, and 0 of them were refused.", told)
+
+    def test_without_bidders(self):
+        award = AWARD[: AWARD.index(b"[[bidder]]")] + AWARD[AWARD.index(b"[[step]]") :]
+        self.assert_told("The auction is over.", text_of(award, log_of("close,,,", "close,,,")))
+
+    def test_no_line_of_a_text_is_too_wide(self):
+        for name in ("", "tarn"):
+            made = plain.text(page(facts_of(AWARD, LOG, self.cert), name))
+            self.assertLessEqual(max(map(len, made.splitlines())), 100)
+
+
+class OfABidder(Told):
+    def view(self, *texts, name="tarn"):
+        return text_of(*texts, name=name)
+
+    def test_no_other_name_before_the_award(self):
+        told = self.view(AWARD, LOG)
+        for name in BIDDERS[:-1]:
+            self.assertNotIn(name, told)
+        self.assert_told("Winners and prices aren't published yet.", flat(told))
+
+    def test_nothing_depends_on_lines_of_others_before_the_award(self):
+        lines = LOG.decode().splitlines()
+        others = [line for line in lines if ",tarn," not in line and not line.startswith(("bid,", "close"))]
+        without = log_of(*(line for line in lines if line not in others))
+        doubled = log_of(*(again for line in lines for again in ([line, line] if line in others else [line])))
+        self.assertGreater(len(others), 20)
+        self.assertEqual(self.view(AWARD, LOG), self.view(AWARD, without))
+        self.assertEqual(self.view(AWARD, LOG), self.view(AWARD, doubled))
+
+    def test_a_bidder_that_has_only_its_own_view_sees_the_same(self):
+        lines = LOG.splitlines(True)
+        for count in (0, 11, 15, 30, 47, 62):
+            log = b"".join(lines[:count])
+            auction = facts_of(AWARD, log).auction
+            for j, name in enumerate(BIDDERS, 1):
+                with self.subTest(count=count, name=name):
+                    self.assertEqual(self.view(AWARD, log, name=name), self.view(AWARD, view_text(auction, j).encode(), name=name))
+
+    def test_a_refused_close_is_in_no_view(self):
+        self.assertEqual(self.view(AWARD, LOG), self.view(AWARD, LOG + b"close,,,\n"))
+
+    def test_a_limit_of_the_auction_is_in_no_view(self):
+        award = AWARD.replace(b"reserve = 250000", b"reserve = 68719476736")
+        stopped = "bid,everest,0 1 0 0,", "bid,tarn,0 1 0 0,", "close,,,"
+        later = "bid,everest,0 0 0 0,", "close,,,", "draft,tarn,0 1 1 0,68719500000", "submit,tarn,,", "close,,,"
+        for log in (stopped, stopped + later):
+            auction = facts_of(award, log_of(*log)).auction
+            self.assertEqual(auction.limit_stop.line, "cca: limit price 72155450636")
+            self.assertEqual(self.view(award, log_of(*log)), self.view(award, view_text(auction, 5).encode()))
+
+    def test_a_view_takes_no_certificate(self):
+        auction = facts_of(AWARD, LOG).auction
+        with self.assertRaisesRegex(Stop, "A bidder's own view has no certificate"):
+            facts_of(AWARD, view_text(auction, 1).encode(), spectrum()[1], bidder="everest")
+
+    def test_nothing_depends_on_terms_of_others(self):
+        award = AWARD.replace(b"eligibility = 60", b"eligibility = 61").replace(b"holding = [2, 0, 0, 0]", b"holding = [1, 0, 0, 0]")
+        begun = b"".join(LOG.splitlines(True)[:8])
+        self.assertEqual(self.view(AWARD, begun), self.view(award, begun))
+
+    def test_own_lines_with_their_replies(self):
+        made = page(facts_of(AWARD, LOG), "tarn")
+        self.assert_told("You sent 13 lines; 2 of them were refused.", flat(plain.text(made)))
+        told = replies(made)
+        self.assertEqual([(line, reply.code) for line, reply in told.items() if reply.tone == "bad"], [(1, "points 96"), (15, "no-draft")])
+        self.assertEqual(len(told), 13 + 5)
+
+    def test_winners_behind_the_award(self):
+        told = self.view(AWARD, LOG, spectrum()[1])
+        self.assert_told("You win 2 x a800 with your bid of 500,000, and pay 460,200, 92.0 % of it.", flat(told))
+        self.assert_told(
+            "Your Vickrey price, what the others would offer more if you hadn't bid, is 460,000. You pay 200 more.", flat(told)
+        )
+        for name, pays in zip(BIDDERS, ("292,400", "310,400", "292,500", "81,200", "460,200")):
+            self.assertRegex(told, rf"{name} .* {pays}\n")
+        for bid in ("420,000", "400,000", "380,000", "120,000", "81,000"):
+            self.assertNotIn(bid, told)
+
+    def test_a_certificate_that_fails_shows_no_winner(self):
+        wrong = spectrum()[1].replace(b"pay 47400", b"pay 47401")
+        told = self.view(AWARD, LOG, wrong)
+        self.assert_told("The certificate fails a test, so no winners and no prices are shown.", flat(told))
+        for name in BIDDERS[:-1]:
+            self.assertNotIn(name, told)
+
+
+class Form(HTMLParser):
+    """What a page is made of: its tags in balance, the names of its parts and its texts."""
+
+    def __init__(self, text):
+        super().__init__()
+        self.open, self.ids, self.tags, self.figures, self.texts, self.links = [], [], {}, [], [], []
+        self.feed(text)
+
+    def handle_starttag(self, tag, attributes):
+        named = dict(attributes)
+        self.tags[tag] = self.tags.get(tag, 0) + 1
+        self.ids += [named["id"]] if "id" in named else []
+        self.links += [value for name, value in attributes if value and re.match(r"(https?:)?//", value) and not name.startswith("xmlns")]
+        if tag == "figure":
+            self.figures.append(named.get("aria-describedby"))
+        if tag not in ("meta", "br"):
+            self.open.append(tag)
+
+    def handle_startendtag(self, tag, attributes):
+        self.handle_starttag(tag, attributes)
+        self.open.pop()
+
+    def handle_endtag(self, tag):
+        if self.open.pop() != tag:
+            raise AssertionError(f"</{tag}> closes another")
+
+    def handle_data(self, text):
+        self.texts.append(text)
+
+
+@unittest.skipUnless(HAS_LIBRARIES, NEEDED)
+class OfAPage(Told):
+    @classmethod
+    def setUpClass(cls):
+        cls.text = html.page(page(facts_of(AWARD, LOG, spectrum()[1])))
+        cls.form = Form(cls.text)
+
+    def test_it_is_whole_and_needs_nothing_else(self):
+        self.assertEqual(self.form.open, [])
+        self.assertEqual(self.form.links, [])
+        for tag in ("script", "link", "img", "iframe", "object"):
+            self.assertNotIn(tag, self.form.tags)
+        self.assertNotRegex(self.text, r"@import|url\((?!#)")
+
+    def test_names_of_parts_differ(self):
+        self.assertEqual(len(self.form.ids), len(set(self.form.ids)))
+
+    def test_each_picture_has_a_title_words_and_a_table(self):
+        self.assertEqual(len(self.form.figures), 4 + 5 + 1)
+        for name in self.form.figures:
+            self.assertIn(name, self.form.ids)
+        self.assertEqual(self.form.tags["svg"], len(self.form.figures))
+        self.assertEqual(self.form.tags["desc"], len(self.form.figures))
+        self.assertEqual(self.form.tags["title"], len(self.form.figures) + 1)
+
+    def test_pictures_have_letters(self):
+        self.assertRegex(self.text, r"<text[^>]*>\s*242,600\s*</text>")
+
+    def test_the_same_files_give_the_same_page(self):
+        self.assertEqual(self.text, html.page(page(facts_of(AWARD, LOG, spectrum()[1]))))
+
+    def test_what_the_text_says_the_page_says(self):
+        told = flat(" ".join(self.form.texts))
+        for sentence in (
+            "tarn pays 460,200: its Vickrey price of 460,000, and 200 more",
+            "303,800 + 231,000 = 534,800",
+            "below-clock 315700",
+        ):
+            self.assert_told(sentence, told)
+
+    def test_a_picture_of_the_core_for_two(self):
+        made = html.page(page(facts_of(sample("day-cramton.book"), sample("day-cramton.cert"))))
+        self.assertIn("What b1 and b2 could pay that nobody blocks", made)
+        self.assertEqual(Form(made).open, [])
+
+    def test_a_name_of_a_file_is_no_markup(self):
+        with tempfile.TemporaryDirectory() as folder:
+            name = os.path.join(folder, "<script>alert(1)<`b`&.book")
+            name = name.replace("/b`", "b`")
+            with open(name, "wb") as file:
+                file.write(sample("day-cramton.book"))
+            made = html.page(page(with_program("/nowhere", lambda: source.of_files([name]))))
+        self.assertNotIn("script", Form(made).tags)
+
+
+class OfTheTool(Told):
+    def run_tool(self, *words, program="/nowhere", standard=None):
+        how = {**os.environ, "CCA_PROGRAM": program}
+        done = subprocess.run([sys.executable, os.path.join(TOOLS, "report"), *words], stdin=standard, capture_output=True, text=True, env=how)
+        return done.stdout, done.returncode
+
+    def path(self, name):
+        return os.path.join(EXAMPLES, name)
+
+    def test_statuses(self):
+        award, log, book, cert = map(self.path, ("spectrum.award", "spectrum.log", "day-cramton.book", "day-cramton.cert"))
+        for given, line, status in (
+            ((), "cca: words", 2),
+            ((award,), "cca: words", 2),
+            (("--text", award, log, cert, book), "cca: words", 2),
+            (("--text", "--text", book), "cca: words", 2),
+            (("--text", log, award), "cca: refused award 0 0", 3),
+            (("--text", book, book + "x"), "cca: read fault cert", 4),
+            (("--text", book, award), "cca: refused cert 0", 3),
+        ):
+            with self.subTest(words=given):
+                self.assertEqual(self.run_tool(*given), (line + "\n", status))
+
+    def test_done(self):
+        told, status = self.run_tool("--text", self.path("day-cramton.book"), self.path("day-cramton.cert"))
+        self.assertEqual(status, 0)
+        self.assert_told("b1 pays 17", told)
+
+    def test_a_certificate_that_fails_is_status_1(self):
+        with tempfile.TemporaryDirectory() as folder:
+            name = os.path.join(folder, "wrong.cert")
+            with open(name, "wb") as file:
+                file.write(sample("day-cramton.cert").replace(b"pay 17 15", b"pay 16 16"))
+            told, status = self.run_tool("--text", self.path("day-cramton.book"), name)
+        self.assertEqual(status, 1)
+        self.assert_told("no C8 2", told)
+
+    def test_the_sum_of_the_program_where_it_is_asked_for(self):
+        with tempfile.TemporaryDirectory() as folder:
+            name = os.path.join(folder, "program")
+            with open(name, "w") as file:
+                file.write(PROGRAM)
+            os.chmod(name, 0o755)
+            files = self.path("day-cramton.book"), self.path("day-cramton.cert")
+            told, other = (self.run_tool("--text", *more, *files, program=name)[0] for more in (("--program-sum",), ()))
+        self.assert_told(hashlib.sha256(PROGRAM.encode()).hexdigest(), told)
+        self.assertNotIn(hashlib.sha256(PROGRAM.encode()).hexdigest(), other)
+
+    def test_one_file_may_be_standard_input(self):
+        for at in (0, 1):
+            files = [self.path("day-cramton.book"), self.path("day-cramton.cert")]
+            with open(files[at], "rb") as file:
+                files[at] = "-"
+                told, status = self.run_tool("--text", *files, standard=file)
+            self.assertEqual(status, 0)
+            self.assert_told("b1 pays 17", told)
+
+    def test_a_stranger_sees_nothing(self):
+        told, status = self.run_tool("--text", "--bidder", "stranger", self.path("spectrum.award"), self.path("spectrum.log"))
+        self.assertEqual((told, status), ("The award has no bidder stranger.\n", 2))
+
+
+if __name__ == "__main__":
+    unittest.main()
