@@ -1,0 +1,393 @@
+(* checker check BOOK CERT | weigh-check BOOK WEIGHTS CERT | place-check SLOTS CERT
+
+   Reads the files, runs the extracted tests, and prints what cca prints of the same words. Only the reading of the files
+   and the printing are written by hand: by docs/FORMATS.md and docs/CERTIFICATES.md alone. *)
+open Tests
+open Numbers
+
+exception Refused of int (* the byte where the first faulty line begins *)
+exception Limit of string * int
+
+(* ---- lines ---- *)
+
+type reader = { text : string; mutable at : int; mutable start : int }
+
+let reader text = { text; at = 0; start = 0 }
+let bad r = raise (Refused r.start)
+let need r right = if not right then bad r
+
+let line r =
+  r.start <- r.at;
+  match String.index_from_opt r.text r.at '\n' with
+  | None -> bad r
+  | Some stop ->
+    let s = String.sub r.text r.at (stop - r.at) in
+    r.at <- stop + 1;
+    String.split_on_char ' ' s
+
+let finish r = if r.at <> String.length r.text then raise (Refused r.at)
+let word r w = need r (line r = [ w ])
+let is_digit c = c >= '0' && c <= '9'
+let digits s = s <> "" && String.for_all is_digit s && (s = "0" || s.[0] <> '0')
+
+(* a number from low to high; what has more than 17 digits is above every high *)
+let number r low high s =
+  need r (digits s && String.length s <= 17);
+  let k = int_of_string s in
+  need r (low <= k && k <= high);
+  k
+
+let rec natural s =
+  let l = String.length s in
+  let last = if l <= 15 then s else String.sub s (l - 15) 15 in
+  let low = z_of (int_of_string ("0u" ^ last)) in
+  if l <= 15 then low else Z.add (Z.mul (natural (String.sub s 0 (l - 15))) ten15) low
+
+(* a signed number strictly between -2^120 and 2^120 *)
+let signed_of r s =
+  let negative = s <> "" && s.[0] = '-' in
+  let d = if negative then String.sub s 1 (String.length s - 1) else s in
+  need r (digits d && not (negative && d = "0") && String.length d <= 40);
+  let v = natural d in
+  need r (Z.ltb v wide);
+  if negative then Z.opp v else v
+
+(* each spelling is read once, to save room *)
+let spelled : (string, z) Hashtbl.t = Hashtbl.create 65536
+
+let signed r s =
+  match Hashtbl.find_opt spelled s with
+  | Some v -> v
+  | None ->
+    let v = signed_of r s in
+    Hashtbl.add spelled s v;
+    v
+
+let is_name s =
+  let l = String.length s in
+  let may c = (c >= 'a' && c <= 'z') || is_digit c || c = '_' in
+  l >= 1 && l <= 20 && s.[0] >= 'a' && s.[0] <= 'z' && String.for_all may s
+
+let count_off count f = List.init count (fun i -> f i)
+
+(* ---- the book ---- *)
+
+let amount_top = 1 lsl 42
+let price_top = 1 lsl 36
+
+type known_book = { book : book; names : string list; reserve : int list; states : int; asked : (int list * int) list list }
+
+let limited what count most = if count > most then raise (Limit (what, count))
+let states_of supply = List.fold_left (fun a s -> a * (s + 1)) 1 supply
+
+let read_supply r =
+  match line r with
+  | "supply" :: (_ :: _ as l) ->
+    let supply = List.map (number r 1 999) l in
+    limited "categories" (List.length supply) 6;
+    limited "lots" (List.fold_left ( + ) 0 supply) 40;
+    limited "states" (states_of supply) 16384;
+    supply
+  | _ -> bad r
+
+let read_reserve r supply =
+  match line r with
+  | "reserve" :: l when List.length l = List.length supply -> List.map (number r 0 price_top) l
+  | _ -> bad r
+
+let cost reserve counts = List.fold_left2 (fun a c p -> a + (c * p)) 0 counts reserve
+
+(* the bid of a line, behind the counts of the bid before it *)
+let read_bid r supply reserve before fields =
+  need r (List.length fields = List.length supply + 1);
+  let fields = List.rev fields in
+  let counts = List.map2 (fun most s -> number r 0 most s) supply (List.rev (List.tl fields)) in
+  need r (not (List.for_all (( = ) 0) counts));
+  need r (before = [] || compare before counts < 0);
+  (counts, number r (cost reserve counts) amount_top (List.hd fields))
+
+let rec read_bids r supply reserve bids =
+  match line r with
+  | "bid" :: fields ->
+    let before = match bids with [] -> [] | (counts, _) :: _ -> counts in
+    let bid = read_bid r supply reserve before fields in
+    limited "bids" (List.length bids + 1) 600;
+    read_bids r supply reserve (bid :: bids)
+  | other -> (List.rev bids, other)
+
+(* the names and bids of the bidders, of which so many were read; the last one first *)
+let rec read_bidders r supply reserve bidders fields =
+  match fields with
+  | [ "end" ] -> List.rev bidders
+  | [ "bidder"; name ] ->
+    need r (is_name name && not (List.mem_assoc name bidders));
+    limited "bidders" (List.length bidders + 1) 16;
+    let bids, next = read_bids r supply reserve [] in
+    read_bidders r supply reserve ((name, bids) :: bidders) next
+  | _ -> bad r
+
+let read_book text =
+  let r = reader text in
+  need r (line r = [ "book"; "1" ]);
+  let supply = read_supply r in
+  let reserve = read_reserve r supply in
+  let bidders = read_bidders r supply reserve [] (line r) in
+  finish r;
+  let bid (counts, amount) = { lots = List.map nat_of counts; amount = z_of amount } in
+  let asked = List.map snd bidders in
+  let offers = List.map (List.map bid) asked in
+  let book = { supply = List.map nat_of supply; reserves = List.map z_of reserve; offers } in
+  { book; names = List.map fst bidders; reserve; states = states_of supply; asked }
+
+let read_weights names text =
+  let r = reader text in
+  need r (line r = [ "weights"; "1" ]);
+  let weight name =
+    match line r with
+    | [ "weight"; n; s ] when n = name -> z_of (number r 1 20 s)
+    | _ -> bad r
+  in
+  let weights = List.map weight names in
+  word r "end";
+  finish r;
+  weights
+
+(* ---- the slots ---- *)
+
+type known_slots = { slots : slot_bidder list; slot_names : string list; widths : int list; placed : (int * int) list list }
+
+let rec read_places r last before bids =
+  match line r with
+  | [ "place"; s; a ] ->
+    let start = number r (before + 1) last s in
+    let amount = number r 0 amount_top a in
+    read_places r last start ((start, amount) :: bids)
+  | other -> (List.rev bids, other)
+
+(* the name, the width and the bids of each bidder, where so much of the band is left *)
+let rec read_slot_bidders r band left bidders fields =
+  match fields with
+  | [ "end" ] -> List.rev bidders
+  | [ "bidder"; name; w ] ->
+    let width = number r 1 left w in
+    need r (is_name name && not (List.exists (fun (n, _, _) -> n = name) bidders));
+    limited "bidders" (List.length bidders + 1) 6;
+    let bids, next = read_places r (band - width + 1) 0 [] in
+    read_slot_bidders r band (left - width) ((name, width, bids) :: bidders) next
+  | _ -> bad r
+
+let read_slots text =
+  let r = reader text in
+  need r (line r = [ "slots"; "1" ]);
+  let band = match line r with [ "band"; s ] -> number r 1 999 s | _ -> bad r in
+  limited "lots" band 40;
+  let bidders = read_slot_bidders r band band [] (line r) in
+  finish r;
+  let slot_bid (start, amount) = { start = z_of start; offer = z_of amount } in
+  let slot_bidder (_, width, bids) = { width = z_of width; starts = List.map slot_bid bids } in
+  { slots = List.map slot_bidder bidders;
+    slot_names = List.map (fun (name, _, _) -> name) bidders;
+    widths = List.map (fun (_, width, _) -> width) bidders;
+    placed = List.map (fun (_, _, bids) -> bids) bidders }
+
+(* ---- the certificate ---- *)
+
+(* what differs of both kinds: whether orders stand before choices, and how many lines and entries a table has *)
+type kind = { bidders : int; has_orders : bool; lines : int; entries : int }
+
+let read_numbers r kind name =
+  match line r with
+  | w :: l when w = name && List.length l = kind.bidders -> List.map (number r 0 65535) l
+  | _ -> bad r
+
+let read_order r kind = if kind.has_orders then read_numbers r kind "order" else []
+
+let read_table r kind name =
+  word r name;
+  let entries _ =
+    match line r with
+    | "t" :: l when List.length l = kind.entries -> List.map (signed r) l
+    | _ -> bad r
+  in
+  count_off kind.lines entries
+
+let read_one r name = match line r with [ w; s ] when w = name -> signed r s | _ -> bad r
+
+(* an order counts bidders from 1 in the file; what names no bidder there names none here *)
+let order_of order = List.map (fun k -> nat_of (if k = 0 then 65536 else k - 1)) order
+
+let read_without r kind j =
+  need r (line r = [ "without"; string_of_int (j + 1) ]);
+  let order = read_order r kind in
+  let choice = read_numbers r kind "choice" in
+  let table = read_table r kind "table" in
+  { wo_bidder = nat_of j; wo_order = order_of order; wo_choice = List.map nat_of choice; wo_table = table }
+
+let read_members r kind =
+  let rec rising last = function [] -> true | k :: l -> k > last && rising k l in
+  match line r with
+  | "row" :: (_ :: _ as l) ->
+    let members = List.map (number r 1 kind.bidders) l in
+    need r (rising 0 members);
+    List.map (fun k -> nat_of (k - 1)) members
+  | _ -> bad r
+
+let read_multipliers r =
+  match line r with
+  | [ "mult"; a; b ] ->
+    let first = signed r a in
+    (first, signed r b)
+  | _ -> bad r
+
+let read_row r kind =
+  let members = read_members r kind in
+  let first, second = read_multipliers r in
+  let order = read_order r kind in
+  let choice = read_numbers r kind "choice" in
+  { members; first; second; row_order = order_of order; row_choice = List.map nat_of choice }
+
+let read_payments r kind =
+  match line r with
+  | "pay" :: l when List.length l = kind.bidders -> List.map (signed r) l
+  | _ -> bad r
+
+let read_count_of_rows r kind =
+  match line r with [ "rows"; s ] -> number r 0 (if kind.bidders = 0 then 0 else 10) s | _ -> bad r
+
+(* the certificate behind its first line, and its order as the file has it *)
+let read_certificate r kind =
+  let c_den = read_one r "den" in
+  let c_value = read_one r "value" in
+  let order = read_order r kind in
+  let choice = read_numbers r kind "choice" in
+  let c_table = read_table r kind "table" in
+  let winners = List.filter (fun j -> List.nth choice j <> 0) (count_off kind.bidders Fun.id) in
+  let c_withouts = List.map (read_without r kind) winners in
+  let c_pay = read_payments r kind in
+  let c_rows = count_off (read_count_of_rows r kind) (fun _ -> read_row r kind) in
+  let c_lowered = read_table r kind "lowered" in
+  word r "end";
+  finish r;
+  ( { c_den; c_value; c_order = order_of order; c_choice = List.map nat_of choice; c_table; c_withouts; c_pay; c_rows; c_lowered },
+    choice, order )
+
+let read_book_certificate bidders states text =
+  let r = reader text in
+  if bidders <= 12 && states <= 4096 then need r (line r = [ "cert"; "1" ])
+  else begin
+    need r (line r = [ "cert"; "2" ]);
+    need r (line r = [ "limits"; "16"; "16384" ])
+  end;
+  read_certificate r { bidders; has_orders = false; lines = bidders + 1; entries = states }
+
+let read_place_certificate bidders text =
+  let r = reader text in
+  need r (line r = [ "pcert"; "1" ]);
+  read_certificate r { bidders; has_orders = true; lines = 1; entries = 1 lsl bidders }
+
+(* ---- files ---- *)
+
+(* the bytes of a file, read in order to its end, or until there are more than its limit *)
+let load limit name =
+  let channel = open_in_bin name in
+  let text = Buffer.create 65536 and piece = Bytes.create 65536 in
+  let rec read_on () =
+    let count = input channel piece 0 (Bytes.length piece) in
+    Buffer.add_subbytes text piece 0 count;
+    if count > 0 && Buffer.length text <= limit then read_on ()
+  in
+  read_on ();
+  close_in channel;
+  limited "bytes" (min (Buffer.length text) (limit + 1)) limit;
+  Buffer.contents text
+
+let stop status text =
+  print_string (text ^ "\n");
+  exit status
+
+let reading what limit name parse =
+  try parse (load limit name) with
+  | Sys_error _ -> stop 4 ("cca: read fault " ^ what)
+  | Refused x -> stop 3 (Printf.sprintf "cca: refused %s %d" what x)
+  | Limit (kind, count) -> stop 7 (Printf.sprintf "cca: limit %s %d" kind count)
+
+(* ---- what is printed ---- *)
+
+(* yes and these lines, or the first test that fails and its place *)
+let print_verdict letter verdict lines =
+  match verdict with
+  | Yes -> stop 0 (String.concat "\n" ("yes" :: lines ()))
+  | No (test, place) -> stop 1 (Printf.sprintf "no %c%d %s" letter (int_of_nat test) (text_of place))
+
+let spaced numbers = String.concat " " (List.map string_of_int numbers)
+
+(* the line of winner j, whose bid is this, with the reserve of its package in all amounts *)
+let winner_line cert vickrey name asked amount reserve j =
+  let gross = Z.add (List.nth cert.c_pay j) (Z.mul cert.c_den (z_of reserve)) in
+  Printf.sprintf "winner %s %s bid %d vickrey %s pays %s" name asked amount
+    (text_of (Z.add (vickrey (nat_of j)) (z_of reserve))) (fraction_text gross cert.c_den)
+
+let numbered choice = List.filter (fun (_, i) -> i > 0) (List.mapi (fun j i -> (j, i)) choice)
+
+let revenue cert reserves =
+  let paid = List.fold_left Z.add Z0 cert.c_pay in
+  let gross = Z.add paid (Z.mul cert.c_den (z_of reserves)) in
+  "revenue " ^ fraction_text gross cert.c_den
+
+let book_lines known cert choice () =
+  let asked (j, i) = List.nth (List.nth known.asked j) (i - 1) in
+  let reserve bid = cost known.reserve (fst bid) in
+  let winner (j, i) =
+    let counts, amount = asked (j, i) in
+    winner_line cert (price_v known.book cert) (List.nth known.names j) (spaced counts) amount (cost known.reserve counts) j
+  in
+  let won = numbered choice in
+  let reserves = List.fold_left (fun a w -> a + reserve (asked w)) 0 won in
+  List.map winner won @ [ "net " ^ text_of cert.c_value; revenue cert reserves ]
+
+let slot_lines known cert choice order () =
+  let name j = List.nth known.slot_names j in
+  let placed k =
+    let start = text_of (start_of known.slots cert.c_order (nat_of (k - 1))) in
+    Printf.sprintf "placed %s %s %d" (name (k - 1)) start (List.nth known.widths (k - 1))
+  in
+  let winner (j, i) =
+    let start, amount = List.nth (List.nth known.placed j) (i - 1) in
+    winner_line cert (placement_v known.slots cert) (name j) (string_of_int start) amount 0 j
+  in
+  List.map placed order @ List.map winner (numbered choice) @ [ "value " ^ text_of cert.c_value; revenue cert 0 ]
+
+(* ---- the three commands ---- *)
+
+let cert_bytes = 67108864
+
+let weight_of weights j =
+  let rec go j l = match (j, l) with O, x :: _ -> x | S k, _ :: rest -> go k rest | _, [] -> ones O in
+  go j weights
+
+let check_book book_name weights_name cert_name =
+  let known = reading "book" 1048576 book_name read_book in
+  let weights =
+    match weights_name with
+    | None -> List.map (fun _ -> z_of 1) known.names
+    | Some name -> reading "weights" 65536 name (read_weights known.names)
+  in
+  let cert, choice, _ = reading "cert" cert_bytes cert_name (read_book_certificate (List.length known.names) known.states) in
+  print_verdict 'C' (check_verdict known.book (weight_of weights) cert) (book_lines known cert choice)
+
+let check_places slots_name cert_name =
+  let known = reading "slots" 65536 slots_name read_slots in
+  let cert, choice, order = reading "cert" cert_bytes cert_name (read_place_certificate (List.length known.slots)) in
+  print_verdict 'P' (place_verdict known.slots cert) (slot_lines known cert choice order)
+
+(* names of files aren't empty, don't begin with "-", and no two are the same *)
+let are_names names =
+  let is_good n = n <> "" && n.[0] <> '-' in
+  List.for_all is_good names && List.length (List.sort_uniq compare names) = List.length names
+
+let () =
+  match List.tl (Array.to_list Sys.argv) with
+  | [ "check"; book; cert ] when are_names [ book; cert ] -> check_book book None cert
+  | [ "weigh-check"; book; weights; cert ] when are_names [ book; weights; cert ] -> check_book book (Some weights) cert
+  | [ "place-check"; slots; cert ] when are_names [ slots; cert ] -> check_places slots cert
+  | _ -> stop 2 "cca: words"
