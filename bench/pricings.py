@@ -1,13 +1,6 @@
-"""What `cca price --rounds` prints, read again: for the plain program and for general solvers."""
+"""What `cca price --rounds` prints, read again, for general solvers."""
 from fractions import Fraction
 from limit_books import RESERVE, SUPPLY
-
-
-def given_of(printed, cert):
-    """The denominator, the points of the turns, and the certificate's lines of the payments and the rows."""
-    rounds = [line for line in printed.splitlines() if line.startswith("round ")]
-    den = next(line for line in cert.splitlines() if line.startswith("den "))
-    return "\n".join([den, *rounds, cert[cert.index("\npay ") + 1:cert.index("\nlowered\n")]]) + "\n"
 
 
 def fraction(word):
