@@ -11,5 +11,5 @@ pub use Rattle.bid_book
 pub use Rattle.bid_book.specs.book_form
 pub use Rattle.auction_rules.specs.limits
 pub use Rattle.auction_rules.specs.lots
-pub use Rattle.bid_book.specs.text_lines
+pub use Rattle.bid_book.specs.line_text
 pub use Rattle.bid_book.specs.wide_num

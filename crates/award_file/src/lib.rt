@@ -14,7 +14,7 @@ pub use auction_rules::limits::LimitKind;
 pub use auction_rules::{limits, lots};
 pub use award::Award;
 pub use bid_book;
-pub use bid_book::{text_lines, wide_num};
+pub use bid_book::{line_text, wide_num};
 pub use caps::CapFault;
 pub use laws::book_of_award;
 pub use read::{AwardStop, read_award};

@@ -5,7 +5,7 @@ use Rattle.lin_solve.proofs.Small.{mul_le}
 use Rattle.lin_solve.specs.Solved.{IsSmallSystem}
 use Rattle.lin_solve.specs.Matrix.{row}
 use Rattle.std.proofs.Common.{List, arith, length, pos, subst, sym, unsigned_abs, ℕ, ℤ, ◌*◌, ◌+◌, ◌<◌, ◌≡◌, ◌≤ℤ◌, ◌≤◌}
-use Rattle.text_lines.specs.wide_num.specs.Sums.{nth}
+use Rattle.line_text.specs.wide_num.specs.Sums.{nth}
 
 -- what was tested of the entries and of the right side holds of the matrix
 pub system : (count top edge n : ℕ) (xs : List ℤ) (right : List Far) (m : List (List ℤ)) → n ≤ count → length xs ≡ n * n → length right ≡ n →

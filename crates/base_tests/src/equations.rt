@@ -1,6 +1,6 @@
 ghost use Rattle.lin_solve.specs.far_num.specs.Pairs.{far_at, near_at};
 ghost use Rattle.std.specs.Prelude.{IsTrue, length, pos, unsigned_abs, ℕ, ◌<◌, ◌^◌, ◌≡◌, ◌≤ℤ◌, ◌≤◌};
-ghost use Rattle.text_lines.specs.wide_num.specs.Sums.{nth};
+ghost use Rattle.line_text.specs.wide_num.specs.Sums.{nth};
 
 use lin_solve::far_num::Far;
 use lin_solve::{Solved, Square, solve};

@@ -1,8 +1,8 @@
 ghost use Rattle.std.specs.Prelude.{◌≡◌};
 
 use lin_solve::far_num::{Far, FarList, FarPoint, Row, add, dot01, sub, times};
+use line_text::wide_num::{Op, Wide};
 use std::test::Fail;
-use text_lines::wide_num::{Op, Wide};
 
 const HALF: i128 = 1 << 119;
 

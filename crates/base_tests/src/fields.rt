@@ -1,8 +1,8 @@
-use std::test::Fail;
-use text_lines::wide_num::Text;
-use text_lines::{
+use line_text::wide_num::Text;
+use line_text::{
     NumbersStop, add_numbers, add_signed_numbers, field_len, numbers_behind, read_at_most,
 };
+use std::test::Fail;
 
 #[test]
 fn reads_back_the_numbers_that_it_wrote(rt: HostRuntime) -> Result<(), Fail> {

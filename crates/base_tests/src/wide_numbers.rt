@@ -1,7 +1,7 @@
-use std::test::Fail;
-use text_lines::wide_num::{
+use line_text::wide_num::{
     NumList, Op, Text, Wide, add, digits, div_exact, gcd, mul, read_natural, read_number, sub,
 };
+use std::test::Fail;
 
 const HALF: i128 = 1 << 119;
 

@@ -16,7 +16,7 @@ use Rattle.lots.specs.auction_model.specs.Book.{Book, BookBid, Bidder, no_bidder
 use Rattle.lots.specs.auction_model.specs.Package.{is_within}
 use Rattle.book_form.specs.BookForm.{IsNameByte, IsName, IsBid}
 use Rattle.book_form.specs.BookLines.{bid_excess, bidder_excess, bid_line}
-use Rattle.book_form.specs.text_lines.specs.Decimals.{decimals_text}
+use Rattle.book_form.specs.line_text.specs.Decimals.{decimals_text}
 use Rattle.lots.specs.limits.specs.declared.LimitKind.TheVariants.{Bidders, Bids}
 use Rattle.lots.specs.Limits.{IsSupply}
 use Rattle.bid_book.specs.declared.read.Stage.{Stage}

@@ -4,10 +4,10 @@ use Rattle.std.specs.List.{AllByRecursion, All}
 use Rattle.std.specs.Fmt.{decimal}
 use Rattle.std.proofs.lemmas.List.Elements.{All-nil, All-cons, All-head, All-tail}
 use Rattle.book_form.specs.wide_num.proofs.Decimal.{decimal_one}
-use Rattle.book_form.specs.text_lines.specs.Decimals.{decimals_text}
+use Rattle.book_form.specs.line_text.specs.Decimals.{decimals_text}
 use Rattle.book_form.proofs.TextLaws.{numbers-push}
 use Rattle.bid_book.specs.Stops.{AreNumbers, IsField}
-use Rattle.book_form.specs.text_lines.proofs.DecimalFields.{one_field, number_own, decimals_stop}
+use Rattle.book_form.specs.line_text.proofs.DecimalFields.{one_field, number_own, decimals_stop}
 
 -- what holds of each item by recursion holds at every place of the list
 pub each_all : {X : Type 0} (P : X → Type 0) (xs : List X) → AllByRecursion P xs → All P xs

@@ -3,8 +3,8 @@ use Rattle.std.proofs.Common.{◌≡◌, ℕ, ◌<◌, ◌^◌, List, [], ◌∷
 use Rattle.std.specs.List.{AllByRecursion}
 use Rattle.std.specs.Fmt.{decimal}
 use Rattle.book_form.specs.wide_num.proofs.Decimal.{decimal_one}
-use Rattle.book_form.specs.text_lines.specs.Decimals.{decimals_text}
-use Rattle.book_form.specs.text_lines.proofs.DecimalFields.{one_field, decimals_stop, number_own}
+use Rattle.book_form.specs.line_text.specs.Decimals.{decimals_text}
+use Rattle.book_form.specs.line_text.proofs.DecimalFields.{one_field, decimals_stop, number_own}
 
 abbrev pub AreSmall : List ℕ → Type 0
 AreSmall ns = AllByRecursion (λ n. n < 2 ^ 120) ns

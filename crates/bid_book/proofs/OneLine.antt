@@ -5,7 +5,7 @@ use Rattle.std.specs.Fmt.{decimal}
 use Rattle.lots.specs.auction_model.specs.Book.{BookBid, Book}
 use Rattle.book_form.specs.BookForm.{IsOffer, AreReserves}
 use Rattle.book_form.specs.BookLines.{bid_line}
-use Rattle.book_form.specs.text_lines.specs.Decimals.{decimals_text}
+use Rattle.book_form.specs.line_text.specs.Decimals.{decimals_text}
 use Rattle.bid_book.specs.Stages.{with_bid, bidder_with, with_bidders, AddsBidder, AddsBid, Adds}
 use Rattle.bid_book.proofs.Numbers.{AreSmall, numbers_one, snoc_one}
 use Rattle.bid_book.proofs.Spelled.{small_supply, small_reserves, small_counts}

@@ -7,7 +7,7 @@ use Rattle.book_form.specs.line_text.proofs.Runs.{Runs, Reads, StepsBehind, runs
 use Rattle.lots.specs.auction_model.specs.Book.{BookBid, Bidder, Book}
 use Rattle.book_form.specs.BookForm.{IsOffer, IsBid, AreBids, empty_package, IsBidder, AreBidders, IsBook}
 use Rattle.book_form.specs.BookLines.{Line, bidder_excess, bid_excess, bid_line, bid_lines, bidder_line, bidder_lines, supply_line, reserve_line, head_lines, lines}
-use Rattle.book_form.specs.text_lines.specs.Decimals.{decimals_text}
+use Rattle.book_form.specs.line_text.specs.Decimals.{decimals_text}
 use Rattle.bid_book.specs.declared.read.Stage.{Stage}
 use Rattle.bid_book.specs.declared.read.Stage.TheVariants.{Start, Headed, Supplied, Listing, Ended}
 use Rattle.bid_book.specs.Stages.{last_lots, bidder_with, with_bidders, opened, AddsBid, Step, last_excess, excess}

@@ -9,7 +9,7 @@ use Rattle.book_form.specs.line_text.specs.LineText.{IsLine}
 use Rattle.book_form.specs.line_text.proofs.Lines.{line_append}
 use Rattle.lots.specs.auction_model.specs.Package.{is_within}
 use Rattle.book_form.specs.BookForm.{IsNameByte, IsName}
-use Rattle.book_form.specs.text_lines.specs.Decimals.{decimals_text}
+use Rattle.book_form.specs.line_text.specs.Decimals.{decimals_text}
 use Rattle.bid_book.proofs.Numbers.{AreSmall}
 
 -- no digits have a line feed among them

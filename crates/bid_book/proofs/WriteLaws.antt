@@ -8,8 +8,8 @@ use Rattle.book_form.specs.line_text.proofs.Lines.{text_of-append}
 use Rattle.lots.specs.auction_model.specs.Book.{Book, BookBid, Bidder, no_bid, no_bidder, bidder_of, bids_of, bid_of, lots_of}
 use Rattle.book_form.specs.BookForm.{IsBook}
 use Rattle.book_form.specs.BookLines.{bid_line, bid_lines, bidder_line, bidder_lines, lines}
-use Rattle.book_form.specs.text_lines.specs.Decimals.{decimals_text}
-use Rattle.book_form.specs.text_lines.proofs.Runs.{one_more}
+use Rattle.book_form.specs.line_text.specs.Decimals.{decimals_text}
+use Rattle.book_form.specs.line_text.proofs.NumberRuns.{one_more}
 use Rattle.book_form.proofs.TextLaws.{numbers-append}
 use Rattle.lots.specs.declared.package.Bid.{Bid}
 use Rattle.bid_book.specs.Kept.{IsBidBook}

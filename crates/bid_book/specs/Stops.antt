@@ -3,7 +3,7 @@ use Rattle.std.specs.Prelude.{◌≡◌, ◌≢◌, ℕ, ◌≤◌, List, ◌∷
 use Rattle.std.specs.List.{AllByRecursion}
 use Rattle.lots.specs.limits.specs.declared.TheConstants.{MOST_AMOUNT}
 use Rattle.lots.specs.limits.specs.declared.LimitKind.TheVariants.{Categories, Lots, States}
-use Rattle.book_form.specs.text_lines.specs.Fields.{FieldEnds}
+use Rattle.book_form.specs.line_text.specs.Fields.{FieldEnds}
 use Rattle.lots.specs.declared.LotStop.{LotStop}
 use Rattle.lots.specs.declared.LotStop.TheVariants as lots
 use Rattle.bid_book.specs.declared.BookStop.{BookStop}

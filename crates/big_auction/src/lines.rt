@@ -13,7 +13,7 @@ ghost use Rattle.big_auction.specs.Parts.{bids_for, counts_of, figures_of};
 use crate::draws::Draws;
 use crate::prices::{amount, cost};
 use crate::values::{DRAFTS, Figures, Lots, STAYING};
-use clock_stage::text_lines::{add_decimal, add_number};
+use clock_stage::line_text::{add_decimal, add_number};
 use row_laws::wide_num::Text;
 use std::alloc::AllocError;
 

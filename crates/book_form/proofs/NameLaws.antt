@@ -2,7 +2,7 @@
 use Rattle.std.specs.Prelude.{◌≢◌, ℕ, List, [], ◌∷◌}
 use Rattle.std.specs.List.{AllByRecursion}
 use Rattle.std.proofs.Common.{inl, inr, arith}
-use Rattle.text_lines.proofs.DecimalFields.{NoSpace}
+use Rattle.line_text.proofs.DecimalFields.{NoSpace}
 use Rattle.book_form.specs.BookForm.{IsName, IsNameByte}
 
 name_byte : (c : ℕ) → IsNameByte c → c ≢ 32

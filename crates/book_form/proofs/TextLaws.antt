@@ -3,7 +3,7 @@ use Rattle.std.specs.Prelude.{◌≡◌, ℕ, List, [], ◌∷◌, ◌++◌, cod
 use Rattle.std.proofs.Common.{sym, ◌∙◌, ap, append_assoc}
 use Rattle.std.proofs.lemmas.List.{append-nil}
 use Rattle.std.specs.Fmt.{decimal}
-use Rattle.text_lines.specs.Decimals.{decimals_text}
+use Rattle.line_text.specs.Decimals.{decimals_text}
 
 -- the text of two lists of numbers in a row is the text of the first and then that of the second
 pub numbers-append : (ms ns : List ℕ) → decimals_text (ms ++ ns) ≡ decimals_text ms ++ decimals_text ns

@@ -8,7 +8,7 @@ use Rattle.book_form.specs.BookForm.{IsBook}
 use Rattle.limits.specs.declared.TheConstants.{MOST_BIDDERS, MOST_BIDS, MOST_CATEGORIES, MOST_LOTS, MOST_STATES}
 use Rattle.limits.specs.declared.LimitKind.{LimitKind}
 use Rattle.limits.specs.declared.LimitKind.TheVariants.{Categories, Lots, States, Bidders, Bids}
-use Rattle.text_lines.specs.Decimals.{decimals_text}
+use Rattle.line_text.specs.Decimals.{decimals_text}
 
 -- a quantity above its limit, with its count
 abbrev pub Excess : Type 0

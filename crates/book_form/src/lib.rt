@@ -2,5 +2,4 @@
 #![tactic(auto)]
 
 pub use line_text;
-pub use text_lines;
-pub use text_lines::wide_num;
+pub use line_text::wide_num;

@@ -7,8 +7,8 @@ use Rattle.weights_file.specs.auction_model.specs.Market.{sum_after, number_of}
 use Rattle.weights_file.specs.auction_model.specs.Greatest.{IsFirstGreatest, IsWinning}
 use Rattle.weights_file.specs.auction_model.specs.Lawful.{IsMarket}
 use Rattle.weights_file.specs.auction_model.specs.Lowered.{of_bidder, lowered}
-use Rattle.review_text.specs.row_laws.specs.Surplus.{surpluses_of}
-use Rattle.review_text.specs.blocking.specs.Look.{CanLook}
+use Rattle.outcome.specs.row_laws.specs.Surplus.{surpluses_of}
+use Rattle.outcome.specs.blocking.specs.Look.{CanLook}
 use Rattle.book_tests.specs.OneOfTwo.{at_most_one, worth_of, one_of_two, first_wins}
 
 -- there are three choices

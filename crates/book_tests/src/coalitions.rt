@@ -3,7 +3,7 @@ ghost use Rattle.weights_file.specs.auction_model.specs.Greatest.{IsWinning};
 ghost use Rattle.weights_file.specs.auction_model.specs.Lawful.{IsMarket};
 ghost use Rattle.book_tests.specs.OneOfTwo.{one_of_two, first_wins};
 
-use review_text::blocking::{Looked, find_block};
+use outcome::blocking::{Looked, find_block};
 use slot_places::choices::{Choice, Chooser, Found, Numbers};
 use std::alloc::{AllocError, Global};
 

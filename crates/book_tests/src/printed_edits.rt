@@ -1,6 +1,6 @@
 // The texts of the reviews of small books.
 use edits_file::read_edits;
-use review_text::review_text;
+use outcome::review_text;
 use std::alloc::{AllocError, Global};
 use std::test::Fail;
 use weights_file::bid_book::read_book;

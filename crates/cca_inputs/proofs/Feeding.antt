@@ -9,18 +9,18 @@ use Rattle.cca_base.specs.Files.{Folder, GaveMore, GaveSome, KeepsFiles}
 use Rattle.cca_base.proofs.Given.{GaveFront, front_all, front_more, front_next, front_none, front_over, next_load}
 use Rattle.place_cert.specs.cert_form.specs.Certificate.{CertValue}
 use Rattle.place_cert.specs.cert_form.specs.Says.{CertSays}
-use Rattle.stream_check.specs.cert_laws.specs.Sound.{IsSound}
-use Rattle.stream_check.specs.cert_laws.specs.Tests.{FailsFirst, Holds, bidders_of, states}
-use Rattle.stream_check.specs.cert_check.specs.Verdicts.{IsVerdict}
-use Rattle.stream_check.specs.cert_check.specs.declared.verdict.Verdict.{Verdict}
-use Rattle.stream_check.specs.cert_check.specs.declared.verdict.Verdict.TheVariants as verdict
-use Rattle.stream_check.specs.cert_facts.specs.Facts.{AreFacts}
-use Rattle.stream_check.specs.cert_facts.specs.declared.shown.CertFacts.{CertFacts}
-use Rattle.stream_check.specs.cert_pieces.specs.Stops.{SaysStop}
-use Rattle.stream_check.specs.cert_pieces.specs.declared.stop.TextStop.{TextStop}
-use Rattle.stream_check.specs.cert_pieces.specs.declared.stop.TextStop.TheVariants as text
-use Rattle.stream_check.specs.Standing.{StandsFor}
-use Rattle.stream_check.specs.declared.check.StreamCheck.{StreamCheck}
+use Rattle.piece_check.specs.cert_laws.specs.Sound.{IsSound}
+use Rattle.piece_check.specs.cert_laws.specs.Tests.{FailsFirst, Holds, bidders_of, states}
+use Rattle.piece_check.specs.cert_check.specs.Verdicts.{IsVerdict}
+use Rattle.piece_check.specs.cert_check.specs.declared.verdict.Verdict.{Verdict}
+use Rattle.piece_check.specs.cert_check.specs.declared.verdict.Verdict.TheVariants as verdict
+use Rattle.piece_check.specs.cert_facts.specs.Facts.{AreFacts}
+use Rattle.piece_check.specs.cert_facts.specs.declared.shown.CertFacts.{CertFacts}
+use Rattle.piece_check.specs.cert_pieces.specs.Stops.{SaysStop}
+use Rattle.piece_check.specs.cert_pieces.specs.declared.stop.TextStop.{TextStop}
+use Rattle.piece_check.specs.cert_pieces.specs.declared.stop.TextStop.TheVariants as text
+use Rattle.piece_check.specs.Standing.{StandsFor}
+use Rattle.piece_check.specs.declared.check.StreamCheck.{StreamCheck}
 use Rattle.cca_inputs.specs.Answers.{CertAnswers}
 use Rattle.cca_inputs.specs.Checked.{IsFed, IsJudged, ShowsFacts, StopsCheck, text_status}
 use Rattle.cca_inputs.specs.Outcome.{stops}

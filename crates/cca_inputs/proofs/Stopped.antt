@@ -7,7 +7,7 @@ use Rattle.weights_file.specs.book_form.specs.BookLines.{lines}
 use Rattle.log_file.specs.limits.specs.declared.LimitKind.{LimitKind}
 use Rattle.log_file.specs.bid_book.specs.declared.BookStop.{BookStop}
 use Rattle.log_file.specs.bid_book.specs.declared.BookStop.TheVariants as book
-use Rattle.stream_check.specs.cert_laws.specs.Tests.{bidders_of, states}
+use Rattle.piece_check.specs.cert_laws.specs.Tests.{bidders_of, states}
 use Rattle.place_cert.specs.cert_text.specs.declared.stop.CertStop.{CertStop}
 use Rattle.place_cert.specs.cert_text.specs.declared.stop.CertStop.TheVariants as cert
 use Rattle.log_file.specs.auction_rules.specs.Terms.{Terms}

@@ -5,14 +5,14 @@ use Rattle.log_file.specs.auction_model.specs.Book.{Book as BookValue}
 use Rattle.log_file.specs.auction_model.specs.Prices.{weight_of}
 use Rattle.cca_base.specs.Files.{Folder, GaveAll}
 use Rattle.place_cert.specs.cert_form.specs.Certificate.{CertValue}
-use Rattle.stream_check.specs.cert_laws.specs.Sound.{IsSound}
-use Rattle.stream_check.specs.cert_laws.specs.Tests.{FailsFirst, Holds}
-use Rattle.stream_check.specs.cert_facts.specs.Facts.{AreFacts}
-use Rattle.stream_check.specs.cert_facts.specs.declared.shown.CertFacts.{CertFacts}
-use Rattle.stream_check.specs.cert_pieces.specs.declared.stop.TextStop.{TextStop}
-use Rattle.stream_check.specs.cert_pieces.specs.declared.stop.TextStop.TheVariants as text
-use Rattle.stream_check.specs.Standing.{StandsFor}
-use Rattle.stream_check.specs.declared.check.StreamCheck.{StreamCheck}
+use Rattle.piece_check.specs.cert_laws.specs.Sound.{IsSound}
+use Rattle.piece_check.specs.cert_laws.specs.Tests.{FailsFirst, Holds}
+use Rattle.piece_check.specs.cert_facts.specs.Facts.{AreFacts}
+use Rattle.piece_check.specs.cert_facts.specs.declared.shown.CertFacts.{CertFacts}
+use Rattle.piece_check.specs.cert_pieces.specs.declared.stop.TextStop.{TextStop}
+use Rattle.piece_check.specs.cert_pieces.specs.declared.stop.TextStop.TheVariants as text
+use Rattle.piece_check.specs.Standing.{StandsFor}
+use Rattle.piece_check.specs.declared.check.StreamCheck.{StreamCheck}
 use Rattle.cca_inputs.specs.Answers.{CertAnswers}
 use Rattle.cca_inputs.specs.Outcome.{value, stops}
 use Rattle.cca_inputs.specs.Statuses.{IsStop}

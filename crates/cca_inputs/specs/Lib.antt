@@ -11,7 +11,7 @@ pub mod Checked
 pub use Rattle.log_file.specs.bid_book
 pub use Rattle.weights_file.specs.book_form
 pub use Rattle.cca_base
-pub use Rattle.stream_check.specs.cert_facts
+pub use Rattle.piece_check.specs.cert_facts
 pub use Rattle.place_cert.specs.cert_form
 pub use Rattle.place_cert.specs.cert_text
 pub use Rattle.edits_file

@@ -3,8 +3,8 @@ use Rattle.std.specs.Prelude.{◌≡◌, ℕ, ℤ, false, ◌≤◌, ◌<◌, �
 use Rattle.std.proofs.Common.{inl, inr, sym, ◌∙◌, ap, subst, arith}
 use Rattle.std.proofs.lemmas.Bool.{cases_lt}
 use Rattle.cca_inputs.specs.line_text.specs.LineText.{Said, stated, faulty, beyond, Says, text_of}
-use Rattle.auction_outcome.specs.auction_model.specs.Book.{Book, market_of}
-use Rattle.auction_outcome.specs.auction_model.specs.Prices.{Point, SamePoint, weight_of}
+use Rattle.outcome.specs.auction_model.specs.Book.{Book, market_of}
+use Rattle.outcome.specs.auction_model.specs.Prices.{Point, SamePoint, weight_of}
 use Rattle.cca_inputs.specs.book_form.specs.BookForm.{IsBook}
 use Rattle.cca_inputs.specs.book_form.specs.BookLines.{Excess, lines}
 use Rattle.cca_inputs.specs.bid_book.proofs.Within.{kept}
@@ -25,9 +25,9 @@ use Rattle.place_price.specs.cert_laws.specs.Priced.{IsPricedCert}
 use Rattle.place_price.specs.cert_laws.specs.Sound.{cert_point, cert_prices}
 use Rattle.place_price.specs.cert_laws.specs.Tests.{FailsFirst, Holds, bidders_of, states}
 use Rattle.cca_inputs.specs.limits.specs.declared.TheConstants.{AWARD_BYTES, BOOK_BYTES, CERT_BYTES, LOG_BYTES, MOST_WINNERS}
-use Rattle.place_outcome.specs.print_form.specs.Prices.{IsPriceText}
+use Rattle.outcome.specs.print_form.specs.Prices.{IsPriceText}
 use Rattle.big_auction.specs.row_laws.specs.Winners.{winners_in}
-use Rattle.review_text.specs.value_table.proofs.Plain.{net-small}
+use Rattle.outcome.specs.value_table.proofs.Plain.{net-small}
 use Rattle.cca_inputs.specs.Answers.{AwardAnswers, BookAnswers, CertAnswers, LogAnswers, book_answer, cert_answer}
 use Rattle.cca_inputs.specs.Command.{form_with, price, check, award, audit}
 use Rattle.cca_inputs.specs.Outcome.{Answer, AnswerGives, FileAnswers, InputGives, Outcome, stopped, stops, value}

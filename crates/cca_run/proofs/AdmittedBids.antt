@@ -2,8 +2,8 @@
 use Rattle.std.proofs.Common.{◌≡◌, ◌∙◌, ℕ, ◌≤◌, List, ap, length, reverse, subst, sym}
 use Rattle.std.specs.Prelude.{◌&&◌, not}
 use Rattle.std.specs.List.{AllByRecursion}
-use Rattle.auction_outcome.specs.auction_model.specs.Book.{Bidder, BookBid, bidder_of, bids_of}
-use Rattle.auction_outcome.specs.auction_model.specs.PackageTests.{is_empty}
+use Rattle.outcome.specs.auction_model.specs.Book.{Bidder, BookBid, bidder_of, bids_of}
+use Rattle.outcome.specs.auction_model.specs.PackageTests.{is_empty}
 use Rattle.big_auction.specs.auction_rules.specs.BookOfLog.{IsGreatestFor, bids_in_book, book_bidder, book_of_log, pairs_of}
 use Rattle.big_auction.specs.auction_rules.specs.Replies.{admitted, has_entry, standing}
 use Rattle.big_auction.specs.auction_rules.specs.Terms.{Terms}

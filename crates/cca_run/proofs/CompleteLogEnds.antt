@@ -3,7 +3,7 @@ use Rattle.std.proofs.Common.{◌≡◌, ◌∙◌, ℕ, Bool, IsTrue, Option, S
 use Rattle.std.specs.Prelude.{◌+◌, Result, Ok, Err, reverse, if◌then◌else◌}
 use Rattle.std.specs.Option.{option_or}
 use Rattle.std.proofs.lemmas.Bool.{cases_lt}
-use Rattle.auction_outcome.specs.auction_model.specs.Book.{Book}
+use Rattle.outcome.specs.auction_model.specs.Book.{Book}
 use Rattle.big_auction.specs.auction_rules.specs.BookOfLog.{book_of_log, is_complete}
 use Rattle.big_auction.specs.auction_rules.specs.Replies.{reply_to}
 use Rattle.big_auction.specs.auction_rules.specs.Terms.{Terms}

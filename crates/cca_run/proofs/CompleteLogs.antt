@@ -1,10 +1,10 @@
 -- A complete log within the limits is awarded, and no other.
 use Rattle.std.proofs.Common.{◌≡◌, ◌∙◌, ℕ, Bool, IsTrue, Option, Some, None, List, length, refl, sym, ap, subst, arith, inl, inr}
 use Rattle.std.specs.Prelude.{◌≤◌, Result, Ok, Err, reverse, if◌then◌else◌}
-use Rattle.auction_outcome.specs.auction_model.specs.Book.{Book, market_of}
-use Rattle.auction_outcome.specs.auction_model.specs.Greatest.{IsWinning}
-use Rattle.auction_outcome.specs.auction_model.specs.Lawful.{IsMarket}
-use Rattle.auction_outcome.specs.auction_model.specs.Market.{Market}
+use Rattle.outcome.specs.auction_model.specs.Book.{Book, market_of}
+use Rattle.outcome.specs.auction_model.specs.Greatest.{IsWinning}
+use Rattle.outcome.specs.auction_model.specs.Lawful.{IsMarket}
+use Rattle.outcome.specs.auction_model.specs.Market.{Market}
 use Rattle.big_auction.specs.auction_rules.specs.BookOfLog.{book_of_log, is_complete}
 use Rattle.big_auction.specs.auction_rules.specs.Terms.{Terms}
 use Rattle.big_auction.specs.auction_rules.specs.declared.Event.{Event}

@@ -3,11 +3,11 @@ use Rattle.std.proofs.Common.{◌≡◌, ◌∙◌, ℕ, Option, Some, None, Lis
 use Rattle.std.specs.Prelude.{◌-◌, ◌<◌, ◌≤◌, Result, Ok, Err, reverse}
 use Rattle.std.proofs.lemmas.Bool.{cases_lt}
 use Rattle.std.proofs.lemmas.List.{get_or-replicate}
-use Rattle.auction_outcome.specs.auction_model.specs.Book.{Book, market_of}
-use Rattle.auction_outcome.specs.auction_model.specs.Greatest.{IsWinning}
-use Rattle.auction_outcome.specs.auction_model.specs.Market.{Market}
-use Rattle.auction_outcome.specs.auction_model.specs.Prices.{AreVickreyPrices, IsCoreOutcome, Point, weight_of}
-use Rattle.auction_outcome.specs.Outcome.{IsAuctionOutcome}
+use Rattle.outcome.specs.auction_model.specs.Book.{Book, market_of}
+use Rattle.outcome.specs.auction_model.specs.Greatest.{IsWinning}
+use Rattle.outcome.specs.auction_model.specs.Market.{Market}
+use Rattle.outcome.specs.auction_model.specs.Prices.{AreVickreyPrices, IsCoreOutcome, Point, weight_of}
+use Rattle.outcome.specs.row_laws.specs.Outcome.{IsAuctionOutcome}
 use Rattle.big_auction.specs.auction_rules.specs.Terms.{Terms}
 use Rattle.big_auction.specs.auction_rules.specs.declared.Event.{Event}
 use Rattle.big_auction.specs.award_file.specs.Reading as reading

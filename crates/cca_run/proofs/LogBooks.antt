@@ -3,8 +3,8 @@ use Rattle.std.proofs.Common.{◌≡◌, ℕ, Bool, true, false, IsTrue, Option,
 use Rattle.std.specs.Prelude.{if◌then◌else◌, ◌<◌, ◌≤◌, ◌^◌, pos, ◌≤ℤ◌, Ok, Err}
 use Rattle.std.specs.List.{AllByRecursion}
 use Rattle.std.proofs.lemmas.List.{reverse-append}
-use Rattle.auction_outcome.specs.auction_model.specs.Book.{Book, bids_of, net_of, market_of}
-use Rattle.auction_outcome.specs.auction_model.specs.Lawful.{IsMarket}
+use Rattle.outcome.specs.auction_model.specs.Book.{Book, bids_of, net_of, market_of}
+use Rattle.outcome.specs.auction_model.specs.Lawful.{IsMarket}
 use Rattle.cca_inputs.specs.book_form.specs.BookLines.{IsBookWithinLimits}
 use Rattle.cca_inputs.specs.bid_book.proofs.Within.{kept}
 use Rattle.cca_inputs.specs.bid_book.specs.Kept.{IsBidBook}

@@ -3,7 +3,7 @@ use Rattle.std.proofs.Common.{◌≡◌, ◌∙◌, ℕ, Option, Some, None, Lis
 use Rattle.std.specs.Prelude.{Result, Ok, Err}
 use Rattle.cca_inputs.specs.limits.specs.declared.TheConstants.{AWARD_BYTES, LOG_BYTES}
 use Rattle.cca_inputs.specs.line_text.specs.LineText.{stated, Says}
-use Rattle.auction_outcome.specs.auction_model.specs.Book.{Book}
+use Rattle.outcome.specs.auction_model.specs.Book.{Book}
 use Rattle.big_auction.specs.auction_rules.specs.Terms.{Terms}
 use Rattle.big_auction.specs.auction_rules.specs.declared.Event.{Event}
 use Rattle.cca_inputs.specs.book_form.specs.BookForm.{IsBook}

@@ -3,25 +3,25 @@ use Rattle.std.specs.Prelude.{◌≡◌, ℕ, ℤ, Bool, true, false, ◌≤◌,
 use Rattle.std.proofs.Common.{inl, inr, sym, ◌∙◌, ap, subst, arith}
 use Rattle.std.proofs.lemmas.Bool.{cases_lt}
 use Rattle.cca_inputs.specs.line_text.specs.LineText.{Said, stated, faulty, beyond, Says}
-use Rattle.auction_outcome.specs.auction_model.specs.Market.{Market}
-use Rattle.auction_outcome.specs.auction_model.specs.Greatest.{IsWinning}
-use Rattle.auction_outcome.specs.auction_model.specs.Lawful.{IsMarket}
-use Rattle.auction_outcome.specs.auction_model.specs.Book.{Book, bids_of, net_of, market_of}
-use Rattle.auction_outcome.specs.auction_model.specs.Prices.{Point, AreVickreyPrices, AreWeights, IsCoreOutcome, SamePoint, weight_of}
-use Rattle.auction_outcome.specs.auction_model.specs.PricingRun.{Turn, IsPricingRun}
+use Rattle.outcome.specs.auction_model.specs.Market.{Market}
+use Rattle.outcome.specs.auction_model.specs.Greatest.{IsWinning}
+use Rattle.outcome.specs.auction_model.specs.Lawful.{IsMarket}
+use Rattle.outcome.specs.auction_model.specs.Book.{Book, bids_of, net_of, market_of}
+use Rattle.outcome.specs.auction_model.specs.Prices.{Point, AreVickreyPrices, AreWeights, IsCoreOutcome, SamePoint, weight_of}
+use Rattle.outcome.specs.auction_model.specs.PricingRun.{Turn, IsPricingRun}
 use Rattle.cca_inputs.specs.book_form.specs.BookForm.{IsBook}
 use Rattle.cca_inputs.specs.book_form.specs.BookLines.{Excess, IsBookWithinLimits, lines}
-use Rattle.place_outcome.specs.print_form.specs.WinText.{win_text}
+use Rattle.outcome.specs.print_form.specs.WinText.{win_text}
 use Rattle.cca_inputs.specs.bid_book.proofs.Within.{kept}
 use Rattle.cca_inputs.specs.cert_form.specs.Certificate.{CertValue}
 use Rattle.cca_inputs.specs.cert_form.specs.Says.{CertSays, cert_text}
 use Rattle.place_price.specs.cert_laws.specs.Sound.{IsSound, cert_point, cert_prices}
 use Rattle.place_price.specs.cert_laws.specs.Tests.{FailsFirst, Holds, bidders_of, states}
-use Rattle.place_outcome.specs.print_form.specs.Json.{IsOutcomeJson}
-use Rattle.place_outcome.specs.print_form.specs.Prices.{IsPriceText}
-use Rattle.place_outcome.specs.print_form.specs.Turns.{AreTurnLines}
+use Rattle.outcome.specs.print_form.specs.Json.{IsOutcomeJson}
+use Rattle.outcome.specs.print_form.specs.Prices.{IsPriceText}
+use Rattle.outcome.specs.print_form.specs.Turns.{AreTurnLines}
 use Rattle.big_auction.specs.row_laws.specs.Winners.{winners_in}
-use Rattle.place_outcome.specs.core_price.specs.Weights.{FewWin}
+use Rattle.outcome.specs.core_price.specs.Weights.{FewWin}
 use Rattle.std.specs.Prelude.{Result, Ok, Err, reverse}
 use Rattle.big_auction.specs.award_file.specs.Award.{IsAward}
 use Rattle.big_auction.specs.log_file.specs.LogReading.{AreLog, log_records}
@@ -31,10 +31,10 @@ use Rattle.big_auction.specs.auction_rules.specs.declared.Event.{Event}
 use Rattle.log_replay.specs.declared.results.ReplayStop.{ReplayStop}
 use Rattle.cca_inputs.specs.weights_file.specs.WeightsForm.{WeightsSay}
 use Rattle.cca_inputs.specs.edits_file.specs.EditsForm.{AreNamedEdits, EditsSay, NamedEdit, add, raise, remove, edits_of}
-use Rattle.review_text.specs.review.specs.Edits.{edit_lots}
+use Rattle.outcome.specs.review.specs.Edits.{edit_lots}
 use Rattle.std.specs.List.{AllByRecursion}
-use Rattle.review_text.specs.review.specs.declared.edit.Edit.{Edit}
-use Rattle.review_text.specs.ReviewText.{IsReviewText}
+use Rattle.outcome.specs.review.specs.declared.edit.Edit.{Edit}
+use Rattle.outcome.specs.ReviewText.{IsReviewText}
 use Rattle.cca_run.proofs.Same.{Same, both, equal, one-answer, one-input, printed-same}
 use Rattle.cca_run.proofs.OneLog.{one_award-answer}
 use Rattle.place_price.specs.book_price.proofs.Ones.{ones-weigh}

@@ -2,20 +2,20 @@
 use Rattle.std.proofs.Common.{inl, inr, ◌≡◌, ◌∙◌, ℕ, Bool, true, false, ◌≤◌, ◌<◌, Option, List, [], ◌∷◌, ◌++◌, codes, length, ℤ, pos, refl, sym, ap, subst, arith}
 use Rattle.std.specs.Prelude.{◌^◌, ◌≤ℤ◌}
 use Rattle.cca_inputs.specs.line_text.specs.LineText.{Said, stated, faulty, beyond, Says}
-use Rattle.auction_outcome.specs.auction_model.specs.Lawful.{IsMarket}
-use Rattle.auction_outcome.specs.auction_model.specs.Market.{Market}
-use Rattle.auction_outcome.specs.auction_model.specs.Prices.{Point, AreVickreyPrices, IsCoreOutcome, SamePoint, alike}
-use Rattle.auction_outcome.specs.auction_model.specs.PricingRun.{Turn, IsPricingRun}
+use Rattle.outcome.specs.auction_model.specs.Lawful.{IsMarket}
+use Rattle.outcome.specs.auction_model.specs.Market.{Market}
+use Rattle.outcome.specs.auction_model.specs.Prices.{Point, AreVickreyPrices, IsCoreOutcome, SamePoint, alike}
+use Rattle.outcome.specs.auction_model.specs.PricingRun.{Turn, IsPricingRun}
 use Rattle.cca_inputs.specs.book_form.specs.BookLines.{Excess}
 use Rattle.cca_inputs.specs.cert_form.specs.PlaceCert.{PlaceCertValue}
 use Rattle.place_price.specs.cert_laws.specs.Sound.{cert_point}
 use Rattle.cca_inputs.specs.limits.specs.declared.TheConstants.{CERT_BYTES, SLOTS_BYTES}
 use Rattle.cca_inputs.specs.place_cert.specs.PlaceSays.{PlaceCertSays, place_text}
-use Rattle.place_outcome.specs.place_laws.specs.PlacePriced.{IsPricedPlaceCert, IsSamePricing}
-use Rattle.place_outcome.specs.place_laws.specs.PlaceSound.{IsPlaceSound, prices_in}
-use Rattle.place_outcome.specs.place_laws.specs.PlaceTests as places
-use Rattle.place_outcome.specs.PlaceText.{IsPlaceText}
-use Rattle.place_outcome.specs.print_form.specs.Turns.{AreTurnLines}
+use Rattle.outcome.specs.place_laws.specs.PlacePriced.{IsPricedPlaceCert, IsSamePricing}
+use Rattle.outcome.specs.place_laws.specs.PlaceSound.{IsPlaceSound, prices_in}
+use Rattle.outcome.specs.place_laws.specs.PlaceTests as places
+use Rattle.outcome.specs.PlaceText.{IsPlaceText}
+use Rattle.outcome.specs.print_form.specs.Turns.{AreTurnLines}
 use Rattle.cca_inputs.specs.slot_places.specs.Board.{market_of}
 use Rattle.cca_inputs.specs.slot_places.specs.SlotForm.{IsSlotText, slot_lines}
 use Rattle.cca_inputs.specs.slot_places.specs.Slots.{SlotList}

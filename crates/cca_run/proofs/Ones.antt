@@ -1,9 +1,9 @@
 -- Weights of 1, and counts of winners that are few or many.
 use Rattle.std.specs.Prelude.{◌≡◌, ◌⊎◌, ◌<◌, ◌≤◌, List, length, ℕ}
 use Rattle.std.proofs.Common.{inl, inr, arith}
-use Rattle.auction_outcome.specs.auction_model.specs.Book.{Book}
+use Rattle.outcome.specs.auction_model.specs.Book.{Book}
 use Rattle.place_price.specs.cert_laws.specs.Tests.{bidders_of}
-use Rattle.place_outcome.specs.core_price.specs.Weights.{FewWin, ManyWin, WeighAlike}
+use Rattle.outcome.specs.core_price.specs.Weights.{FewWin, ManyWin, WeighAlike}
 use Rattle.big_auction.specs.row_laws.specs.Winners.{winners_in}
 use Rattle.place_price.specs.book_price.proofs.Ones.{winners-ones}
 use Rattle.cca_run.specs.Gives.{ones}

@@ -12,7 +12,7 @@ use Rattle.cca_inputs.specs.declared.file_text.FileText.{FileText}
 use Rattle.cca_inputs.specs.declared.status.FileKind.{FileKind}
 use Rattle.cca_inputs.specs.declared.status.Status.{Status}
 use Rattle.cca_inputs.specs.declared.status.Status.TheVariants.{Memory, ReadFault}
-use Rattle.auction_outcome.specs.auction_model.specs.Book.{Book}
+use Rattle.outcome.specs.auction_model.specs.Book.{Book}
 use Rattle.big_auction.specs.auction_rules.specs.Terms.{Terms}
 use Rattle.big_auction.specs.auction_rules.specs.declared.Event.{Event}
 use Rattle.log_replay.specs.ReplyLines.{end_of}

@@ -1,10 +1,10 @@
 -- The headline: from the bytes of three files to the book of a log and the outcome of the auction.
 use Rattle.std.specs.Prelude.{◌≡◌, ◌≤◌, ◌<◌, ◌&&◌, ℕ, IsTrue, Option, Some, None, List, length, not, reverse}
 use Rattle.std.specs.List.{AllByRecursion}
-use Rattle.auction_outcome.specs.auction_model.specs.Book.{Book, bids_of, market_of}
-use Rattle.auction_outcome.specs.auction_model.specs.PackageTests.{is_empty}
-use Rattle.auction_outcome.specs.auction_model.specs.Greatest.{IsWinning}
-use Rattle.auction_outcome.specs.Outcome.{IsAuctionOutcome}
+use Rattle.outcome.specs.auction_model.specs.Book.{Book, bids_of, market_of}
+use Rattle.outcome.specs.auction_model.specs.PackageTests.{is_empty}
+use Rattle.outcome.specs.auction_model.specs.Greatest.{IsWinning}
+use Rattle.outcome.specs.row_laws.specs.Outcome.{IsAuctionOutcome}
 use Rattle.big_auction.specs.auction_rules.specs.BookOfLog.{IsGreatestFor, book_of_log, is_complete, pairs_of}
 use Rattle.big_auction.specs.auction_rules.specs.Replies.{admitted, has_entry, standing}
 use Rattle.big_auction.specs.auction_rules.specs.Terms.{Terms}
@@ -17,7 +17,7 @@ use Rattle.place_price.specs.cert_laws.specs.Priced.{IsPricedCert}
 use Rattle.place_price.specs.cert_laws.specs.Sound.{cert_point, cert_prices}
 use Rattle.place_price.specs.cert_laws.specs.Tests as tests
 use Rattle.cca_inputs.specs.line_text.specs.LineText.{stated}
-use Rattle.auction_outcome.specs.auction_model.specs.Prices.{AreVickreyPrices, weight_of}
+use Rattle.outcome.specs.auction_model.specs.Prices.{AreVickreyPrices, weight_of}
 use Rattle.cca_inputs.specs.limits.specs.declared.TheConstants.{AWARD_BYTES, LOG_BYTES, MOST_WINNERS}
 use Rattle.log_replay.specs.ReplyLines.{first_refusal}
 use Rattle.big_auction.specs.row_laws.specs.Winners.{winners_in}

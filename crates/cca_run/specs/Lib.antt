@@ -6,4 +6,4 @@ pub mod Headline
 pub mod Rooms
 pub use Rattle.cca_inputs.specs.cca_base
 pub use Rattle.cca_inputs
-pub use Rattle.review_text.specs.value_table
+pub use Rattle.outcome.specs.value_table

@@ -1,7 +1,7 @@
 -- From a command to what it prints and appends, and how a run ends that has a command.
 use Rattle.std.specs.Prelude.{◌≡◌, ◌⊎◌, ◌<◌, ◌≤◌, ℕ, Bool, true, false, IsTrue, IsSome, Option, Some, None, Result, Ok, Err, List, [], length, map, reverse, take, unwrap_or}
 use Rattle.std.specs.List.{AllByRecursion}
-use Rattle.auction_outcome.specs.auction_model.specs.Book.{Book}
+use Rattle.outcome.specs.auction_model.specs.Book.{Book}
 use Rattle.big_auction.specs.auction_rules.specs.Terms.{Terms}
 use Rattle.big_auction.specs.auction_rules.specs.declared.Event.{Event}
 use Rattle.log_replay.specs.ReplyLines.{end_of}
@@ -9,8 +9,8 @@ use Rattle.log_replay.specs.declared.results.ReplayStop.{ReplayStop}
 use Rattle.cca_inputs.specs.cca_base.specs.Faults.{Rose}
 use Rattle.cca_inputs.specs.cca_base.specs.Files.{Agrees, Content, Folder, GaveOf, KeepsFiles}
 use Rattle.cca_inputs.specs.cca_base.specs.Sink.{HasRoom, Output, Puts}
-use Rattle.place_outcome.specs.core_price.specs.declared.priced.PriceStop.{PriceStop}
-use Rattle.place_outcome.specs.core_price.specs.declared.priced.PriceStop.TheVariants as price
+use Rattle.outcome.specs.core_price.specs.declared.priced.PriceStop.{PriceStop}
+use Rattle.outcome.specs.core_price.specs.declared.priced.PriceStop.TheVariants as price
 use Rattle.cca_inputs.specs.limits.specs.declared.LimitKind.TheVariants.{Winners}
 use Rattle.cca_inputs.specs.Command.{CommandValue, inputs_of, output_as, outputs_of}
 use Rattle.cca_inputs.specs.Outcome.{Outcome, done, stopped_after}

@@ -1,8 +1,8 @@
 // What holds of the definitions of a run, whoever runs it.
 ghost use Rattle.std.specs.Prelude.{◌≡◌, ◌<◌, ◌≤◌, ◌++◌, ◌∷◌, ℕ, false, List, [], Option, codes, length};
-ghost use Rattle.auction_outcome.specs.auction_model.specs.Book.{Book};
+ghost use Rattle.outcome.specs.auction_model.specs.Book.{Book};
 ghost use Rattle.place_price.specs.cert_laws.specs.Tests.{bidders_of};
-ghost use Rattle.place_outcome.specs.core_price.specs.Weights.{FewWin, ManyWin};
+ghost use Rattle.outcome.specs.core_price.specs.Weights.{FewWin, ManyWin};
 ghost use Rattle.cca_inputs.specs.limits.specs.declared.TheConstants.{MOST_WINNERS};
 ghost use Rattle.big_auction.specs.auction_rules.specs.Terms.{Terms};
 ghost use Rattle.big_auction.specs.auction_rules.specs.declared.Event.{Event};
@@ -15,8 +15,6 @@ ghost use Rattle.cca_run.specs.Gives.{FilesGive, Gives, cert_file, ones};
 ghost use Rattle.cca_run.specs.Headline.{CanBeAwarded, IsAuction, IsAudited, IsAwarded, IsDoneOrLimited};
 ghost use Rattle.cca_run.specs.Later.{HoldsCert};
 
-use auction_outcome::auction_model::{book_market, core_outcome, vickrey_prices, winning_choice};
-use auction_outcome::plain_outcome;
 use big_auction::auction_rules::{bidders_of_book, bids_of_book};
 use big_auction::award_file::book_of_award;
 use big_auction::log_file::{one_reading, packages_of_log};
@@ -26,11 +24,12 @@ use cca_inputs::edits_file::one_edits;
 use cca_inputs::place_cert::one_place_cert;
 use cca_inputs::slot_places::{one_slots, slot_market};
 use cca_inputs::weights_file::one_weighing;
-use place_outcome::one_place_text;
-use place_outcome::place_laws::{one_place_verdict, one_pricing, sound_places};
-use place_outcome::print_form::{one_outcome_json, one_price_text, one_run_text};
+use outcome::place_laws::{one_place_verdict, one_pricing, sound_places};
+use outcome::print_form::{one_outcome_json, one_price_text, one_run_text};
+use outcome::row_laws::auction_model::{book_market, core_outcome, vickrey_prices, winning_choice};
+use outcome::row_laws::plain_outcome;
+use outcome::{one_place_text, one_review_text};
 use place_price::cert_laws::{one_verdict, short_text, sound_yes};
-use review_text::one_review_text;
 
 /// The words and the bytes of the files give at most one status and one printed text. So each status that is decided comes exactly
 /// where they give it.

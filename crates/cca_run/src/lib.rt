@@ -14,5 +14,5 @@ pub use laws::{
     awarded_cert_passes, complete_log_ends, complete_log_is_awarded, headline, limit_of_ones,
     one_outcome, written_cert_passes,
 };
-pub use review_text::value_table;
+pub use outcome::value_table;
 pub use top::run;

@@ -13,10 +13,10 @@ pub(crate) mod reviewing;
 pub(crate) mod verdict;
 pub(crate) mod win;
 
-use auction_outcome::wide_num::Text;
 use cca_inputs::limits::LimitKind;
 use cca_inputs::{FileText, Status};
-use place_outcome::core_price::PriceStop;
+use outcome::core_price::PriceStop;
+use outcome::wide_num::Text;
 use std::alloc::{AllocError, AllocFailed};
 
 /// What a command prints, and the texts that it appends to its files, in order.

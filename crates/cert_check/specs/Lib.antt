@@ -18,5 +18,4 @@ pub use Rattle.cert_laws
 pub use Rattle.cert_text
 pub use Rattle.cert_text.specs.limits
 pub use Rattle.cert_text.specs.line_text
-pub use Rattle.cert_text.specs.text_lines
 pub use Rattle.cert_laws.specs.wide_num

@@ -8,13 +8,13 @@ use Rattle.line_text.specs.LineText.{IsLine, Said, Says}
 use Rattle.line_text.proofs.Lines.{line_append}
 use Rattle.line_text.proofs.Runs.{Reads}
 use Rattle.line_text.proofs.OneAnswer.{one_answer}
-use Rattle.text_lines.specs.Numeral.{numeral, signed_numeral, numbers_text}
+use Rattle.line_text.specs.Numeral.{numeral, signed_numeral, numbers_text}
 use Rattle.cert_form.specs.Plan.{Follows, Stage, StepTo, excess, begin, finish}
 use Rattle.cert_form.specs.Lines.{Line, Kind, kind, Numbers, these, signed, chosen, headed, counted, members, ordered_head, ordered_count, FitNumbers, Fits, AreNumbers, spell, over, after, after_numbers, table_plan, set_table_plan, part_plan, ordered_part_plan, unless_zero, parts_plan, ordered_parts_plan, rows_plan, ordered_rows_plan, first_size, just_line, is_first_version, version_of, version_plan, body_plan, cert_plan, places_plan, IsCertText, IsPlacesText, lines}
 use Rattle.cert_form.specs.Reading.{AreFineNumbers, Fine}
 use Rattle.cert_form.proofs.PlanReads.{follows_both, reads}
-use Rattle.text_lines.specs.wide_num.proofs.Decimal.{AreDigits}
-use Rattle.text_lines.proofs.Numerals.{numeral_is, one_numbers}
+use Rattle.line_text.specs.wide_num.proofs.Decimal.{AreDigits}
+use Rattle.line_text.proofs.Numerals.{numeral_is, one_numbers}
 
 -- no line feed, as a test
 abbrev has_no_feed : List ℕ → Bool

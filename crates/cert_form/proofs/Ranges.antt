@@ -7,10 +7,10 @@ use Rattle.line_text.specs.LineText.{text_of, first_excess, IsTextOf}
 use Rattle.cert_form.specs.Certificate.{CertValue, WithoutValue, RowValue}
 use Rattle.cert_form.specs.Plan.{placed, next_place}
 use Rattle.cert_form.specs.Lines.{Line, spell, over, is_first_version, version_of, version_lines, IsCertText, lines}
-use Rattle.text_lines.specs.Range.{any_out, is_out}
+use Rattle.line_text.specs.Range.{any_out, is_out}
 use Rattle.cert_form.specs.CertText.{line, as_numbers, choice_line, table_lines, part_lines, row_lines, body_lines, cert_lines, AtMost, IsChoice, AreTableLines, AreWithouts, AreMembers, AreRows, IsCertificate}
-use Rattle.text_lines.specs.wide_num.specs.Range.{InRange}
-use Rattle.text_lines.specs.Range.{AllInRange}
+use Rattle.line_text.specs.wide_num.specs.Range.{InRange}
+use Rattle.line_text.specs.Range.{AllInRange}
 use Rattle.cert_form.proofs.Written.{written}
 
 abbrev pub Within : List Line → Type 0

@@ -4,7 +4,7 @@ use Rattle.std.specs.Prelude.{pos, negsuc, replicate, ◌^◌}
 use Rattle.cert_form.specs.CertText.{line}
 use Rattle.cert_form.specs.Certificate.{CertValue, RowValue, WithoutValue, is_member, part_of, row_of}
 use Rattle.cert_form.specs.Lines.{is_first_version, lines}
-use Rattle.text_lines.specs.Numeral.{numeral, digits_of}
+use Rattle.line_text.specs.Numeral.{numeral, digits_of}
 use Rattle.cert_form.specs.Says.{cert_text}
 
 -- no bidder, and one lot

@@ -1,7 +1,7 @@
 -- The lines of a certificate, and which certificates have a text. Each line is a word and numbers.
 use Rattle.std.specs.Prelude.{◌≡◌, ℕ, zero, suc, ◌≤◌, ◌<◌, List, [], ◌∷◌, ◌++◌, length, codes, slice_index_or, ℤ, pos}
-pub use Rattle.text_lines.specs.wide_num.specs.Range.{InRange}
-pub use Rattle.text_lines.specs.Range.{AllInRange}
+pub use Rattle.line_text.specs.wide_num.specs.Range.{InRange}
+pub use Rattle.line_text.specs.Range.{AllInRange}
 use Rattle.cert_form.specs.Certificate.{CertValue, WithoutValue, RowValue}
 use Rattle.cert_form.specs.Lines.{Line, version_lines}
 

@@ -8,5 +8,4 @@ pub mod CertText
 pub mod OneProof
 pub use Rattle.limits
 pub use Rattle.line_text
-pub use Rattle.text_lines
-pub use Rattle.text_lines.specs.wide_num
+pub use Rattle.line_text.specs.wide_num

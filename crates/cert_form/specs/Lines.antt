@@ -1,8 +1,8 @@
 -- The lines of a certificate: each is a word and numbers.
 use Rattle.std.specs.Prelude.{◌≡◌, ℕ, zero, suc, ◌^◌, ◌≤◌, ◌<◌, Bool, true, false, ◌&&◌, nat_le, map, Option, List, [], ◌∷◌, ◌++◌, length, codes, replicate, ℤ, pos, negsuc, ◌≤ℤ◌, ◌<ℤ◌, unsigned_abs}
 use Rattle.limits.specs.declared.TheConstants.{MOST_BIDDERS, MOST_STATES, FIRST_VERSION_BIDDERS, FIRST_VERSION_STATES}
-use Rattle.text_lines.specs.Numeral.{numbers_text}
-use Rattle.text_lines.specs.Range.{any_out}
+use Rattle.line_text.specs.Numeral.{numbers_text}
+use Rattle.line_text.specs.Range.{any_out}
 use Rattle.cert_form.specs.Plan.{Follows, placed}
 
 pub record Line : Type 0 where

@@ -3,7 +3,7 @@ use Rattle.std.specs.Prelude.{ℕ, zero, suc, List, [], ◌∷◌, ℤ}
 use denote.Struct.Props as logic
 use Rattle.cert_form.specs.Certificate.{CertValue, WithoutValue, RowValue}
 use Rattle.cert_form.specs.CertText.{AtMost, AreTableLines, AreWithouts, AreMembers, AreRows, IsCertificate}
-use Rattle.text_lines.specs.Range.{AllInRange}
+use Rattle.line_text.specs.Range.{AllInRange}
 
 pub AllInRange-prop : (zs : List ℤ) → IsProp (AllInRange zs)
 AllInRange-prop [] = Prim.hlevel logic.props

@@ -12,8 +12,7 @@ ghost use Rattle.cert_form.specs.Says.{cert_text, CertSays};
 
 pub use limits;
 pub use line_text;
-pub use text_lines;
-pub use text_lines::wide_num;
+pub use line_text::wide_num;
 
 /// Bytes say at most one thing of a certificate: a certificate, where the first faulty line begins, or where the first line begins
 /// that is of right form and has a number out of range.

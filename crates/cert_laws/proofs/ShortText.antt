@@ -10,8 +10,8 @@ use Rattle.row_laws.specs.auction_model.specs.Menu.{Menu, without}
 use Rattle.row_laws.specs.auction_model.specs.Place.{states_of}
 use Rattle.row_laws.specs.auction_model.specs.Table.{IsExactTable, IsLine}
 use Rattle.row_laws.specs.auction_model.proofs.BoundLaws.{AreCapped, line-sizes}
-use Rattle.cert_form.specs.text_lines.specs.Numeral.{numbers_text}
-use Rattle.cert_form.specs.text_lines.proofs.Lengths.{tens, times}
+use Rattle.cert_form.specs.line_text.specs.Numeral.{numbers_text}
+use Rattle.cert_form.specs.line_text.proofs.Lengths.{tens, times}
 use Rattle.row_laws.specs.Winners.{winners_in}
 use Rattle.cert_form.specs.Certificate.{CertValue, part_of}
 use Rattle.cert_form.specs.Lines.{Line, is_first_version, version_of, version_lines}

@@ -3,9 +3,9 @@ use Rattle.std.proofs.Common.{◌≡◌, ◌≢◌, ℕ, suc, zero, ◌+◌, ◌
 use Rattle.std.specs.Prelude.{ℤ, pos}
 use Rattle.std.proofs.lemmas.Bool.{ne_eqb, eq-eqb}
 use Rattle.cert_form.specs.line_text.specs.LineText.{text_of}
-use Rattle.cert_form.specs.text_lines.specs.Numeral.{numbers_text}
-use Rattle.cert_form.specs.text_lines.specs.Range.{AllInRange}
-use Rattle.cert_form.specs.text_lines.proofs.Lengths.{tens, times, AllBelow, numbers_long}
+use Rattle.cert_form.specs.line_text.specs.Numeral.{numbers_text}
+use Rattle.cert_form.specs.line_text.specs.Range.{AllInRange}
+use Rattle.cert_form.specs.line_text.proofs.Lengths.{tens, times, AllBelow, numbers_long}
 use Rattle.row_laws.specs.Winners.{winners_in}
 use Rattle.cert_form.specs.Certificate.{WithoutValue, RowValue, part_of}
 use Rattle.cert_form.specs.Plan.{placed, next_place}

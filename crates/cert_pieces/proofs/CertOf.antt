@@ -6,7 +6,7 @@ use Rattle.cert_pieces.specs.Standing.{AllIn}
 use Rattle.cert_text.specs.cert_form.specs.Certificate.{CertValue, WithoutValue, RowValue}
 use Rattle.cert_text.specs.cert_form.specs.Plan.{Follows}
 use Rattle.cert_text.specs.cert_form.specs.Lines.{Line, Kind, Numbers, kind, these, signed, chosen, headed, counted, members, Fits, FitNumbers, AreNumbers, Rise, after, after_numbers, just_line, table_plan, parts_plan, rows_plan, version_lines, version_plan, body_plan, IsCertText}
-use Rattle.cert_text.specs.text_lines.specs.Range.{AllInRange}
+use Rattle.cert_text.specs.line_text.specs.Range.{AllInRange}
 use Rattle.cert_text.proofs.PlanSteps.{all_in}
 use Rattle.cert_text.specs.cert_form.proofs.Version.{version_is}
 use Rattle.cert_text.specs.cert_form.specs.CertText.{line, as_numbers, choice_line, table_lines, part_lines, row_lines, body_lines, cert_lines, AtMost, AreTableLines, AreWithouts, AreMembers, AreRows, IsCertificate}

@@ -8,7 +8,7 @@ use Rattle.cert_text.specs.cert_form.specs.Certificate.{CertValue}
 use Rattle.cert_text.specs.cert_form.specs.CertText.{line, cert_lines, IsCertificate}
 use Rattle.cert_text.specs.cert_form.specs.Plan.{Follows}
 use Rattle.cert_text.specs.cert_form.specs.Lines.{AreNumbers, FitNumbers, Fits, IsCertText, Kind, Line, Numbers, after, after_numbers, chosen, counted, headed, is_first_version, kind, members, part_plan, parts_plan, rows_plan, signed, table_plan, these, unless_zero, ordered_head, ordered_count}
-use Rattle.cert_text.specs.text_lines.specs.Range.{any_out}
+use Rattle.cert_text.specs.line_text.specs.Range.{any_out}
 use Rattle.cert_pieces.specs.declared.due.Due.{Due}
 use Rattle.cert_pieces.specs.declared.due.Due.TheVariants.{Version, Limits, Den, Value, Choice, Title, Entries, Without, PartChoice, Payments, Rows, Members, Multipliers, RowChoice, End, Nothing}
 use Rattle.cert_pieces.specs.declared.due.Table.{Table}

@@ -6,8 +6,8 @@ use Rattle.std.proofs.lemmas.List.{append-nil, take_more_set, get_or-take}
 use Rattle.std.proofs.lemmas.Int.{ints}
 use Rattle.std.specs.Prelude.{ℤ, pos, negsuc, ◌≤ℤ◌, ◌<ℤ◌, ◌||◌, nat_eq}
 use Rattle.cert_text.specs.cert_form.specs.Lines.{Numbers, these, signed, chosen, headed, counted, members, ordered_head, ordered_count, AreNumbers, Rise, FitNumbers}
-use Rattle.cert_text.specs.text_lines.specs.Range.{any_out, is_out}
-use Rattle.cert_text.specs.text_lines.proofs.FieldRuns.{out-push}
+use Rattle.cert_text.specs.line_text.specs.Range.{any_out, is_out}
+use Rattle.cert_text.specs.line_text.proofs.FieldRuns.{out-push}
 use Rattle.cert_text.proofs.SmallNumbers.{numbers_push}
 use Rattle.cert_pieces.specs.declared.line.form.Form.{Form}
 use Rattle.cert_pieces.specs.declared.line.form.Form.TheVariants.{Nothing, Just, Both, Signed, Chosen, Counted, Members}

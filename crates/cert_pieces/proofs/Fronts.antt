@@ -1,9 +1,9 @@
 -- What stands behind numbers in a line, and which bytes can't.
 use Rattle.std.proofs.Common.{◌≡◌, ◌≢◌, ℕ, suc, ◌+◌, ◌*◌, ◌%◌, ◌<◌, List, [], ◌∷◌, ◌++◌, length, get_or, refl, sym, ap, subst, ◌∙◌, arith, append_assoc}
 use Rattle.std.specs.Prelude.{ℤ, pos, negsuc}
-use Rattle.cert_text.specs.text_lines.specs.Numeral.{numeral, signed_numeral, numbers_text}
+use Rattle.cert_text.specs.line_text.specs.Numeral.{numeral, signed_numeral, numbers_text}
 use Rattle.cert_text.specs.wide_num.proofs.Decimal.{AreDigits, IsDigit, IsNumeral}
-use Rattle.cert_text.specs.text_lines.proofs.Numerals.{Ends, numeral_is, numeral-more, one_signed}
+use Rattle.cert_text.specs.line_text.proofs.Numerals.{Ends, numeral_is, numeral-more, one_signed}
 
 -- behind whole numbers and a space stands one number more
 pub next_number : (ns ms : List ℤ) (r : List ℕ) → numbers_text ns ++ 32 ∷ r ≡ numbers_text ms → (m : ℤ) × (rest : List ℤ) × (r ≡ signed_numeral m ++ numbers_text rest) × (ms ≡ ns ++ m ∷ rest)

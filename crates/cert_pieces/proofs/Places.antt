@@ -4,8 +4,8 @@ use Rattle.std.proofs.lemmas.Bool.{cases_eq}
 use Rattle.std.proofs.lemmas.List.{append-nil}
 use Rattle.cert_text.specs.line_text.specs.LineText.{IsLine, text_of, IsTextOf, FaultAt}
 use Rattle.cert_text.specs.line_text.proofs.Lines.{line_push}
-use Rattle.cert_text.specs.text_lines.proofs.Words.{word_front, word_rest}
-use Rattle.cert_text.specs.text_lines.specs.Numeral.{numbers_text}
+use Rattle.cert_text.specs.line_text.proofs.Words.{word_front, word_rest}
+use Rattle.cert_text.specs.line_text.specs.Numeral.{numbers_text}
 use Rattle.cert_text.specs.cert_form.specs.Lines.{Line, Kind, Numbers, kind, Fits, after, spell, over, IsCertText, lines}
 use Rattle.cert_text.specs.cert_form.specs.Reading.{Reached}
 use Rattle.cert_text.specs.cert_form.proofs.Reading.{reached-missing, reached-next, reached-beyond, reached-refused, reached-end, reached-more, reached-tail}

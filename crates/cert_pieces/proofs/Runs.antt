@@ -5,8 +5,8 @@ use Rattle.std.proofs.lemmas.List.{take_more, get_or-drop}
 use Rattle.std.specs.Prelude.{ℤ, pos, negsuc, unsigned_abs}
 use Rattle.cert_text.specs.line_text.specs.LineText.{IsLine}
 use Rattle.cert_text.specs.line_text.proofs.Lines.{line_append}
-use Rattle.cert_text.specs.text_lines.specs.Numeral.{numeral, signed_numeral, numbers_text}
-use Rattle.cert_text.specs.text_lines.proofs.Numerals.{numeral-on}
+use Rattle.cert_text.specs.line_text.specs.Numeral.{numeral, signed_numeral, numbers_text}
+use Rattle.cert_text.specs.line_text.proofs.Numerals.{numeral-on}
 use Rattle.cert_text.specs.wide_num.proofs.Decimal.{AreDigits, read_on, read_on-ge}
 use Rattle.cert_pieces.specs.declared.line.tally.Tally.{Tally}
 use Rattle.cert_pieces.specs.Tallies.{IsTally}
@@ -17,7 +17,7 @@ use Rattle.cert_pieces.specs.declared.line.LinePart.{LinePart}
 use Rattle.cert_pieces.specs.declared.line.Outcome.{Outcome}
 use Rattle.cert_pieces.specs.declared.line.Outcome.TheVariants.{Open, Whole, Fault}
 use Rattle.cert_pieces.specs.LineParts.{IsPart, Becomes, ReadsOn}
-use Rattle.cert_text.specs.text_lines.proofs.FieldRuns.{numbers-push}
+use Rattle.cert_text.specs.line_text.proofs.FieldRuns.{numbers-push}
 
 -- one byte more of a piece
 pub between_more : (at i : ℕ) (piece : List ℕ) → at ≤ i → i < length piece → between at (i + 1) piece ≡ between at i piece ++ get_or piece i 0 ∷ []

@@ -2,13 +2,13 @@
 use Rattle.std.proofs.Common.{◌≡◌, ◌≢◌, ℕ, suc, zero, ◌+◌, ◌-◌, ◌*◌, ◌≤◌, ◌<◌, Bool, true, false, List, [], ◌∷◌, ◌++◌, length, take, refl, sym, ap, subst, ◌∙◌, arith, append_assoc}
 use Rattle.std.proofs.lemmas.List.{take_all, append_cancel_left}
 use Rattle.std.specs.Prelude.{ℤ, pos, negsuc, unsigned_abs}
-use Rattle.cert_text.specs.text_lines.specs.Numeral.{numeral, signed_numeral, numbers_text}
+use Rattle.cert_text.specs.line_text.specs.Numeral.{numeral, signed_numeral, numbers_text}
 use Rattle.cert_text.specs.wide_num.proofs.Decimal.{IsDigit, IsNumeral}
-use Rattle.cert_text.specs.text_lines.proofs.Numerals.{numeral_is, numeral-one}
+use Rattle.cert_text.specs.line_text.proofs.Numerals.{numeral_is, numeral-one}
 use Rattle.cert_pieces.specs.declared.line.tally.Tally.{Tally}
 use Rattle.cert_pieces.specs.Tallies.{IsTally}
 use Rattle.cert_pieces.specs.Partway.{IsBelow, IsOpen, IsRefused}
-use Rattle.cert_text.specs.text_lines.proofs.FieldRuns.{numbers-push}
+use Rattle.cert_text.specs.line_text.proofs.FieldRuns.{numbers-push}
 use Rattle.cert_pieces.proofs.Fronts.{next_number, first_byte, minus_byte, other_byte, zero_byte, some_byte, numeral_push}
 
 module _ (word : List ℕ) (ns : List ℤ) (tail bytes : List ℕ) (is : bytes ≡ word ++ (numbers_text ns ++ tail)) where

@@ -2,9 +2,9 @@
 use Rattle.std.proofs.Common.{◌≡◌, ℕ, List, [], ◌∷◌, ◌++◌, sym, ap, subst, ◌∙◌, arith, append_assoc}
 use Rattle.std.proofs.lemmas.List.{append_cancel_left}
 use Rattle.std.specs.Prelude.{ℤ}
-use Rattle.cert_text.specs.text_lines.specs.Numeral.{numbers_text}
+use Rattle.cert_text.specs.line_text.specs.Numeral.{numbers_text}
 use Rattle.cert_text.specs.cert_form.specs.Lines.{Numbers, FitNumbers}
-use Rattle.cert_text.specs.text_lines.proofs.Numerals.{one_numbers}
+use Rattle.cert_text.specs.line_text.proofs.Numerals.{one_numbers}
 use Rattle.cert_pieces.specs.LineParts.{IsUnfit}
 use Rattle.cert_pieces.proofs.Fronts.{next_number}
 

@@ -4,10 +4,10 @@ use Rattle.std.proofs.lemmas.Bool.Decides.{nat_tests}
 use Rattle.std.specs.Prelude.{ℤ, pos, ◌||◌}
 use Rattle.cert_text.specs.line_text.specs.LineText.{IsLine}
 use Rattle.cert_text.specs.line_text.proofs.Lines.{line_append}
-use Rattle.cert_text.specs.text_lines.specs.Numeral.{numeral, numbers_text}
-use Rattle.cert_text.specs.text_lines.specs.Range.{is_out}
-use Rattle.cert_text.specs.text_lines.proofs.Numerals.{numeral_is, numeral-one}
-use Rattle.cert_text.specs.text_lines.proofs.FieldRuns.{numbers-push}
+use Rattle.cert_text.specs.line_text.specs.Numeral.{numeral, numbers_text}
+use Rattle.cert_text.specs.line_text.specs.Range.{is_out}
+use Rattle.cert_text.specs.line_text.proofs.Numerals.{numeral_is, numeral-one}
+use Rattle.cert_text.specs.line_text.proofs.FieldRuns.{numbers-push}
 use Rattle.cert_text.specs.wide_num.proofs.Decimal.{IsDigit}
 use Rattle.cert_text.specs.cert_form.specs.Lines.{signed}
 use Rattle.cert_pieces.specs.declared.line.fields.Field.{Field}

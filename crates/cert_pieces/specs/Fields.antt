@@ -1,6 +1,6 @@
 -- Whole numbers of a piece.
 use Rattle.std.specs.Prelude.{◌≡◌, ℕ, Bool, List, length, get_or, ◌≤◌, ◌<◌}
-use Rattle.cert_text.specs.text_lines.specs.Numeral.{numeral}
+use Rattle.cert_text.specs.line_text.specs.Numeral.{numeral}
 use Rattle.cert_pieces.specs.declared.line.fields.Field.{Field}
 use Rattle.cert_pieces.specs.declared.line.LinePart.{LinePart}
 use Rattle.cert_pieces.specs.declared.line.phase.Phase.TheVariants.{Space}

@@ -1,7 +1,7 @@
 -- Which numbers may stand on a line so far.
 use Rattle.std.specs.Prelude.{◌≡◌, ℕ, ◌≤◌, ◌<◌, ◌↔◌, IsTrue, Bool, false, List, [], ◌∷◌, ◌++◌, length, take, ℤ, pos, ◌≤ℤ◌, ◌<ℤ◌}
 use Rattle.cert_text.specs.cert_form.specs.Lines.{Numbers, these, signed, chosen, headed, counted, members, ordered_head, ordered_count, AreNumbers, Rise, FitNumbers}
-use Rattle.cert_text.specs.text_lines.specs.Range.{any_out}
+use Rattle.cert_text.specs.line_text.specs.Range.{any_out}
 use Rattle.cert_pieces.specs.declared.line.phase.Kept.{Kept}
 use Rattle.cert_pieces.specs.Tallies.{IsKept}
 use Rattle.cert_pieces.specs.declared.line.form.Form.{Form}

@@ -1,6 +1,6 @@
 -- A line of such numbers that has come only so far.
 use Rattle.std.specs.Prelude.{◌≡◌, ◌≢◌, ℕ, Bool, true, false, List, [], ◌∷◌, ◌++◌, length, get_or, ◌<◌, ℤ}
-use Rattle.cert_text.specs.text_lines.specs.Numeral.{numbers_text}
+use Rattle.cert_text.specs.line_text.specs.Numeral.{numbers_text}
 use Rattle.cert_text.specs.cert_form.specs.Lines.{Numbers, FitNumbers}
 use Rattle.cert_pieces.specs.declared.line.form.Form.{Form}
 use Rattle.cert_pieces.specs.declared.line.LinePart.{LinePart}

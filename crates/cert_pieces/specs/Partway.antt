@@ -1,6 +1,6 @@
 -- A line of a word and numbers that has come only so far.
 use Rattle.std.specs.Prelude.{◌≡◌, ◌≢◌, ℕ, ◌≤◌, Bool, true, false, List, [], ◌∷◌, ◌++◌, length, take, ℤ, pos, negsuc, unsigned_abs}
-use Rattle.cert_text.specs.text_lines.specs.Numeral.{numbers_text}
+use Rattle.cert_text.specs.line_text.specs.Numeral.{numbers_text}
 use Rattle.cert_pieces.specs.declared.line.tally.Tally.{Tally}
 use Rattle.cert_pieces.specs.declared.line.phase.Phase.{Phase}
 use Rattle.cert_pieces.specs.declared.line.phase.Phase.TheVariants.{Word, Space, Minus, Digits}

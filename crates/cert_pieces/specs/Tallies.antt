@@ -1,6 +1,6 @@
 -- What is kept of a number.
 use Rattle.std.specs.Prelude.{◌≡◌, ℕ, ◌^◌, ◌≤◌, ◌<◌, true, false, ℤ}
-use Rattle.cert_text.specs.text_lines.specs.Range.{is_out}
+use Rattle.cert_text.specs.line_text.specs.Range.{is_out}
 use Rattle.cert_pieces.specs.declared.line.tally.Tally.{Tally}
 use Rattle.cert_pieces.specs.declared.line.phase.Kept.{Kept}
 

@@ -1,11 +1,11 @@
 ghost use Rattle.std.specs.Prelude.{◌≡◌, length};
-ghost use Rattle.stream_check.specs.cert_pieces.specs.Rooms.{room_size};
+ghost use Rattle.piece_check.specs.cert_pieces.specs.Rooms.{room_size};
 
+use piece_check::cert_pieces::{Reader, TextStop, room_len};
 use place_price::cert_text::{CertStop, Shape, read_cert};
 use place_price::limits::CERT_BYTES;
 use std::alloc::{AllocError, Global};
 use std::process::Abort;
-use stream_check::cert_pieces::{Reader, TextStop, room_len};
 
 /// A certificate for five bidders and four states: 476 bytes, of which the last line has 4.
 const SAMPLE: &str = "cert 1\nden 1\nvalue 48\nchoice 1 1 0 0 0\ntable\n\

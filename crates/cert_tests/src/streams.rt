@@ -1,19 +1,19 @@
 ghost use Rattle.std.specs.Prelude.{◌≡◌, ℕ, List, length};
 ghost use Rattle.place_price.specs.auction_model.specs.Prices.{AreWeights};
 ghost use Rattle.place_price.specs.cert_laws.specs.Tests.{bidders_of, states};
-ghost use Rattle.stream_check.specs.cert_pieces.specs.Rooms.{room_size};
-ghost use Rattle.stream_check.specs.Standing.{StandsFor};
+ghost use Rattle.piece_check.specs.cert_pieces.specs.Rooms.{room_size};
+ghost use Rattle.piece_check.specs.Standing.{StandsFor};
 
+use piece_check::StreamCheck;
+use piece_check::cert_check::Verdict;
+use piece_check::cert_facts::CertFacts;
+use piece_check::cert_pieces::TextStop;
 use place_price::bid_book::{BidBook, read_book};
 use place_price::choices::Single;
 use place_price::limits::CERT_BYTES;
 use std::alloc::{AllocError, Global};
 use std::process::Abort;
 use std::test::Fail;
-use stream_check::StreamCheck;
-use stream_check::cert_check::Verdict;
-use stream_check::cert_facts::CertFacts;
-use stream_check::cert_pieces::TextStop;
 
 mod edits;
 

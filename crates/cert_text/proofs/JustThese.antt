@@ -2,7 +2,7 @@
 use Rattle.std.proofs.Common.{◌≡◌, ℕ, Bool, false, List, [], ◌∷◌, sym, ap, subst, ◌∙◌}
 use Rattle.std.specs.Prelude.{ℤ}
 use Rattle.cert_form.specs.Lines.{kind, these}
-use Rattle.cert_form.specs.text_lines.specs.Range.{any_out}
+use Rattle.cert_form.specs.line_text.specs.Range.{any_out}
 use Rattle.cert_form.specs.CertText.{line}
 use Rattle.cert_text.specs.Readers.{IsLineAt, Leads, Halts}
 use Rattle.cert_text.specs.declared.stop.CertStop.TheVariants.{Form}

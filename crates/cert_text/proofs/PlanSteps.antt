@@ -4,14 +4,14 @@ use Rattle.std.specs.Prelude.{ℤ, ◌^◌, nat_le, ◌||◌, unsigned_abs}
 use Rattle.std.proofs.lemmas.Bool.Decides.{nat_tests}
 use Rattle.std.proofs.lemmas.List.{append-nil}
 use Rattle.cert_form.specs.line_text.specs.LineText.{IsLine}
-use Rattle.cert_form.specs.text_lines.specs.Numeral.{numbers_text}
+use Rattle.cert_form.specs.line_text.specs.Numeral.{numbers_text}
 use Rattle.cert_form.specs.Lines.{Line, Kind, Numbers, kind, FitNumbers, after_numbers}
-use Rattle.cert_form.specs.text_lines.specs.Range.{any_out, is_out}
+use Rattle.cert_form.specs.line_text.specs.Range.{any_out, is_out}
 use Rattle.cert_form.specs.CertText.{line}
-use Rattle.cert_form.specs.text_lines.specs.Range.{AllInRange}
+use Rattle.cert_form.specs.line_text.specs.Range.{AllInRange}
 use Rattle.cert_form.specs.Reading.{ReachedBy}
 use Rattle.cert_form.proofs.Reading.{reached-missing, reached-next, reached-beyond, reached-refused}
-use Rattle.cert_form.specs.text_lines.proofs.Words.{one_behind}
+use Rattle.cert_form.specs.line_text.proofs.Words.{one_behind}
 use Rattle.cert_text.specs.Readers.{AreLike, IsLineAt, Leads, Halts}
 use Rattle.cert_text.specs.declared.stop.CertStop.{CertStop}
 use Rattle.cert_text.specs.declared.stop.CertStop.TheVariants.{Form, Range}

@@ -8,7 +8,7 @@ use Rattle.std.specs.Prelude.{ℤ, pos, negsuc, codes, ◌≤ℤ◌, ◌<ℤ◌,
 use Rattle.std.proofs.lemmas.Int.{ints}
 use Rattle.std.proofs.lemmas.List.{take_more}
 use Rattle.cert_form.specs.Lines.{Numbers, kind, chosen, counted, members, AreNumbers, Rise, FitNumbers}
-use Rattle.cert_form.specs.text_lines.specs.Range.{any_out, is_out}
+use Rattle.cert_form.specs.line_text.specs.Range.{any_out, is_out}
 use Rattle.cert_form.specs.CertText.{line, as_numbers, AtMost, IsChoice, AreMembers}
 use Rattle.cert_form.proofs.Written.{long_numbers}
 use Rattle.cert_text.specs.Readers.{IsLineAt, Leads, Halts, HaltsLike, LeadsLike, LeadsCounted, HaltsCounted, IsCount, AreSmall}

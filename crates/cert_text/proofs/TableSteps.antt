@@ -4,7 +4,7 @@ use Rattle.std.specs.Prelude.{ℤ, codes, replicate}
 use Rattle.choices.specs.Lines.{width_of}
 use Rattle.cert_form.specs.Lines.{Line, Kind, kind, signed, table_plan}
 use Rattle.cert_form.specs.CertText.{line, table_lines, AreTableLines, IsTable}
-use Rattle.cert_form.specs.text_lines.specs.Range.{AllInRange}
+use Rattle.cert_form.specs.line_text.specs.Range.{AllInRange}
 use Rattle.cert_text.specs.Readers.{Leads, Halts}
 use Rattle.cert_text.specs.declared.stop.CertStop.{CertStop}
 use Rattle.cert_text.proofs.PlanSteps.{leads_none, leads_on, leads_before, halts_before, halts_later}

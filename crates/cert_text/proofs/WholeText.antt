@@ -8,7 +8,7 @@ use Rattle.cert_form.specs.Certificate.{CertValue}
 use Rattle.cert_form.specs.Lines.{Line, Kind, version_lines, version_plan, body_plan, cert_plan, IsCertText, lines}
 use Rattle.cert_form.specs.CertText.{IsChoice, IsTable, AreWithouts, AreRows, IsCertificate, body_lines, cert_lines}
 use Rattle.cert_form.specs.wide_num.specs.Range.{InRange}
-use Rattle.cert_form.specs.text_lines.specs.Range.{AllInRange}
+use Rattle.cert_form.specs.line_text.specs.Range.{AllInRange}
 use Rattle.cert_form.specs.Reading.{Reached}
 use Rattle.cert_form.proofs.Version.{version_is}
 use Rattle.cert_form.proofs.Reading.{reached-start, reached-end, reached-more, reached-tail}

@@ -3,15 +3,15 @@ use Rattle.std.proofs.Common.{◌≡◌, ℕ, zero, suc, ◌+◌, ◌<◌, ◌�
 use Rattle.std.proofs.lemmas.List.{length-map}
 use Rattle.std.specs.List.{AllByRecursion}
 use Rattle.cert_form.specs.line_text.specs.LineText.{text_of}
-use Rattle.cert_form.specs.text_lines.specs.Decimals.{decimals_text}
-use Rattle.cert_form.specs.text_lines.proofs.Runs.{one_more}
-use Rattle.cert_form.specs.text_lines.specs.Numeral.{numeral, numbers_text}
+use Rattle.cert_form.specs.line_text.specs.Decimals.{decimals_text}
+use Rattle.cert_form.specs.line_text.proofs.NumberRuns.{one_more}
+use Rattle.cert_form.specs.line_text.specs.Numeral.{numeral, numbers_text}
 use Rattle.cert_form.specs.CertText.{as_numbers, cert_lines, line, part_lines, row_lines, AreRows, AreTableLines, AreWithouts, IsCertificate}
 use Rattle.cert_form.specs.Lines.{Line, over, spell, version_lines}
 use Rattle.choices.specs.Lines.{width_of}
 use Rattle.cert_form.specs.Plan.{next_place, placed}
 use Rattle.cert_form.specs.Says.{cert_text}
-use Rattle.cert_form.specs.text_lines.proofs.Decimals.{decimal_numeral}
+use Rattle.cert_form.specs.line_text.proofs.Decimals.{decimal_numeral}
 use Rattle.cert_text.specs.Parts.{row_value, without_value}
 use Rattle.cert_text.specs.CertValues.{cert_value}
 use Rattle.cert_text.specs.Written.{bytes_of, lines_of_head, lines_of_part, lines_of_parts, lines_of_rows, lines_of_table, Adds, ArePartsInRange, IsRowInRange, IsTableInRange}

@@ -10,5 +10,4 @@ pub use Rattle.cert_form
 pub use Rattle.choices
 pub use Rattle.cert_form.specs.limits
 pub use Rattle.cert_form.specs.line_text
-pub use Rattle.cert_form.specs.text_lines
 pub use Rattle.cert_form.specs.wide_num

@@ -1,9 +1,9 @@
 -- What a line is read as, and where the reader then stands.
 use Rattle.std.specs.Prelude.{◌≡◌, ℕ, ◌+◌, ◌≤◌, ◌<◌, Bool, false, List, [], ◌∷◌, codes, ◌++◌, length, take, drop, ℤ, pos}
 use Rattle.cert_form.specs.line_text.specs.LineText.{IsLine}
-use Rattle.cert_form.specs.text_lines.specs.Numeral.{numbers_text}
+use Rattle.cert_form.specs.line_text.specs.Numeral.{numbers_text}
 use Rattle.cert_form.specs.Lines.{Line, Kind, Numbers, chosen, counted, kind, FitNumbers, AreNumbers, after_numbers}
-use Rattle.cert_form.specs.text_lines.specs.Range.{any_out}
+use Rattle.cert_form.specs.line_text.specs.Range.{any_out}
 use Rattle.cert_form.specs.CertText.{as_numbers, line}
 use Rattle.cert_form.specs.Reading.{ReachedBy}
 use Rattle.cert_text.specs.Stops.{StopsBy}

@@ -2,7 +2,7 @@
 use Rattle.std.specs.Prelude.{◌≡◌, ℕ, ℤ, pos, List, [], ◌∷◌, ◌++◌, codes, length, map}
 use Rattle.std.specs.List.{AllByRecursion}
 use Rattle.cert_form.specs.CertText.{as_numbers, choice_line, line, part_lines, row_lines, table_lines}
-use Rattle.cert_form.specs.text_lines.specs.Range.{AllInRange}
+use Rattle.cert_form.specs.line_text.specs.Range.{AllInRange}
 use Rattle.cert_form.specs.wide_num.specs.Range.{InRange}
 use Rattle.cert_form.specs.Lines.{Line, spell}
 use Rattle.cert_text.specs.Parts.{row_value, without_value}

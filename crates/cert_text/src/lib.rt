@@ -13,7 +13,7 @@ mod version;
 mod write;
 
 pub use cert_form;
-pub use cert_form::{limits, text_lines, wide_num};
+pub use cert_form::{limits, line_text, wide_num};
 pub use certificate::{CertRow, Certificate, Shape, WithoutPart};
 pub use choices;
 pub use choices::{bid_book, lots};

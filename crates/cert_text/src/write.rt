@@ -2,10 +2,10 @@
 ghost use Rattle.std.specs.Prelude.{◌≡◌, ◌≤◌, ◌<◌, ◌∷◌, ◌++◌, [], length, take, IfOk, OnOk};
 ghost use Rattle.std.specs.List.{AllByRecursion};
 ghost use Rattle.cert_form.specs.CertText.{as_numbers, choice_line, line};
-ghost use Rattle.cert_form.specs.text_lines.specs.Range.{AllInRange};
+ghost use Rattle.cert_form.specs.line_text.specs.Range.{AllInRange};
 ghost use Rattle.cert_form.specs.wide_num.specs.Range.{InRange};
 ghost use Rattle.cert_form.specs.Lines.{version_lines};
-ghost use Rattle.cert_form.specs.text_lines.specs.Numeral.{numbers_text};
+ghost use Rattle.cert_form.specs.line_text.specs.Numeral.{numbers_text};
 ghost use Rattle.cert_form.specs.Says.{cert_text};
 ghost use Rattle.cert_text.specs.CertValues.{cert_value};
 ghost use Rattle.cert_text.specs.Written.{lines_of_head, lines_of_part, lines_of_parts, lines_of_row, lines_of_rows, lines_of_table, Adds, ArePartsInRange, IsRowInRange, IsTableInRange};
@@ -13,7 +13,7 @@ ghost use Rattle.cert_text.specs.Written.{lines_of_head, lines_of_part, lines_of
 use crate::version::has_first_version;
 use crate::{CertRow, Certificate, WithoutPart};
 use cert_form::limits::{MOST_BIDDERS, MOST_STATES};
-use cert_form::text_lines::{add_numbers, add_signed_numbers};
+use cert_form::line_text::{add_numbers, add_signed_numbers};
 use cert_form::wide_num::Text;
 use choices::{Choice, Grid};
 use std::alloc::{AllocError, Global};

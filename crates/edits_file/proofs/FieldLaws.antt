@@ -9,9 +9,9 @@ use Rattle.review.specs.auction_model.specs.Book.{Book}
 use Rattle.review.specs.book_form.specs.BookForm.{IsName}
 use Rattle.review.specs.book_form.proofs.NameLaws.{name_own}
 use Rattle.review.specs.book_form.proofs.TextLaws.{numbers-push}
-use Rattle.review.specs.text_lines.proofs.DecimalFields.{NoSpace, number_own, one_field}
-use Rattle.review.specs.text_lines.specs.Decimals.{decimals_text}
-use Rattle.review.specs.text_lines.specs.Fields.{FieldEnds}
+use Rattle.review.specs.line_text.proofs.DecimalFields.{NoSpace, number_own, one_field}
+use Rattle.review.specs.line_text.specs.Decimals.{decimals_text}
+use Rattle.review.specs.line_text.specs.Fields.{FieldEnds}
 use Rattle.review.specs.wide_num.proofs.Decimal.{decimal_one}
 use Rattle.edits_file.specs.Stages.{BeginsWithCounts, BeginsWithNumber, IsHead, StatesBid, StatesPackage}
 

@@ -10,7 +10,7 @@ use Rattle.review.specs.line_text.specs.LineText.{IsLine}
 use Rattle.review.specs.line_text.proofs.Lines.{line_append}
 use Rattle.review.specs.declared.edit.Edit.{Edit}
 use Rattle.review.specs.declared.edit.Edit.TheVariants.{Add, Raise, Remove}
-use Rattle.review.specs.text_lines.specs.Decimals.{decimals_text}
+use Rattle.review.specs.line_text.specs.Decimals.{decimals_text}
 use Rattle.review.specs.wide_num.proofs.Decimal.{decimal_one}
 use Rattle.edits_file.specs.EditsForm.{NamedEdit, add, raise, remove, NamesPackage, IsNamedEdit, IsSpelledAmount, edit_text}
 use Rattle.edits_file.specs.Stages.{States, StatesBid, StatesPackage}

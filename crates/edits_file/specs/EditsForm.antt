@@ -10,7 +10,7 @@ use Rattle.review.specs.limits.specs.declared.TheConstants.{MOST_EDITS}
 use Rattle.review.specs.line_text.specs.LineText.{Said, Says}
 use Rattle.review.specs.declared.edit.Edit.{Edit}
 use Rattle.review.specs.declared.edit.Edit.TheVariants.{Add, Raise, Remove}
-use Rattle.review.specs.text_lines.specs.Decimals.{decimals_text}
+use Rattle.review.specs.line_text.specs.Decimals.{decimals_text}
 
 -- what a line says: an edit of the bidder of a name, whether or not a book has it
 pub data NamedEdit : Type 0 where

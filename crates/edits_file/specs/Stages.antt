@@ -8,8 +8,8 @@ use Rattle.review.specs.book_form.specs.BookLines.{Excess}
 use Rattle.review.specs.limits.specs.declared.LimitKind.TheVariants.{Records}
 use Rattle.review.specs.limits.specs.declared.TheConstants.{MOST_EDITS}
 use Rattle.review.specs.declared.edit.Edit.{Edit}
-use Rattle.review.specs.text_lines.specs.Decimals.{decimals_text}
-use Rattle.review.specs.text_lines.specs.Fields.{FieldEnds}
+use Rattle.review.specs.line_text.specs.Decimals.{decimals_text}
+use Rattle.review.specs.line_text.specs.Fields.{FieldEnds}
 use Rattle.edits_file.specs.EditsForm.{NamedEdit, NamesPackage, IsNamedEdit, IsSpelledAmount, edit_excess, edit_of, edit_text, number_among}
 use Rattle.edits_file.specs.declared.EditStop.{EditStop}
 use Rattle.edits_file.specs.declared.EditStop.TheVariants as edits

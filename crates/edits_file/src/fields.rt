@@ -1,14 +1,14 @@
 // The fields of a line that states an edit.
 ghost use Rattle.std.specs.Prelude.{IfNone, IfOk, IfSome, List, [], length, ℕ, ◌++◌, ◌≡◌, ◌≢◌};
-ghost use Rattle.review.specs.text_lines.specs.Fields.{FieldEnds};
+ghost use Rattle.review.specs.line_text.specs.Fields.{FieldEnds};
 ghost use Rattle.review.specs.book_form.specs.BookForm.{IsName};
 ghost use Rattle.edits_file.specs.EditsForm.{number_among};
 ghost use Rattle.edits_file.specs.Stages.{BeginsWithCounts, BeginsWithNumber, IsHead, StatesBid, StatesPackage};
 
 use crate::stop::LineStop;
 use review::bid_book::{BidBook, is_name};
+use review::line_text::{field_len, read_at_most};
 use review::lots::Package;
-use review::text_lines::{field_len, read_at_most};
 use std::alloc::{AllocError, Global};
 
 /// The greatest count of lots that a line may state.

@@ -3,7 +3,7 @@ use Rattle.std.specs.Prelude.{◌≡◌, ℕ, ◌≤◌, ◌^◌, Option, Some, 
 use Rattle.std.specs.List.{AllByRecursion}
 use Rattle.std.specs.Fmt.{decimal}
 use Rattle.award_file.specs.book_form.specs.BookForm.{IsName}
-use Rattle.award_file.specs.text_lines.specs.Decimals.{decimals_text}
+use Rattle.award_file.specs.line_text.specs.Decimals.{decimals_text}
 use Rattle.award_file.specs.auction_rules.specs.Terms.{Terms}
 use Rattle.award_file.specs.auction_rules.specs.declared.Event.{Event}
 use Rattle.award_file.specs.auction_rules.specs.declared.Event.TheVariants.{Bid, Draft, Drop, Submit, Close}

@@ -9,8 +9,8 @@ use arrayvec::ArrayVec;
 use award_file::Award;
 use award_file::bid_book::name_text;
 use award_file::limits::MOST_CATEGORIES;
+use award_file::line_text::{field_len, read_at_most};
 use award_file::lots::Package;
-use award_file::text_lines::{field_len, read_at_most};
 use std::alloc::{AllocError, Global};
 
 /// The greatest amount in a text, 10^18.

@@ -1,12 +1,12 @@
 // The lines of replies.
 ghost use Rattle.std.specs.Prelude.{◌≡◌, ◌∷◌, ◌++◌, [], codes, IfOk, OnOk};
 ghost use Rattle.std.specs.Fmt.{decimal};
-ghost use Rattle.award_file.specs.text_lines.specs.Decimals.{decimals_text};
+ghost use Rattle.award_file.specs.line_text.specs.Decimals.{decimals_text};
 ghost use Rattle.log_file.specs.ReplyText.{admitted_text, reply_line, reply_text};
 
 use crate::CloseDone;
 use award_file::auction_rules::Reply;
-use award_file::text_lines::{add_decimal, add_number};
+use award_file::line_text::{add_decimal, add_number};
 use award_file::wide_num::Text;
 use std::alloc::{AllocError, Global};
 

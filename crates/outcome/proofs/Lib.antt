@@ -10,3 +10,7 @@ mod WinLines
 mod JsonLists
 mod PlainTexts
 mod Reserves
+mod OnePlaceText
+mod PlacePrinting
+mod ReviewLines
+mod ReviewTexts

@@ -2,7 +2,10 @@ pub mod Fractions
 pub mod Json
 pub mod Payments
 pub mod Prices
+pub mod PlacePrintable
+pub mod PlaceText
 pub mod Printable
+pub mod ReviewText
 pub mod Turns
 pub use Rattle.core_price.specs.auction_model
 pub use Rattle.core_price.specs.blocking
@@ -11,3 +14,7 @@ pub use Rattle.cert_facts.specs.cert_laws
 pub use Rattle.core_price
 pub use Rattle.print_form
 pub use Rattle.print_form.specs.row_laws
+pub use Rattle.place_check
+pub use Rattle.place_check.specs.place_laws
+pub use Rattle.review
+pub use Rattle.review.specs.value_table

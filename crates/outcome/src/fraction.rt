@@ -4,7 +4,7 @@ ghost use Rattle.core_price.specs.wide_num.specs.Range.{InRange};
 ghost use Rattle.outcome.specs.Fractions.{IsFractionOf, fraction_text};
 
 use core_price::wide_num::{Text, gcd};
-use print_form::text_lines::add_decimal;
+use print_form::line_text::add_decimal;
 use std::alloc::AllocError;
 
 /// A fraction that isn't negative: its whole part, and a rest over its least denominator.

@@ -1,4 +1,5 @@
-//! The printed texts of an auction: its winners, and where it is priced their prices and the turns that led to them, in lines or as JSON.
+//! The printed texts: the winners of an auction, and where it is priced their prices and the turns that led to them, in lines or as JSON; a
+//! placement with its prices; and a review of a book.
 //!
 //! Prices are kept net of reserve and are printed gross: the reserve of a winner's package is added.
 #![tactic(auto)]
@@ -9,7 +10,9 @@ mod json;
 mod json_values;
 mod lines;
 mod numbers;
+mod placing;
 mod prices;
+mod reviewing;
 mod turns;
 mod win;
 
@@ -19,8 +22,14 @@ pub use core_price::{blocking, wide_num};
 pub use fraction::{Fraction, add_fraction};
 pub use json::outcome_json;
 pub use numbers::{add_net, add_numbers};
+pub use place_check;
+pub use place_check::place_laws;
+pub use placing::{one_place_text, place_text};
 pub use print_form;
-pub use print_form::text_lines;
+pub use print_form::{line_text, row_laws};
+pub use review;
+pub use review::value_table;
+pub use reviewing::{one_review_text, review_text};
 pub use turns::rounds_text;
 pub use win::win_text;
 

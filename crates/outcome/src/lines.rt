@@ -10,7 +10,7 @@ use crate::prices::WinnerPrice;
 use crate::{Fraction, add_fraction, add_numbers};
 use cert_facts::bid_book::BidBook;
 use core_price::wide_num::Text;
-use print_form::text_lines::{add_decimal, add_signed};
+use print_form::line_text::{add_decimal, add_signed};
 use std::alloc::AllocError;
 
 /// Adds the line of each winner.

@@ -1,10 +1,10 @@
 // Numbers in a text.
 ghost use Rattle.std.specs.Prelude.{◌≡◌, ◌++◌, OnOk};
-ghost use Rattle.print_form.specs.text_lines.specs.Decimals.{decimals_text};
+ghost use Rattle.print_form.specs.line_text.specs.Decimals.{decimals_text};
 ghost use Rattle.print_form.specs.WinText.{net_line};
 
 use core_price::wide_num::Text;
-use print_form::text_lines::{add_number, add_signed};
+use print_form::line_text::{add_number, add_signed};
 use std::alloc::AllocError;
 
 /// Adds numbers, each behind one space. The only error is want of memory.

@@ -14,7 +14,7 @@ use cert_facts::choices::Choice;
 use core_price::blocking::Block;
 use core_price::wide_num::Text;
 use core_price::{Turn, members_of};
-use print_form::text_lines::add_number;
+use print_form::line_text::add_number;
 use std::alloc::{AllocError, Global};
 
 /// The lines of the turns of a pricing run: for each its point, and what blocks it.

@@ -10,7 +10,7 @@ use cert_facts::bid_book::BidBook;
 use cert_facts::choices::{Choice, value};
 use cert_facts::lots::Bid;
 use core_price::wide_num::Text;
-use print_form::text_lines::add_number;
+use print_form::line_text::add_number;
 use std::alloc::{AllocError, Global};
 
 /// The lines of the winners of a choice, in order, and the line of their net value. The book knows the choice. The only error is

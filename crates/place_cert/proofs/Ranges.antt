@@ -6,7 +6,7 @@ use Rattle.cert_text.specs.cert_form.specs.Certificate.{WithoutValue, RowValue}
 use Rattle.cert_text.specs.cert_form.specs.Lines.{IsPlacesText, lines}
 use Rattle.cert_text.specs.cert_form.specs.CertText.{line, as_numbers, choice_line, table_lines, IsChoice}
 use Rattle.cert_text.specs.cert_form.proofs.Ranges.{Within, within_append, no_excess, all_in_range, one_in_range, small_numbers, table_within, low_members}
-use Rattle.cert_text.specs.text_lines.specs.Range.{any_out}
+use Rattle.cert_text.specs.line_text.specs.Range.{any_out}
 use Rattle.cert_text.specs.cert_form.specs.PlaceCert.{PlaceCertValue}
 use Rattle.place_cert.specs.PlaceText.{IsPlaceCertificate, AreOrderedRows, AreOrderedWithouts, order_line, ordered_part_lines, ordered_row_lines, place_lines}
 use Rattle.place_cert.proofs.Follows.{places_follow}

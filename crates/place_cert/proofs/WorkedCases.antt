@@ -1,7 +1,7 @@
 -- The text of two small placement certificates, written out.
 use Rattle.std.proofs.Common.{◌≡◌, ◌∷◌, [], codes, refl}
 use Rattle.std.specs.Prelude.{pos, negsuc, ◌++◌}
-use Rattle.cert_text.specs.text_lines.specs.Numeral.{numeral, digits_of}
+use Rattle.cert_text.specs.line_text.specs.Numeral.{numeral, digits_of}
 use Rattle.cert_text.specs.cert_form.specs.PlaceCert.{PlaceCertValue}
 use Rattle.place_cert.specs.PlaceSays.{place_text}
 

@@ -2,7 +2,7 @@
 use Rattle.std.proofs.Common.{◌≡◌, ℕ, zero, suc, ◌+◌, ◌<◌, ◌≤◌, ◌^◌, pos, List, [], ◌∷◌, ◌++◌, length, codes, get_or, drop, map, sym, ap, ◌∙◌, arith}
 use Rattle.std.proofs.lemmas.List.{length-map}
 use Rattle.std.specs.List.{AllByRecursion}
-use Rattle.cert_text.specs.text_lines.proofs.Runs.{one_more}
+use Rattle.cert_text.specs.line_text.proofs.NumberRuns.{one_more}
 use Rattle.cert_text.specs.cert_form.specs.CertText.{line}
 use Rattle.cert_text.specs.Written.{bytes_of, lines_of_table, Adds, IsTableInRange}
 use Rattle.cert_text.proofs.Written.{adds_both, bytes_append, bytes_are, lines_range}

@@ -2,7 +2,7 @@
 -- an order before each choice, and tables of one line with an entry for each set of bidders.
 use Rattle.std.specs.Prelude.{◌≡◌, ℕ, zero, suc, ◌^◌, ◌≤◌, List, [], ◌∷◌, ◌++◌, length, codes, ℤ, pos}
 use Rattle.cert_text.specs.wide_num.specs.Range.{InRange}
-use Rattle.cert_text.specs.text_lines.specs.Range.{AllInRange}
+use Rattle.cert_text.specs.line_text.specs.Range.{AllInRange}
 use Rattle.cert_text.specs.cert_form.specs.Certificate.{WithoutValue, RowValue}
 use Rattle.cert_text.specs.cert_form.specs.Lines.{Line}
 use Rattle.cert_text.specs.cert_form.specs.CertText.{line, as_numbers, choice_line, table_lines, IsChoice, IsTable, IsRow}

@@ -13,7 +13,7 @@ mod read;
 mod write;
 
 pub use cert_text;
-pub use cert_text::{CertStop, cert_form, text_lines};
+pub use cert_text::{CertStop, cert_form, line_text};
 pub use certificate::{PlaceCertificate, PlaceRow, PlaceWithout};
 pub use laws::{one_place_cert, text_of_place_cert};
 pub use lists::{PlaceRows, PlaceWithouts};

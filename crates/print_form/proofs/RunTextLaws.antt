@@ -7,7 +7,7 @@ use Rattle.row_laws.specs.auction_model.specs.Lowered.{of_bidder}
 use Rattle.row_laws.specs.auction_model.specs.Market.{Market}
 use Rattle.row_laws.specs.auction_model.specs.Prices.{Point, SamePoint, AreVickreyPrices}
 use Rattle.row_laws.specs.auction_model.specs.PricingRun.{Block, Turn, IsPricingRun, single_rows}
-use Rattle.book_form.specs.text_lines.specs.Decimals.{decimals_text}
+use Rattle.book_form.specs.line_text.specs.Decimals.{decimals_text}
 use Rattle.print_form.specs.Turns.{ArePoints, IsTurnEnd, IsTurnLine, AreTurnLines}
 use Rattle.row_laws.specs.Turns.{IsLastPoint}
 use Rattle.row_laws.specs.Winners.{members_of}

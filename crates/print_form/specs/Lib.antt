@@ -5,4 +5,4 @@ pub mod Turns
 pub mod WinText
 pub use Rattle.book_form.specs.limits
 pub use Rattle.row_laws
-pub use Rattle.book_form.specs.text_lines
+pub use Rattle.book_form.specs.line_text

@@ -7,7 +7,7 @@ use Rattle.row_laws.specs.auction_model.specs.Book.{Book, BookBid, bidder_of, bi
 use Rattle.row_laws.specs.auction_model.specs.Market.{value_of, number_of}
 use Rattle.row_laws.specs.auction_model.specs.Lowered.{of_bidder}
 use Rattle.row_laws.specs.auction_model.specs.Prices.{Point, sum_over, everyone}
-use Rattle.book_form.specs.text_lines.specs.Decimals.{decimals_text}
+use Rattle.book_form.specs.line_text.specs.Decimals.{decimals_text}
 use Rattle.print_form.specs.WinText.{net_line}
 use Rattle.print_form.specs.Fractions.{IsFractionText}
 

@@ -4,7 +4,7 @@ use Rattle.std.specs.Fmt.{decimal}
 use Rattle.row_laws.specs.auction_model.specs.Lowered.{of_bidder}
 use Rattle.row_laws.specs.auction_model.specs.Prices.{Point}
 use Rattle.row_laws.specs.auction_model.specs.PricingRun.{Turn, Block}
-use Rattle.book_form.specs.text_lines.specs.Decimals.{decimals_text}
+use Rattle.book_form.specs.line_text.specs.Decimals.{decimals_text}
 use Rattle.print_form.specs.Fractions.{IsFractionText}
 use Rattle.row_laws.specs.Winners.{members_of}
 

@@ -3,7 +3,7 @@ use Rattle.std.specs.Prelude.{ℕ, zero, suc, List, [], ◌∷◌, ◌++◌, cod
 use Rattle.std.specs.Fmt.{signed_decimal}
 use Rattle.row_laws.specs.auction_model.specs.Book.{BookBid, Book, bidder_of, bid_of, market_of}
 use Rattle.row_laws.specs.auction_model.specs.Market.{value_of}
-use Rattle.book_form.specs.text_lines.specs.Decimals.{decimals_text}
+use Rattle.book_form.specs.line_text.specs.Decimals.{decimals_text}
 
 abbrev pub winner_line : List ℕ → BookBid → List ℕ
 winner_line name bid = codes "winner " ++ name ++ decimals_text (bid.lots ++ bid.amount ∷ []) ++ codes "\n"

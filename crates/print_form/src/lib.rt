@@ -16,7 +16,8 @@ ghost use Rattle.print_form.specs.Prices.{IsPriceText};
 ghost use Rattle.print_form.specs.Turns.{AreTurnLines};
 ghost use Rattle.row_laws.specs.Turns.{IsLastPoint};
 
-pub use book_form::text_lines;
+pub use book_form::line_text;
+pub use row_laws;
 use row_laws::auction_model::vickrey_prices;
 pub use row_laws::far_num;
 

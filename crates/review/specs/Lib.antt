@@ -6,6 +6,5 @@ pub use Rattle.value_table.specs.bid_book
 pub use Rattle.value_table.specs.book_form
 pub use Rattle.value_table.specs.limits
 pub use Rattle.value_table.specs.line_text
-pub use Rattle.value_table.specs.text_lines
 pub use Rattle.value_table
 pub use Rattle.value_table.specs.wide_num

@@ -9,3 +9,4 @@ pub mod Surplus
 pub mod Blocks
 pub mod Some
 mod WorkedCases
+mod PlainLaws

@@ -2,6 +2,8 @@ pub mod Winners
 pub mod Surplus
 pub mod Rows
 pub mod Turns
+pub mod Outcome
+pub mod PlainNearest
 pub use Rattle.auction_model
 pub use Rattle.far_num
 pub use Rattle.point_laws

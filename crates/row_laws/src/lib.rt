@@ -1,4 +1,4 @@
-//! Blocks at a point, and rows of winners as sets of bits: their definitions and laws. No code stands here.
+//! Blocks at a point, rows of winners as sets of bits, and what an auction ends with: their definitions and laws. No code stands here.
 //!
 //! A pricing turn looks for the coalition that blocks a point most. It lowers the worths of the bids by what each bidder
 //! gains at the point, its surplus, and looks for the choice of greatest lowered sum. The laws say that this sum, less what
@@ -7,6 +7,8 @@
 //! allocations in public sector combinatorial auctions, Management Science 53, 2007; Day and Cramton, Quadratic
 //! core-selecting payment rules for combinatorial auctions, Operations Research 60, 2012.)
 #![tactic(auto)]
+
+mod plain;
 
 ghost use Rattle.std.specs.Prelude.{◌≡◌, ◌≢◌, ℕ, ◌<◌, ◌≤◌, Bool, IsTrue, List, ℤ, pos, ◌≤ℤ◌, ◌-ℤ◌, ◌<ℤ◌, length};
 ghost use Rattle.auction_model.specs.Market.{Market};
@@ -25,6 +27,7 @@ ghost use Rattle.row_laws.specs.Rows.{HasWinners, IsGivenBy, Meets};
 pub use auction_model;
 pub use far_num;
 pub use far_num::wide_num;
+pub use plain::{plain_outcome, plain_turns};
 
 /// The first choice of greatest lowered sum is the block that a turn takes, with the winners that it doesn't use and that
 /// pay no more than their bid. Its excess is what the sum is above all payments.

@@ -5,8 +5,8 @@ use Rattle.std.specs.Fmt.{decimal}
 use Rattle.std.specs.List.{AllByRecursion}
 use Rattle.std.proofs.lemmas.Bool.Decides.{nat_tests}
 use Rattle.std.proofs.lemmas.List.{append_cancel_left, take_more}
-use Rattle.choices.specs.text_lines.proofs.DecimalFields.{NoSpace, number_own, one_field}
-use Rattle.choices.specs.text_lines.specs.Fields.{FieldEnds}
+use Rattle.choices.specs.line_text.proofs.DecimalFields.{NoSpace, number_own, one_field}
+use Rattle.choices.specs.line_text.specs.Fields.{FieldEnds}
 use Rattle.choices.specs.book_form.specs.BookForm.{IsName}
 use Rattle.choices.specs.limits.specs.declared.LimitKind.TheVariants.{Lots, Bidders}
 use Rattle.slot_places.specs.Slots.{SlotBid, SlotBidder, SlotList, no_bidder, bidder_of}

@@ -10,7 +10,7 @@ use Rattle.choices.specs.book_form.specs.BookForm.{IsName}
 use Rattle.choices.specs.book_form.proofs.NameLaws.{name_own}
 use Rattle.choices.specs.bid_book.proofs.Spelled.{number_line, name_line}
 use Rattle.choices.specs.line_text.proofs.Lines.{line_append}
-use Rattle.choices.specs.text_lines.proofs.DecimalFields.{NoSpace, one_field, number_own}
+use Rattle.choices.specs.line_text.proofs.DecimalFields.{NoSpace, one_field, number_own}
 use Rattle.choices.specs.bid_book.proofs.OneLine.{end_no_bidder}
 use Rattle.slot_places.specs.Slots.{SlotBid, SlotList}
 use Rattle.slot_places.specs.SlotForm.{band_line, bidder_line, place_line}

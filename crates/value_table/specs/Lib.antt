@@ -11,5 +11,4 @@ pub use Rattle.choices.specs.book_form
 pub use Rattle.choices
 pub use Rattle.choices.specs.limits
 pub use Rattle.choices.specs.line_text
-pub use Rattle.choices.specs.text_lines
 pub use Rattle.choices.specs.wide_num

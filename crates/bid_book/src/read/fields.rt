@@ -3,13 +3,13 @@ ghost use Rattle.std.specs.Prelude.{IfErr, IfNone, IfOk, IfSome, IsTrue, List, d
 ghost use Rattle.std.specs.List.{AllByRecursion};
 ghost use Rattle.std.specs.Fmt.{decimal};
 ghost use Rattle.book_form.specs.BookForm.{IsName, IsNameByte};
-ghost use Rattle.book_form.specs.text_lines.specs.Decimals.{decimals_text};
+ghost use Rattle.book_form.specs.line_text.specs.Decimals.{decimals_text};
 ghost use Rattle.bid_book.specs.Stops.{AreNumbers, IsField};
 ghost use Rattle.lots.specs.limits.specs.declared.TheConstants.{MOST_AMOUNT, MOST_COUNT};
 
 use crate::LimitKind;
 use crate::stop::{LineStop, NoNumber};
-use book_form::text_lines::{field_len, read_at_most};
+use book_form::line_text::{field_len, read_at_most};
 use lots::limits::{MOST_AMOUNT, MOST_COUNT, MOST_NAME_BYTES};
 use std::alloc::Global;
 

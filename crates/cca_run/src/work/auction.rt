@@ -8,13 +8,13 @@ ghost use Rattle.cca_run.specs.Works.{HasBook, IsWork};
 
 use crate::work::{Stop, Work};
 use crate::{FileKind, Status};
-use auction_outcome::wide_num::Text;
 use big_auction::award_file::Award;
 use big_auction::log_file::Events;
 use cca_inputs::FileText;
 use cca_inputs::bid_book::{BidBook, write_book};
 use cca_inputs::limits::LimitKind;
 use log_replay::{Replay, ReplayStop, replay};
+use outcome::wide_num::Text;
 use std::alloc::Global;
 
 /// The lines of the replies to a log and the text of its book, or those lines and why it has none.

@@ -7,10 +7,10 @@ ghost use Rattle.cca_run.specs.Works.{IsWork};
 
 use crate::FileKind;
 use crate::work::{Stop, Work};
-use auction_outcome::wide_num::Text;
 use big_auction::{Made, make};
 use cca_inputs::FileText;
-use cca_inputs::text_lines::add_decimal;
+use cca_inputs::line_text::add_decimal;
+use outcome::wide_num::Text;
 use std::alloc::{AllocError, Global};
 
 // How many bidders each made auction has.

@@ -1,10 +1,10 @@
 // Placements in a band, with their prices and their certificates.
 ghost use Rattle.std.specs.Prelude.{◌≡◌, ◌<◌, ◌^◌, [], ◌∷◌, IfOk, List, ℕ, length};
 ghost use Rattle.std.specs.List.{AllByRecursion};
-ghost use Rattle.place_outcome.specs.core_price.specs.Turns.{turns_of};
-ghost use Rattle.place_outcome.specs.outcome.specs.Turns.{CanPrintTurn};
+ghost use Rattle.outcome.specs.core_price.specs.Turns.{turns_of};
+ghost use Rattle.outcome.specs.Turns.{CanPrintTurn};
 ghost use Rattle.cca_inputs.specs.place_cert.specs.CertValues.{place_cert_value};
-ghost use Rattle.place_outcome.specs.place_laws.specs.PlaceTests.{Holds};
+ghost use Rattle.outcome.specs.place_laws.specs.PlaceTests.{Holds};
 ghost use Rattle.cca_inputs.specs.Outcome.{done};
 ghost use Rattle.cca_inputs.specs.declared.status.FileKind.{FileKind};
 ghost use Rattle.cca_run.specs.Gives.{ArePlacedLines, IsPlaceYes, PlaceGives, PlaceVerdictGives, cert_file};
@@ -14,13 +14,13 @@ use crate::Status;
 use crate::work::price_text::rounds_part;
 use crate::work::pricing::{PriceTexts, with_cert};
 use crate::work::{Stop, Work};
-use auction_outcome::wide_num::Text;
 use cca_inputs::CertKind;
 use cca_inputs::place_cert::{PlaceCertificate, write_places};
 use cca_inputs::slot_places::Slots;
-use place_outcome::core_price::Turn;
-use place_outcome::place_check::{Verdict, check_places};
-use place_outcome::place_text;
+use outcome::core_price::Turn;
+use outcome::place_check::{Verdict, check_places};
+use outcome::place_text;
+use outcome::wide_num::Text;
 use place_price::priced_places;
 use std::alloc::{AllocError, Global};
 

@@ -1,9 +1,9 @@
 // Prices of a book, with their certificate.
 ghost use Rattle.std.specs.Prelude.{◌≡◌, ℕ, [], ◌∷◌, IfOk, Err};
 ghost use Rattle.cca_inputs.specs.limits.specs.declared.LimitKind.{LimitKind};
-ghost use Rattle.auction_outcome.specs.auction_model.specs.Prices.{AreWeights};
+ghost use Rattle.outcome.specs.auction_model.specs.Prices.{AreWeights};
 ghost use Rattle.place_price.specs.cert_laws.specs.Tests.{bidders_of};
-ghost use Rattle.place_outcome.specs.core_price.specs.declared.priced.PriceStop.{PriceStop};
+ghost use Rattle.outcome.specs.core_price.specs.declared.priced.PriceStop.{PriceStop};
 ghost use Rattle.cca_inputs.specs.Outcome.{done, stopped};
 ghost use Rattle.cca_inputs.specs.declared.status.FileKind.{FileKind};
 ghost use Rattle.cca_inputs.specs.declared.status.Status.{Status};
@@ -13,12 +13,12 @@ ghost use Rattle.cca_run.specs.Works.{IsWork};
 use crate::work::price_text::price_text;
 use crate::work::{Stop, Work};
 use crate::{FileKind, Status};
-use auction_outcome::wide_num::Text;
 use cca_inputs::bid_book::BidBook;
 use cca_inputs::cert_text::write_cert;
 use cca_inputs::limits::LimitKind;
 use cca_inputs::{FileText, PriceForm};
-use place_outcome::core_price::PriceStop;
+use outcome::core_price::PriceStop;
+use outcome::wide_num::Text;
 use place_price::book_price::price_book;
 use std::alloc::{AllocError, Global};
 

@@ -1,14 +1,14 @@
 // What a book gives as it is edited.
 ghost use Rattle.std.specs.Prelude.{◌≡◌, [], length};
 ghost use Rattle.std.specs.List.{AllByRecursion};
-ghost use Rattle.review_text.specs.review.specs.Edits.{edit_lots};
+ghost use Rattle.outcome.specs.review.specs.Edits.{edit_lots};
 ghost use Rattle.cca_run.specs.Gives.{ReviewGives};
 ghost use Rattle.cca_run.specs.Works.{IsWork};
 
 use crate::work::{Stop, Work};
 use cca_inputs::bid_book::BidBook;
-use review_text::review::Edit;
-use review_text::review_text;
+use outcome::review::Edit;
+use outcome::review_text;
 use std::alloc::Global;
 
 /// What is printed of the edits of a book.

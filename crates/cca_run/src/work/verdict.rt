@@ -1,6 +1,6 @@
 // What a certificate gives for which all tests hold.
 ghost use Rattle.std.specs.Prelude.{List, ℕ, [], IfOk};
-ghost use Rattle.auction_outcome.specs.auction_model.specs.Prices.{weight_of};
+ghost use Rattle.outcome.specs.auction_model.specs.Prices.{weight_of};
 ghost use Rattle.cca_inputs.specs.cert_facts.specs.Facts.{AreFacts};
 ghost use Rattle.cca_inputs.specs.cert_form.specs.Certificate.{CertValue};
 ghost use Rattle.place_price.specs.cert_laws.specs.Sound.{IsSound};
@@ -9,10 +9,10 @@ ghost use Rattle.cca_run.specs.Gives.{IsYesText, VerdictGives};
 ghost use Rattle.cca_run.specs.Works.{IsWork};
 
 use crate::work::{Stop, Work};
-use auction_outcome::wide_num::Text;
 use cca_inputs::bid_book::BidBook;
 use cca_inputs::cert_facts::CertFacts;
-use place_outcome::outcome::outcome_text;
+use outcome::outcome_text;
+use outcome::wide_num::Text;
 use std::alloc::{AllocError, Global};
 
 fn yes_text(alloc: Global, book: &BidBook, facts: &CertFacts) -> Result<Text, AllocError>

@@ -1,13 +1,13 @@
 // What `win` prints of a book.
 ghost use Rattle.std.specs.Prelude.{◌≡◌, ℕ, List, IfOk};
-ghost use Rattle.auction_outcome.specs.auction_model.specs.Greatest.{IsWinning};
-ghost use Rattle.auction_outcome.specs.auction_model.specs.Book.{market_of};
-ghost use Rattle.place_outcome.specs.print_form.specs.WinText;
+ghost use Rattle.outcome.specs.auction_model.specs.Greatest.{IsWinning};
+ghost use Rattle.outcome.specs.auction_model.specs.Book.{market_of};
+ghost use Rattle.outcome.specs.print_form.specs.WinText;
 
-use auction_outcome::wide_num::Text;
 use cca_inputs::bid_book::BidBook;
-use place_outcome::outcome::win_text;
-use review_text::value_table::win;
+use outcome::value_table::win;
+use outcome::wide_num::Text;
+use outcome::win_text;
 use std::alloc::{AllocError, Global};
 
 /// The lines of the winners of a book, in order, and the line of their net value.

@@ -1,12 +1,12 @@
 // The certificate with other lines, and its fronts.
 use crate::samples::edited;
 use crate::streams::{BOOK, CERT, verdict_of};
+use piece_check::cert_check::Verdict;
+use piece_check::cert_pieces::TextStop;
 use place_price::bid_book::read_book;
 use std::alloc::{AllocError, Global};
 use std::process::Abort;
 use std::test::Fail;
-use stream_check::cert_check::Verdict;
-use stream_check::cert_pieces::TextStop;
 
 // Asserts what a checker says of a text in pieces of seven bytes.
 fn says(

@@ -1,9 +1,9 @@
 // The kinds of lines of a certificate.
 ghost use Rattle.std.specs.Prelude.{◌≡◌, ◌≤◌, ◌<◌, ◌↔◌, ◌∷◌, length, codes, IsTrue, IfOk, IfErr, MatchOption, [], false, pos};
 ghost use Rattle.cert_form.specs.Lines.{kind, these, signed, chosen, members, AreNumbers};
-ghost use Rattle.cert_form.specs.text_lines.specs.Range.{any_out};
+ghost use Rattle.cert_form.specs.line_text.specs.Range.{any_out};
 ghost use Rattle.cert_form.specs.CertText.{line, as_numbers, IsChoice, AreMembers};
-ghost use Rattle.cert_form.specs.text_lines.specs.Range.{AllInRange};
+ghost use Rattle.cert_form.specs.line_text.specs.Range.{AllInRange};
 ghost use Rattle.cert_text.specs.Readers.{IsLineAt, Leads, Halts, LeadsLike, HaltsLike, LeadsChosen, HaltsChosen, LeadsCounted, HaltsCounted, HaltsSmall, IsCount, IsNoCount, AreSmall, AreNotSmall};
 
 use crate::CertStop;

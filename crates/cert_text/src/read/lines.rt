@@ -1,12 +1,11 @@
 // Lines of a word and numbers.
 ghost use Rattle.std.specs.Prelude.{◌≡◌, ◌≤◌, ◌↔◌, ◌++◌, length, take, List, IsTrue, IfOk, IfErr, [], ℤ};
-ghost use Rattle.cert_form.specs.text_lines.specs.Numeral.{numbers_text};
+ghost use Rattle.cert_form.specs.line_text.specs.Numeral.{numbers_text};
 ghost use Rattle.cert_text.specs.Readers.{IsLineAt, IsRefused};
-ghost use Rattle.cert_form.specs.text_lines.specs.Fields.{HasLine};
+ghost use Rattle.cert_form.specs.line_text.specs.Fields.{HasLine};
 
 use crate::CertStop;
-use cert_form::line_text::line_len;
-use cert_form::text_lines::{NumbersStop, numbers_behind};
+use cert_form::line_text::{NumbersStop, line_len, numbers_behind};
 use cert_form::wide_num::NumList;
 use std::alloc::Global;
 

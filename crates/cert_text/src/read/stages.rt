@@ -2,7 +2,7 @@
 ghost use Rattle.std.specs.Prelude.{◌≡◌, ◌≤◌, length, IfOk, IfErr, [], ◌∷◌, map};
 ghost use Rattle.cert_form.specs.CertText.{IsChoice, IsTable, AreWithouts, AreRows};
 ghost use Rattle.cert_form.specs.wide_num.specs.Range.{InRange};
-ghost use Rattle.cert_form.specs.text_lines.specs.Range.{AllInRange};
+ghost use Rattle.cert_form.specs.line_text.specs.Range.{AllInRange};
 ghost use Rattle.cert_text.specs.Parts.{without_value, row_value};
 ghost use Rattle.cert_text.specs.StagePlans.{opening_plan, opening_lines, winning_kind, winning_lines, payment_plan, payment_lines, closing_plan, closing_lines};
 ghost use Rattle.cert_text.specs.Readers.{Leads, Halts};

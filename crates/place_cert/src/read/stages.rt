@@ -1,7 +1,7 @@
 // The stages of a placement certificate's text.
 ghost use Rattle.std.specs.Prelude.{◌≡◌, ◌≤◌, length, IfOk, IfErr, []};
 ghost use Rattle.cert_text.specs.cert_form.specs.CertText.{IsChoice};
-ghost use Rattle.cert_text.specs.text_lines.specs.Range.{AllInRange};
+ghost use Rattle.cert_text.specs.line_text.specs.Range.{AllInRange};
 ghost use Rattle.cert_text.specs.Readers.{Leads, Halts};
 ghost use Rattle.cert_text.specs.limits.specs.declared.TheConstants.{MOST_PLACED};
 ghost use Rattle.place_cert.specs.Parts.{AreParts, AreRows};

@@ -10,7 +10,7 @@ use crate::stop::LineStop;
 use crate::{MOST_PLACED, Place, Slots};
 use choices::bid_book::{Name, name_text};
 use choices::limits::{LimitKind, MOST_AMOUNT};
-use choices::text_lines::read_at_most;
+use choices::line_text::read_at_most;
 use std::alloc::Global;
 
 /// Takes the line of a bidder or of a bid.

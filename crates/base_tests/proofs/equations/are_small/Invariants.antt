@@ -1,5 +1,5 @@
 use Rattle.std.proofs.Common.{pos, unsigned_abs, ℕ, ◌<◌, ◌≤ℤ◌, ◌≤◌}
-use Rattle.text_lines.specs.wide_num.specs.Sums.{nth}
+use Rattle.line_text.specs.wide_num.specs.Sums.{nth}
 use Rattle.base_tests.proofs.equations.are_small.Given as goal
 
 abbrev pub invariant-loop-x : goal.invariant-loop-x

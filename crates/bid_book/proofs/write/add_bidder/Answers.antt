@@ -4,7 +4,7 @@ use Rattle.lots.specs.auction_model.specs.Book.{BookBid, bidder_of, bids_of, no_
 use Rattle.book_form.specs.BookLines.{bid_lines}
 use Rattle.bid_book.specs.Lists as lists
 use Rattle.bid_book.specs.Written.{bid_text}
-use Rattle.book_form.specs.text_lines.proofs.Runs.{all_added}
+use Rattle.book_form.specs.line_text.proofs.NumberRuns.{all_added}
 use Rattle.bid_book.proofs.WriteLaws.{bid_is, next_bid, whole_bidder}
 use Rattle.bid_book.proofs.write.add_bidder.Goals as goal
 

@@ -1,7 +1,7 @@
 use Rattle.std.proofs.Common.{length, ◌-◌, ◌≡◌, ◌≤◌}
 use Rattle.log_file.specs.limits.specs.declared.TheConstants.{CERT_BYTES}
-use Rattle.stream_check.specs.cert_laws.specs.Tests.{bidders_of, states}
-use Rattle.stream_check.specs.cert_pieces.specs.Rooms.{room_size}
+use Rattle.piece_check.specs.cert_laws.specs.Tests.{bidders_of, states}
+use Rattle.piece_check.specs.cert_pieces.specs.Rooms.{room_size}
 use Rattle.cca_base.specs.Files.{KeepsFiles}
 use Rattle.cca_inputs.proofs.Feeding.{IsFedSoFar}
 use Rattle.cca_inputs.proofs.checked.fed.Given as goal

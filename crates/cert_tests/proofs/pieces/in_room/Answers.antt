@@ -1,6 +1,6 @@
 use Rattle.std.proofs.Common.{◌≡◌, ◌≤◌, ◌-◌, ◌++◌, List, ℕ, take, drop, sym, ap, subst, ◌∙◌, arith, length-take}
 use Rattle.std.proofs.Math.Seq.{take-add}
-use Rattle.stream_check.specs.cert_pieces.specs.Standing.{StandsFor}
+use Rattle.piece_check.specs.cert_pieces.specs.Standing.{StandsFor}
 use Rattle.cert_tests.proofs.pieces.in_room.Goals as goal
 
 pub feed-requires-clause-stands : goal.feed-requires-clause-stands

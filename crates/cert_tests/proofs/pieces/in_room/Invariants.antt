@@ -1,6 +1,6 @@
 use Rattle.std.proofs.Common.{◌≡◌, ◌≤◌, ◌-◌, length, take}
-use Rattle.stream_check.specs.cert_pieces.specs.Rooms.{room_size}
-use Rattle.stream_check.specs.cert_pieces.specs.Standing.{StandsFor}
+use Rattle.piece_check.specs.cert_pieces.specs.Rooms.{room_size}
+use Rattle.piece_check.specs.cert_pieces.specs.Standing.{StandsFor}
 use Rattle.cert_tests.proofs.pieces.in_room.Given as goal
 
 abbrev pub decreases-loop-at : goal.decreases-loop-at

@@ -2,8 +2,8 @@ use Rattle.std.proofs.Common.{◌≡◌, ◌≤◌, ◌-◌, ◌++◌, List, ℕ
 use Rattle.std.proofs.Math.Seq.{take-add}
 use Rattle.place_price.specs.auction_model.specs.Book.{Book}
 use Rattle.place_price.specs.cert_laws.specs.Tests.{bidders_of, states}
-use Rattle.stream_check.specs.cert_pieces.specs.Rooms.{room_size}
-use Rattle.stream_check.specs.Standing.{StandsFor}
+use Rattle.piece_check.specs.cert_pieces.specs.Rooms.{room_size}
+use Rattle.piece_check.specs.Standing.{StandsFor}
 use Rattle.cert_tests.proofs.streams.fed.Goals as goal
 
 pub feed-requires-clause-room : goal.feed-requires-clause-room

@@ -1,7 +1,7 @@
 use Rattle.std.proofs.Common.{◌≡◌, ◌≤◌, ◌-◌, length, take}
 use Rattle.place_price.specs.cert_laws.specs.Tests.{bidders_of, states}
-use Rattle.stream_check.specs.cert_pieces.specs.Rooms.{room_size}
-use Rattle.stream_check.specs.Standing.{StandsFor}
+use Rattle.piece_check.specs.cert_pieces.specs.Rooms.{room_size}
+use Rattle.piece_check.specs.Standing.{StandsFor}
 use Rattle.cert_tests.proofs.streams.fed.Given as goal
 
 abbrev pub decreases-loop-at : goal.decreases-loop-at

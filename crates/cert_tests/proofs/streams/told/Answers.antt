@@ -1,6 +1,6 @@
 use Rattle.std.proofs.Common.{subst}
 use Rattle.place_price.specs.auction_model.specs.Prices.{weight_of}
-use Rattle.stream_check.specs.cert_check.specs.Verdicts.{IsVerdict}
+use Rattle.piece_check.specs.cert_check.specs.Verdicts.{IsVerdict}
 use Rattle.cert_tests.proofs.streams.told.Goals as goal
 
 pub read_facts-requires-clause-yes : goal.read_facts-requires-clause-yes

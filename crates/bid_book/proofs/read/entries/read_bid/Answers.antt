@@ -3,7 +3,7 @@ use Rattle.std.specs.Prelude.{IsTrue, pos, ◌-ℤ◌}
 use Rattle.std.proofs.lemmas.Result.{err_from_is_err_and}
 use Rattle.std.proofs.lemmas.Bool.Decides.{nat_tests}
 use Rattle.lots.specs.auction_model.specs.Package.{ComesBefore, cost_of, is_within}
-use Rattle.book_form.specs.text_lines.specs.Decimals.{decimals_text}
+use Rattle.book_form.specs.line_text.specs.Decimals.{decimals_text}
 use Rattle.bid_book.specs.declared.stop.LineStop.TheVariants.{Form}
 use Rattle.bid_book.specs.Stages.{lots_before}
 use Rattle.bid_book.specs.Stops.{AreNumbers}

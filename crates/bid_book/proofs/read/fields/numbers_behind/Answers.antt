@@ -3,7 +3,7 @@ use Rattle.std.proofs.lemmas.Bool.Decides.{Decides-eqb}
 use Rattle.std.proofs.lemmas.Slice.Eq.{strip_prefix_is}
 use Rattle.std.proofs.lemmas.Result.{IfOk-weaker}
 use Rattle.std.proofs.lemmas.List.{append_cancel_left}
-use Rattle.book_form.specs.text_lines.specs.Decimals.{decimals_text}
+use Rattle.book_form.specs.line_text.specs.Decimals.{decimals_text}
 use Rattle.bid_book.proofs.read.fields.numbers_behind.Goals as goal
 
 pub returns-in-Some-clause-ok : goal.returns-in-Some-clause-ok

@@ -1,5 +1,5 @@
 use Rattle.std.proofs.Common.{◌≡◌, ℕ, List, ◌++◌, length}
-use Rattle.book_form.specs.text_lines.specs.Decimals.{decimals_text}
+use Rattle.book_form.specs.line_text.specs.Decimals.{decimals_text}
 use Rattle.bid_book.specs.Stops.{AreNumbers}
 use Rattle.bid_book.proofs.FieldReads.{GoesOn}
 use Rattle.bid_book.proofs.read.fields.read_numbers.Given as goal

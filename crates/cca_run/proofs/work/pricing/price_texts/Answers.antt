@@ -1,6 +1,6 @@
 use Rattle.std.proofs.Common.{subst, sym}
 use Rattle.std.specs.List.{AllByRecursion}
-use Rattle.place_outcome.specs.outcome.specs.Turns.{CanPrintTurn}
+use Rattle.outcome.specs.Turns.{CanPrintTurn}
 use Rattle.cca_run.proofs.Priced.{can-print, priced}
 use Rattle.cca_run.proofs.work.pricing.price_texts.Goals as goal
 

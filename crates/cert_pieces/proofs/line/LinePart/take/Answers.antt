@@ -1,6 +1,6 @@
 use Rattle.std.proofs.Common.{◌≡◌, List, [], ◌∷◌, ◌++◌, length, subst, sym, ap, ◌∙◌, ℤ}
 use Rattle.std.proofs.lemmas.List.{append-nil}
-use Rattle.cert_text.specs.text_lines.specs.Numeral.{numbers_text}
+use Rattle.cert_text.specs.line_text.specs.Numeral.{numbers_text}
 use Rattle.cert_pieces.specs.Forms.{numbers_of}
 use Rattle.cert_pieces.specs.LineParts.{Accepts}
 use Rattle.cert_pieces.proofs.Unfit.{unfit_number, unfit_whole}

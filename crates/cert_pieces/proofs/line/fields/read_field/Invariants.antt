@@ -1,5 +1,5 @@
 use Rattle.std.proofs.Common.{◌≡◌, ◌<◌, ◌^◌}
-use Rattle.cert_text.specs.text_lines.specs.Numeral.{numeral}
+use Rattle.cert_text.specs.line_text.specs.Numeral.{numeral}
 use Rattle.cert_pieces.specs.Pieces.{between}
 use Rattle.cert_pieces.proofs.line.fields.read_field.Given as goal
 

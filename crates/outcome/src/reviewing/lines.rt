@@ -1,0 +1,69 @@
+// The lines of a review.
+ghost use Rattle.std.specs.Prelude.{◌≡◌, ◌∷◌, ◌++◌, List, ℕ, OnOk, codes};
+ghost use Rattle.std.specs.Fmt.{decimal};
+ghost use Rattle.outcome.specs.ReviewText.{IsStateLine, refusal_text, worded};
+
+use review::line_text::{add_decimal, add_number, add_numbers, add_signed};
+use review::wide_num::Text;
+use review::{EditReply, Review};
+use std::alloc::AllocError;
+
+/// Adds the line of this number for the book as it is: its net value and its winning choice.
+pub fn add_state(text: &mut Text, n: u64, review: &Review) -> Result<(), AllocError>
+    ensures { OnOk result ((line : List ℕ) × IsStateLine n review.now.book line × (text.new ≡ text.old ++ line)) }
+{
+    let choice = review.choice();
+    add_decimal(text, n as u128)?;
+    text.add(b" net ")?;
+    add_signed(text, review.net())?;
+    text.add(b" choice")?;
+    add_numbers(text, choice.numbers())?;
+    text.push(b'\n')?;
+    Ok(())
+}
+
+/// Adds the line of this number for an edit that was refused.
+pub fn add_refusal(text: &mut Text, n: u64, refusal: EditReply) -> Result<(), AllocError>
+    ensures { OnOk result (text.new ≡ text.old ++ (decimal n ++ 32 ∷ refusal_text refusal ++ codes "\n")) }
+{
+    add_decimal(text, n as u128)?;
+    text.push(b' ')?;
+    add_reply(text, refusal)?;
+    text.push(b'\n')?;
+    Ok(())
+}
+
+/// Adds the text of a refusal. What isn't one has none.
+fn add_reply(text: &mut Text, reply: EditReply) -> Result<(), AllocError>
+    ensures { OnOk result (text.new ≡ text.old ++ refusal_text reply) }
+{
+    match reply {
+        EditReply::Ok | EditReply::Memory => Ok(()),
+        EditReply::Unknown => add_word(text, b"unknown"),
+        EditReply::Supply(category) => add_worded(text, b"supply", category as u64),
+        EditReply::Empty => add_word(text, b"empty"),
+        EditReply::Present(amount) => add_worded(text, b"present", amount),
+        EditReply::Absent => add_word(text, b"absent"),
+        EditReply::NotHigher(amount) => add_worded(text, b"not-higher", amount),
+        EditReply::BelowReserve(amount) => add_worded(text, b"below-reserve", amount),
+        EditReply::AmountTop(amount) => add_worded(text, b"amount-top", amount),
+        EditReply::Full(count) => add_worded(text, b"full", count),
+    }
+}
+
+/// Adds a word.
+fn add_word(text: &mut Text, word: &[u8]) -> Result<(), AllocError>
+    ensures { OnOk result (text.new ≡ text.old ++ word.now) }
+{
+    text.add(word)?;
+    Ok(())
+}
+
+/// Adds a word and a number.
+fn add_worded(text: &mut Text, word: &[u8], n: u64) -> Result<(), AllocError>
+    ensures { OnOk result (text.new ≡ text.old ++ worded word.now n) }
+{
+    text.add(word)?;
+    add_number(text, n)?;
+    Ok(())
+}

@@ -1,0 +1,51 @@
+// The text of a review.
+ghost use Rattle.std.specs.Prelude.{◌≡◌, ◌++◌, List, ℕ, IfOk, OnOk, length};
+ghost use Rattle.std.specs.List.{AllByRecursion};
+ghost use Rattle.review.specs.Edits.{edit_lots, edit_reply};
+ghost use Rattle.outcome.specs.ReviewText.{IsReplyLine, IsReviewText, behind};
+
+use crate::reviewing::lines::{add_refusal, add_state};
+use crate::win_text;
+use review::bid_book::BidBook;
+use review::wide_num::Text;
+use review::{Edit, EditReply, Review};
+use std::alloc::{AllocError, Global};
+
+/// What is printed of the edits of a book: a line for the book as it is, a line for each edit in order, which is taken or refused, and
+/// the winners of the book behind the last. Each edit's package has the book's number of categories. The only error is want of memory.
+pub fn review_text(alloc: Global, book: BidBook, edits: &[Edit]) -> Result<Text, AllocError>
+    requires { AllByRecursion (λ e. length (edit_lots e) ≡ length book.supply) edits.now }
+    ensures { IfOk result (λ text. IsReviewText book edits.now text) }
+{
+    let mut review = Review::start(alloc, book)?;
+    let mut text = Text::new(alloc);
+    add_state(&mut text, 0, &review)?;
+    for (k, edit) in edits.iter().enumerate() {
+        add_edit(alloc, &mut text, &mut review, k as u64 + 1, edit)?;
+    }
+    let winners = win_text(alloc, review.book(), review.choice())?;
+    text.add(winners.items())?;
+    Ok(text)
+}
+
+/// Takes an edit and adds the line of this number for it.
+fn add_edit(
+    alloc: Global,
+    text: &mut Text,
+    review: &mut Review,
+    n: u64,
+    edit: &Edit,
+) -> Result<(), AllocError>
+    requires { length (edit_lots edit.now) ≡ length review.old.book.supply }
+    ensures line { OnOk result
+        ((line : List ℕ)
+        × IsReplyLine (edit_reply review.old.book edit.now) n (behind review.old.book edit.now) line
+        × (text.new ≡ text.old ++ line)) }
+    ensures book { OnOk result (review.new.book ≡ behind review.old.book edit.now) }
+{
+    match review.edit(alloc, edit) {
+        EditReply::Ok => add_state(text, n, review),
+        EditReply::Memory => Err(AllocError),
+        refusal => add_refusal(text, n, refusal),
+    }
+}

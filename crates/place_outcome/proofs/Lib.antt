@@ -1,2 +1,0 @@
-mod OneText
-mod Printing

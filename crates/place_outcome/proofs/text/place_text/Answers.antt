@@ -1,5 +1,0 @@
-use Rattle.place_outcome.proofs.Printing.{can-print}
-use Rattle.place_outcome.proofs.text.place_text.Goals as goal
-
-pub printed-requires : goal.printed-requires
-printed-requires c = can-print c.args.slots.now c.args.cert.now c.requires.shape c.requires.holds

@@ -1,9 +1,0 @@
-pub mod Numerals
-pub mod Decimals
-pub mod DecimalFields
-pub mod Fronts
-pub mod Signs
-pub mod FieldRuns
-pub mod Words
-pub mod Runs
-pub mod Lengths

@@ -1,6 +1,0 @@
-use Rattle.std.proofs.Common.{◌≡◌, ◌++◌, drop}
-use Rattle.text_lines.specs.Decimals.{decimals_text}
-use Rattle.text_lines.proofs.write.add_numbers.Given as goal
-
-abbrev pub invariant-loop-number : goal.invariant-loop-number
-invariant-loop-number l = l.text ++ decimals_text (drop l.number-index l.numbers) ≡ l.initial.text ++ decimals_text l.numbers
