@@ -1,6 +1,6 @@
 -- Laws of what keys state: names and lists of tables.
 use Rattle.std.proofs.Common.{◌≡◌, ℕ, suc, Bool, true, false, List, [], ◌∷◌, length, refl, sym, ap, ◌∙◌, arith, inl, inr}
-use Rattle.std.specs.Prelude.{IsTrue, ◌↔◌, ◌&&◌, nat_le, Some, None, option_and_then}
+use Rattle.std.specs.Prelude.{IsTrue, ◌↔◌, ◌&&◌, nat_lt, Some, None, option_and_then}
 use Rattle.std.specs.List.{AllByRecursion, list_all}
 use Rattle.std.proofs.lemmas.Bool.{cases_Bool, false≢true, and_parts}
 use Rattle.std.proofs.lemmas.Bool.Decides.{nat_tests}
@@ -39,9 +39,9 @@ bytes-test (c ∷ cs) h = rw (byte-tests c h.0, bytes-test cs h.1)
 pub name-is : (s : List ℕ) → is_name s ≡ true → IsName s
 name-is [] h = absurd (false≢true h)
 name-is (c ∷ cs) h =
-    let parts = and_parts (is_letter c) (list_all is_name_byte cs && nat_le (length cs) 19) h in
-    let more = and_parts (list_all is_name_byte cs) (nat_le (length cs) 19) parts.1 in
-    let short : nat_le (length cs) 19 ≡ true = more.1 in
+    let parts = and_parts (is_letter c) (list_all is_name_byte cs && nat_lt (length cs) 20) h in
+    let more = and_parts (list_all is_name_byte cs) (nat_lt (length cs) 20) parts.1 in
+    let short : nat_lt (length cs) 20 ≡ true = more.1 in
     (letter-is c parts.0, bytes-are cs more.0, grind (arith, nat_tests))
 
 -- each name passes the test of names

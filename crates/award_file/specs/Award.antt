@@ -2,7 +2,8 @@
 use Rattle.std.specs.Prelude.{◌≡◌, ℕ, ◌+◌, ◌-◌, ◌≤◌, ◌<◌, Bool, not, List, [], ◌∷◌, length, map, Option, Some, None, position, slice_index_or}
 use Rattle.std.specs.List.{All, IsDistinct, list_any}
 use Rattle.std.specs.Str.{bytes_eq}
-use Rattle.auction_rules.specs.limits.specs.declared.TheConstants.{MOST_BIDDERS, MOST_COUNT, MOST_POINTS, MOST_PRICE}
+use Rattle.auction_rules.specs.limits.specs.declared.TheConstants.{MOST_BIDDERS, MOST_COUNT, MOST_ELIGIBILITY, MOST_POINTS, MOST_PRICE}
+use Rattle.auction_rules.specs.limits.specs.declared.TheConstants.{MOST_CAP_LIMIT, MOST_CAP_WEIGHT, MOST_CAPS, MOST_EXCESS, MOST_PERMILLE, MOST_STEPS}
 use Rattle.auction_rules.specs.Terms.{SpectrumCap, Entrant, Terms}
 use Rattle.bid_book.specs.book_form.specs.BookForm.{IsName}
 use Rattle.auction_rules.specs.lots.specs.Limits.{IsSupply}
@@ -18,10 +19,10 @@ steps_with tick thresholds = record { tick = tick; thresholds = thresholds }
 abbrev pub steps_of : Terms → Steps
 steps_of terms = steps_with terms.tick terms.thresholds
 
--- each threshold has an excess above the one before and at most 1,000, and a permille of 1 to 1,000
+-- each threshold has an excess above the one before, and a permille of at least 1
 abbrev pub RiseAbove : ℕ → List (ℕ × ℕ) → Type 0
 RiseAbove low [] = Unit {0}
-RiseAbove low (t ∷ ts) = (low < t.0) × (t.0 ≤ 1000) × (1 ≤ t.1) × (t.1 ≤ 1000) × RiseAbove t.0 ts
+RiseAbove low (t ∷ ts) = (low < t.0) × (t.0 ≤ MOST_EXCESS) × (1 ≤ t.1) × (t.1 ≤ MOST_PERMILLE) × RiseAbove t.0 ts
 
 -- there is a threshold, and the first has the excess 1
 abbrev pub AreThresholds : List (ℕ × ℕ) → Type 0
@@ -32,21 +33,21 @@ AreThresholds (t ∷ ts) = (t.0 ≡ 1) × RiseAbove 0 (t ∷ ts)
 pub record IsSteps (steps : Steps) : Type 0 where
   pub some_tick : 1 ≤ steps.tick
   pub tick_top : steps.tick ≤ MOST_PRICE
-  pub few : length steps.thresholds ≤ 20
+  pub few : length steps.thresholds ≤ MOST_STEPS
   pub thresholds : AreThresholds steps.thresholds
 
 -- a bidder of an award with so many categories
 pub record IsEntrant (categories : ℕ) (e : Entrant) : Type 0 where
   pub name : IsName e.name
-  pub eligibility : e.eligibility ≤ 1000000
+  pub eligibility : e.eligibility ≤ MOST_ELIGIBILITY
   pub holding : length e.holding ≡ categories
   pub most_held : All (λ n. n ≤ MOST_COUNT) e.holding
 
 -- a spectrum cap of an award with so many categories
 pub record IsCap (categories : ℕ) (r : SpectrumCap) : Type 0 where
   pub weights : length r.weights ≡ categories
-  pub most_weight : All (λ w. w ≤ 1000) r.weights
-  pub limit : r.limit ≤ 1000000
+  pub most_weight : All (λ w. w ≤ MOST_CAP_WEIGHT) r.weights
+  pub limit : r.limit ≤ MOST_CAP_LIMIT
 
 abbrev pub name_of : Entrant → List ℕ
 name_of e = e.name
@@ -70,7 +71,7 @@ pub record IsAward (terms : Terms) : Type 0 where
   pub few_bidders : length terms.bidders ≤ MOST_BIDDERS
   pub bidders : All (IsEntrant (length terms.supply)) terms.bidders
   pub apart : AreNamedApart terms.bidders
-  pub few_caps : length terms.caps ≤ 20
+  pub few_caps : length terms.caps ≤ MOST_CAPS
   pub caps : All (IsCap (length terms.supply)) terms.caps
 
 abbrev pub entrant_with : List ℕ → ℕ → List ℕ → Entrant

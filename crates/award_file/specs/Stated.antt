@@ -1,7 +1,9 @@
 -- What the keys of a table state, each where it follows its rule.
-use Rattle.std.specs.Prelude.{ℕ, ℤ, pos, negsuc, ◌&&◌, ◌||◌, not, ◌==◌, Bool, false, if◌then◌else◌, List, [], ◌∷◌, codes, Option, Some, None, option_map, option_and_then, length, nat_le}
+use Rattle.std.specs.Prelude.{ℕ, ℤ, pos, negsuc, ◌&&◌, ◌||◌, not, ◌==◌, Bool, false, if◌then◌else◌, List, [], ◌∷◌, codes, length, nat_le, nat_lt}
+use Rattle.std.specs.Prelude.{Option, Some, None, option_map, option_and_then}
 use Rattle.std.specs.List.{list_all, list_any}
 use Rattle.std.specs.Str.{bytes_eq}
+use Rattle.auction_rules.specs.limits.specs.declared.TheConstants.{MOST_NAME_BYTES}
 use Rattle.toml.specs.Data.{Data, array, table, Items, no_items, item, Members, no_members, member, get_member, as_str, as_integer}
 use Rattle.toml.specs.Text.{are_tables}
 
@@ -49,10 +51,10 @@ is_letter c = nat_le 97 c && nat_le c 122
 abbrev pub is_name_byte : ℕ → Bool
 is_name_byte c = is_letter c || ((nat_le 48 c && nat_le c 57) || c == 95)
 
--- 1 to 20 bytes of letters, digits and '_', a letter first
+-- 1 to `MOST_NAME_BYTES` letters, digits and '_', a letter first
 abbrev pub is_name : List ℕ → Bool
 is_name [] = false
-is_name (c ∷ cs) = is_letter c && (list_all is_name_byte cs && nat_le (length cs) 19)
+is_name (c ∷ cs) = is_letter c && (list_all is_name_byte cs && nat_lt (length cs) MOST_NAME_BYTES)
 
 -- the string that a key states
 abbrev pub string_at : List ℕ → Members → Option (List ℕ)

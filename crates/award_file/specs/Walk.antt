@@ -1,7 +1,8 @@
 -- The walk over the rules of an award: the first that a table breaks, and the terms of a table that breaks none.
 use Rattle.std.specs.Prelude.{ℕ, ◌+◌, ◌-◌, ◌^◌, min, ◌&&◌, not, ◌==◌, Bool, true, false, if◌then◌else◌, List, [], ◌∷◌, ◌++◌, map, codes, Option, Some, None, is_some, option_and_then, unwrap_or, length, replicate, nat_le, nat_lt}
 use Rattle.std.specs.Option.{option_or}
-use Rattle.auction_rules.specs.limits.specs.declared.TheConstants.{MOST_COUNT, MOST_POINTS, MOST_PRICE}
+use Rattle.auction_rules.specs.limits.specs.declared.TheConstants.{MOST_COUNT, MOST_ELIGIBILITY, MOST_POINTS, MOST_PRICE}
+use Rattle.auction_rules.specs.limits.specs.declared.TheConstants.{MOST_CAP_LIMIT, MOST_CAP_WEIGHT, MOST_CAPS, MOST_EXCESS, MOST_PERMILLE, MOST_STEPS}
 use Rattle.toml.specs.Data.{Data, Members, get_member}
 use Rattle.auction_rules.specs.Step.{last_or}
 use Rattle.auction_rules.specs.Terms.{Terms, Entrant, SpectrumCap}
@@ -87,9 +88,9 @@ categories_fault t = list_fault 3 (tables_fault category_fault name_or_none []) 
 abbrev pub bidder_keys : List (List ℕ)
 bidder_keys = codes "name" ∷ codes "eligibility" ∷ codes "holding" ∷ []
 
--- at most 1,000,000 points
+-- points of a bidder
 abbrev pub eligibility_at : Members → Option ℕ
-eligibility_at t = number_at 0 1000000 (codes "eligibility") t
+eligibility_at t = number_at 0 MOST_ELIGIBILITY (codes "eligibility") t
 
 -- for each category a holding, or no lots at all where the key is missing
 abbrev pub holding_in : ℕ → Option Data → Option (List ℕ)
@@ -123,13 +124,13 @@ bidders_fault categories t = list_fault 8 (tables_fault (bidder_fault categories
 abbrev pub step_keys : List (List ℕ)
 step_keys = codes "excess" ∷ codes "permille" ∷ []
 
--- an excess of 1 to 1,000
+-- an excess of at least 1
 abbrev pub excess_at : Members → Option ℕ
-excess_at t = number_at 1 1000 (codes "excess") t
+excess_at t = number_at 1 MOST_EXCESS (codes "excess") t
 
--- 1 to 1,000 thousandths
+-- at least one thousandth
 abbrev pub permille_at : Members → Option ℕ
-permille_at t = number_at 1 1000 (codes "permille") t
+permille_at t = number_at 1 MOST_PERMILLE (codes "permille") t
 
 -- the excess behind these: the first is 1, and each other one is greater than that before it
 abbrev pub comes_next : List ℕ → Option ℕ → Bool
@@ -149,9 +150,9 @@ step_fault before t = first_fault (
     ∷ unless (not (has_other step_keys t)) 18 (entry_behind (length before))
     ∷ [])
 
--- 1 to 20 steps
+-- at least one step
 abbrev pub steps_at : Members → Option (List Members)
-steps_at t = tables_at (λ n. nat_le 1 n && nat_le n 20) (codes "step") t
+steps_at t = tables_at (λ n. nat_le 1 n && nat_le n MOST_STEPS) (codes "step") t
 
 -- the first fault of the steps
 abbrev pub steps_fault : Members → Option Fault
@@ -163,13 +164,13 @@ steps_fault t = list_fault 12 (tables_fault step_fault excess_or_none []) (steps
 abbrev pub cap_keys : List (List ℕ)
 cap_keys = codes "weight" ∷ codes "limit" ∷ []
 
--- for each category a weight of at most 1,000
+-- for each category a weight
 abbrev pub weights_at : ℕ → Members → Option (List ℕ)
-weights_at categories t = option_and_then (row_of categories 1000) (get_member (codes "weight") t)
+weights_at categories t = option_and_then (row_of categories MOST_CAP_WEIGHT) (get_member (codes "weight") t)
 
--- a limit of at most 1,000,000
+-- the limit of a cap
 abbrev pub limit_at : Members → Option ℕ
-limit_at t = number_at 0 1000000 (codes "limit") t
+limit_at t = number_at 0 MOST_CAP_LIMIT (codes "limit") t
 
 -- the limit that a table states, or none
 abbrev pub limit_or_none : Members → ℕ
@@ -183,9 +184,9 @@ cap_fault categories before t = first_fault (
     ∷ unless (not (has_other cap_keys t)) 18 (entry_behind (length before))
     ∷ [])
 
--- at most 20 caps
+-- no more caps than are allowed
 abbrev pub caps_at : Members → Option (List Members)
-caps_at t = tables_at (λ n. nat_le n 20) (codes "cap") t
+caps_at t = tables_at (λ n. nat_le n MOST_CAPS) (codes "cap") t
 
 -- the first fault of the caps
 abbrev pub caps_fault : ℕ → Members → Option Fault

@@ -1,6 +1,6 @@
 // Awards, and the calls that read them.
 ghost use Rattle.std.specs.Prelude.{◌≡◌, ℕ, ◌≤◌, ◌<◌, length, option_map};
-ghost use Rattle.auction_rules.specs.limits.specs.declared.TheConstants.{MOST_BIDDERS};
+ghost use Rattle.auction_rules.specs.limits.specs.declared.TheConstants.{MOST_BIDDERS, MOST_ELIGIBILITY};
 ghost use Rattle.auction_rules.specs.Terms.{broken_cap, entrant, final_cap};
 ghost use Rattle.award_file.specs.Award.{IsAward, number_of, steps_of, terms_with};
 ghost use Rattle.award_file.specs.Fields.{fault_value, cap_values};
@@ -59,6 +59,14 @@ impl Award {
             bidders,
             caps,
         }
+    }
+
+    /// The rules that each award keeps. Nothing is done: proofs read the clause.
+    pub fn kept(&self)
+        ensures { IsAward self.now }
+    {
+        // The rules of a type are known where a field of it is used.
+        let _ = &self.supply;
     }
 
     /// The version of the award: 1, or 2 with a final cap.
@@ -145,11 +153,11 @@ impl Award {
         self.bidders.number_of(name)
     }
 
-    /// The points for which bidder `j` is eligible in round 1, at most 1,000,000.
+    /// The points for which bidder `j` is eligible in round 1.
     pub fn eligibility(&self, j: u16) -> u64
         requires { (1 ≤ j) × (j ≤ length self.now.bidders) }
         ensures eligibility { result ≡ (entrant self.now j).eligibility }
-        ensures most { result ≤ 1000000 }
+        ensures most { result ≤ MOST_ELIGIBILITY }
     {
         self.bidders.eligibility(j)
     }

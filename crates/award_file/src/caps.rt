@@ -1,6 +1,6 @@
 // Spectrum caps.
 ghost use Rattle.std.specs.Prelude.{◌≡◌, ◌≤◌, length, All, option_map};
-ghost use Rattle.auction_rules.specs.limits.specs.declared.TheConstants.{MOST_CATEGORIES};
+ghost use Rattle.auction_rules.specs.limits.specs.declared.TheConstants.{MOST_CAP_WEIGHT, MOST_CAPS, MOST_CATEGORIES};
 ghost use Rattle.auction_rules.specs.auction_model.specs.Package.{together, cost_of};
 ghost use Rattle.auction_rules.specs.Terms.{first_broken};
 ghost use Rattle.award_file.specs.Award.{IsCap};
@@ -29,7 +29,7 @@ fn weight_of(weights: &[u16], counts: &[u16], holding: &[u16]) -> u64
     requires categories { length counts.now ≤ MOST_CATEGORIES }
     requires weights { length weights.now ≡ length counts.now }
     requires holding { length holding.now ≡ length counts.now }
-    requires most { All (λ w. w ≤ 1000) weights.now }
+    requires most { All (λ w. w ≤ MOST_CAP_WEIGHT) weights.now }
     ensures { result ≡ cost_of weights.now (together counts.now holding.now) }
 {
     let mut sum = 0u64;
@@ -41,7 +41,7 @@ fn weight_of(weights: &[u16], counts: &[u16], holding: &[u16]) -> u64
 
 /// The first of the caps that the counts exceed with the holding.
 pub fn first_exceeded(caps: &[SpectrumCap], counts: &[u16], holding: &[u16]) -> Option<CapFault>
-    requires few { length caps.now ≤ 20 }
+    requires few { length caps.now ≤ MOST_CAPS }
     requires categories { length counts.now ≤ MOST_CATEGORIES }
     requires holding { length holding.now ≡ length counts.now }
     requires each { All (IsCap (length counts.now)) (cap_values caps.now) }

@@ -1,5 +1,6 @@
 // The price step of an award.
 ghost use Rattle.std.specs.Prelude.{◌≡◌, ◌≤◌, All, IfOk};
+ghost use Rattle.auction_rules.specs.limits.specs.declared.TheConstants.{MOST_PERMILLE};
 ghost use Rattle.award_file.specs.Award.{IsSteps, steps_with};
 
 use std::alloc::{AllocError, Global};
@@ -24,8 +25,9 @@ impl Model for StepTable {
 }
 
 impl StepTable {
-    /// The table of this tick and these thresholds, each an excess and its permille. The tick is 1 to 2^36, and there are 1 to
-    /// 20 thresholds: the excesses begin at 1 and rise to at most 1,000, and each permille is 1 to 1,000.
+    /// The table of this tick and these thresholds, each an excess and its permille. The tick is at least 1 and at most
+    /// `MOST_PRICE`, and there are 1 to `MOST_STEPS` thresholds: the excesses begin at 1 and rise to at most `MOST_EXCESS`, and each
+    /// permille is 1 to `MOST_PERMILLE`.
     pub fn new(alloc: Global, tick: u64, thresholds: &[(u64, u64)]) -> Result<StepTable, AllocError>
         requires { IsSteps (steps_with tick thresholds.now) }
         ensures { IfOk result (λ t. t ≡ steps_with tick thresholds.now) }
@@ -45,7 +47,7 @@ impl StepTable {
     /// The thresholds, each its excess and its permille.
     pub fn thresholds(&self) -> &[(u64, u64)]
         ensures thresholds { result.now ≡ self.now.thresholds }
-        ensures most { All (λ t. t.1 ≤ 1000) result.now }
+        ensures most { All (λ t. t.1 ≤ MOST_PERMILLE) result.now }
         ensures kept { IsSteps self.now }
     {
         &self.thresholds

@@ -40,6 +40,9 @@ pub const BOOK_BYTES: u64 = 1_048_576;
 /// The most bytes of a certificate file.
 pub const CERT_BYTES: u64 = 67_108_864;
 
+/// The text of a certificate that pricing writes has fewer bytes than this, where the book is within its limits.
+pub const PRICED_CERT_BYTES: u64 = 57_000_000;
+
 /// The most bytes of a file of weights.
 pub const WEIGHTS_BYTES: u64 = 65_536;
 
@@ -81,6 +84,33 @@ pub const MOST_DRAFTS: u64 = 300;
 
 /// The most eligibility points of a lot.
 pub const MOST_POINTS: u64 = 10_000;
+
+/// The most eligibility points of a bidder in round 1.
+pub const MOST_ELIGIBILITY: u64 = 1_000_000;
+
+/// The most steps of an award.
+pub const MOST_STEPS: usize = 20;
+
+/// The greatest excess demand that a step of an award may name, in lots.
+pub const MOST_EXCESS: u64 = 1_000;
+
+/// The greatest raise of a step of an award, in thousandths.
+pub const MOST_PERMILLE: u64 = 1_000;
+
+/// The most spectrum caps of an award.
+pub const MOST_CAPS: usize = 20;
+
+/// The greatest weight of a lot in a spectrum cap.
+pub const MOST_CAP_WEIGHT: u16 = 1_000;
+
+/// The greatest limit of a spectrum cap, in weighted lots.
+pub const MOST_CAP_LIMIT: u64 = 1_000_000;
+
+/// The greatest count of a category that a line may state for a package, which need not fit the supply.
+pub const MOST_STATED_COUNT: u64 = 65_535;
+
+/// The greatest amount that a line may state, which may be above the greatest of a bid: 10^18.
+pub const MOST_STATED_AMOUNT: u64 = 1_000_000_000_000_000_000;
 
 /// The most bytes of a name.
 pub const MOST_NAME_BYTES: usize = 20;

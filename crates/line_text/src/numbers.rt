@@ -3,6 +3,8 @@ ghost use Rattle.std.specs.Prelude.{◌≡◌, ◌≢◌, ℕ, ◌+◌, ◌*◌,
 ghost use Rattle.line_text.specs.Numeral.{numbers_text};
 ghost use Rattle.line_text.specs.Fields.{FieldEnds, ReadsNatural, ReadsSigned, IsField, IsTally, HasNoLeadingZero, IsNoField, KeepsField, HasNumbers};
 
+use wide_num::EDGE;
+
 /// A number at the front of a text, and where its digits end.
 #[derive(Clone, Copy)]
 enum Natural {
@@ -46,8 +48,6 @@ pub enum NumbersStop {
     /// There was no memory.
     Memory,
 }
-
-const TOP: u128 = 1 << 120;
 
 /// A number below this is of 64 bits with one more digit.
 const SHORT: u64 = 1 << 60;
@@ -202,13 +202,13 @@ fn more(tally: Tally, digit: u8) -> Tally
     requires { digit < 10 }
     ensures { (value : ℕ) → IsTally tally value → IsTally result (10 * value + digit) }
 {
-    if tally.beyond || tally.n >= TOP {
+    if tally.beyond || tally.n >= EDGE {
         return Tally { n: 0, beyond: true };
     }
     let n = 10 * tally.n + digit as u128;
     Tally {
         n,
-        beyond: n >= TOP,
+        beyond: n >= EDGE,
     }
 }
 

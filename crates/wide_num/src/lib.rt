@@ -9,8 +9,8 @@ pub use arithmetic::{add, div_exact, gcd, mul, sub};
 pub use decimals::{digits, read_natural, read_number};
 pub use lists::{NumList, Text};
 
-/// The least size that leaves the range.
-const EDGE: u128 = 1 << 120;
+/// The least size that leaves the range: 2^120.
+pub const EDGE: u128 = 1 << 120;
 
 /// An operation on two numbers of the range.
 #[derive(Clone, Copy, Debug, Drop, PartialEq, Eq)]

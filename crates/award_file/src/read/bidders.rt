@@ -11,16 +11,13 @@ use crate::read::AwardStop;
 use crate::read::fields::{
     broken, broken_top, has_other, list_at, name_at, number_at, row_of, value_at,
 };
-use auction_rules::limits::MOST_COUNT;
+use auction_rules::limits::{MOST_COUNT, MOST_ELIGIBILITY};
 use std::alloc::{AllocError, Global};
 use toml::Value;
 use toml::value::Table;
 
 /// The keys of a bidder.
 const BIDDER_KEYS: [&str; 3] = ["name", "eligibility", "holding"];
-
-/// The most points for which a bidder is eligible in round 1.
-const MOST_ELIGIBILITY: u64 = 1_000_000;
 
 /// The most lots of a category that a bidder holds already.
 const MOST_HOLDING: u16 = MOST_COUNT as u16;

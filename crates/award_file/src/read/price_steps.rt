@@ -8,21 +8,13 @@ ghost use Rattle.award_file.specs.Walk as walk;
 
 use crate::read::AwardStop;
 use crate::read::fields::{broken, broken_top, has_other, list_at, number_at};
+use auction_rules::limits::{MOST_EXCESS, MOST_PERMILLE, MOST_STEPS};
 use std::alloc::Global;
 use toml::Value;
 use toml::value::Table;
 
 /// The keys of a step.
 const STEP_KEYS: [&str; 2] = ["excess", "permille"];
-
-/// The most steps.
-const MOST_STEPS: usize = 20;
-
-/// The greatest excess of a step.
-const MOST_EXCESS: u64 = 1000;
-
-/// The greatest raise of a step, in thousandths.
-const MOST_PERMILLE: u64 = 1000;
 
 /// Reads the steps that a table states, each an excess and its permille.
 pub fn read_steps(alloc: Global, table: &Table) -> Result<Vec<(u64, u64)>, AwardStop>

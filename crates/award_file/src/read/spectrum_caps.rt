@@ -10,21 +10,13 @@ ghost use Rattle.award_file.specs.Walk as walk;
 use crate::caps::SpectrumCap;
 use crate::read::AwardStop;
 use crate::read::fields::{broken, broken_top, has_other, list_at, number_at, row_of, value_at};
+use auction_rules::limits::{MOST_CAP_LIMIT, MOST_CAP_WEIGHT, MOST_CAPS};
 use std::alloc::{AllocError, Global};
 use toml::Value;
 use toml::value::Table;
 
 /// The keys of a cap.
 const CAP_KEYS: [&str; 2] = ["weight", "limit"];
-
-/// The most caps.
-const MOST_CAPS: usize = 20;
-
-/// The greatest weight of a category.
-const MOST_WEIGHT: u16 = 1000;
-
-/// The greatest limit of a cap.
-const MOST_LIMIT: u64 = 1_000_000;
 
 /// Reads the caps that a table states, where there are so many categories.
 pub fn read_caps(
@@ -86,7 +78,7 @@ fn read_cap(
     let Some(weights) = weights_at(alloc, table, categories)? else {
         return Err(broken(16, before.len()));
     };
-    let Some(limit) = number_at(table, "limit", 0, MOST_LIMIT) else {
+    let Some(limit) = number_at(table, "limit", 0, MOST_CAP_LIMIT) else {
         return Err(broken(17, before.len()));
     };
     if has_other(table, &CAP_KEYS) {
@@ -104,7 +96,7 @@ fn weights_at(
     ensures { IfOk result (λ r. option_map (λ v. v.items) r ≡ walk.weights_at categories (table_view table.now)) }
 {
     match value_at(table, "weight") {
-        Some(value) => row_of(alloc, value, categories, MOST_WEIGHT),
+        Some(value) => row_of(alloc, value, categories, MOST_CAP_WEIGHT),
         None => Ok(None),
     }
 }

@@ -5,8 +5,7 @@ ghost use Rattle.cert_pieces.specs.Tallies.{IsTally};
 ghost use Rattle.cert_pieces.specs.Pieces.{between};
 
 use crate::line::tally::Tally;
-
-const TOP: u128 = 1 << 120;
+use cert_text::wide_num::EDGE;
 
 /// The tally of a first digit.
 pub(crate) fn first(digit: u8) -> Tally
@@ -25,7 +24,7 @@ pub(crate) fn more(tally: Tally, digit: u8) -> Tally
     ensures { (value : ℕ) → IsTally tally value → IsTally result (10 * value + digit) }
 {
     let size = 10 * tally.size + digit as u128;
-    if tally.beyond || size >= TOP {
+    if tally.beyond || size >= EDGE {
         return Tally {
             size: 0,
             beyond: true,
