@@ -138,7 +138,8 @@ parts-pass : (t : Members) → walk.award_fault t ≡ None → (is_some (walk.ve
 parts-pass t h =
     top-passes (is_some (walk.version_at t)) (is_some (walk.tick_at t)) (not (has_other walk.top_keys t)) (walk.categories_fault t) (walk.bidders_fault (walk.category_count t) t) (walk.steps_fault t) (walk.caps_fault (walk.category_count t) t) h
 
-offer-of : (t : Members) → walk.award_fault t ≡ None → IsOffer (walk.terms_of t).supply
+-- a table without a fault has at least one category, each of 1 to 999 lots
+pub offer-of : (t : Members) → walk.award_fault t ≡ None → IsOffer (walk.terms_of t).supply
 offer-of t h =
     let categories = categories-are t (parts-pass t h).2 in
     let count = length-map (walk.categories_of t) (λ c. c.supply) in
@@ -186,7 +187,16 @@ caps-of t h =
           (each (walk.cap_fault n) walk.limit_or_none (λ b. IsCap n (walk.cap_of n b)) (cap-is n) [] tables list.1)),
     )
 
-award-of : (t : Members) → walk.award_fault t ≡ None → IsSupply (walk.terms_of t).supply → length (walk.terms_of t).bidders ≤ 16 → AreNamedApart (walk.terms_of t).bidders → IsAward (walk.terms_of t)
+-- the names of the bidders of a table without a fault are each new
+pub names-of : (t : Members) → walk.award_fault t ≡ None
+    → tables_fault (walk.bidder_fault (walk.category_count t)) walk.name_or_none [] (unwrap_or (walk.bidders_at t) []) ≡ None
+names-of t h =
+    let n = walk.category_count t in
+    (list-passes 8 (tables_fault (walk.bidder_fault n) walk.name_or_none []) (walk.bidders_at t) (parts-pass t h).3).1
+
+-- a table without a fault, whose terms are within the limits and name their bidders apart, states a lawful award
+pub award-of : (t : Members) → walk.award_fault t ≡ None → IsSupply (walk.terms_of t).supply → length (walk.terms_of t).bidders ≤ 16
+    → AreNamedApart (walk.terms_of t).bidders → IsAward (walk.terms_of t)
 award-of t h supply few apart =
     let categories = (categories-are t (parts-pass t h).2).1 in
     let count : length (walk.terms_of t).supply ≡ walk.category_count t = same-count walk.category_of (λ c. c.supply) (unwrap_or (walk.categories_at t) []) in
@@ -213,8 +223,3 @@ offer-stated terms h = subst (λ (x : Terms). IsOffer x.supply) h.is (offer-of h
 -- the tick and the thresholds of stated terms keep what a step table keeps
 pub steps-stated : (terms : Terms) → IsStated terms → IsSteps (steps_of terms)
 steps-stated terms h = subst (λ (x : Terms). IsSteps (steps_of x)) h.is (steps-of h.stated h.passes)
-
--- stated terms with a supply, at most 16 bidders and no name twice keep what an award keeps
-pub award-stated : (terms : Terms) → IsStated terms → IsSupply terms.supply → length terms.bidders ≤ 16 → AreNamedApart terms.bidders → IsAward terms
-award-stated terms h supply few apart =
-    subst (λ (x : Terms). IsSupply x.supply → length x.bidders ≤ 16 → AreNamedApart x.bidders → IsAward x) h.is (award-of h.stated h.passes) supply few apart

@@ -6,6 +6,7 @@ mod StepOrder
 mod ListLaws
 mod FaultLaws
 mod AwardLaws
+mod StatedAwards
 mod LimitLaws
 mod PartLaws
 mod ReadingLaws

@@ -1,5 +1,5 @@
 // Laws of awards.
-ghost use Rattle.std.specs.Prelude.{List};
+ghost use Rattle.std.specs.Prelude.{◌≡◌, List, ℕ};
 ghost use Rattle.std.specs.List.{AllByRecursion};
 ghost use Rattle.bid_book.specs.book_form.specs.BookLines.{IsBookWithinLimits};
 ghost use Rattle.auction_rules.specs.declared.Event.{Event};
@@ -7,6 +7,7 @@ ghost use Rattle.auction_rules.specs.BookOfLog.{book_of_log};
 ghost use Rattle.auction_rules.specs.Lawful.{HasCategories};
 ghost use Rattle.auction_rules.specs.Terms.{Terms};
 ghost use Rattle.award_file.specs.Award.{IsAward};
+ghost use Rattle.award_file.specs.Reading.{reading, states};
 
 use auction_rules::{bids_of_book, book_in_order, lawful_bids, package_tests};
 
@@ -21,3 +22,8 @@ pub fn book_of_award()
     lawful_bids();
     package_tests();
 }
+
+/// What the bytes of an award file state keeps all rules and limits of an award.
+pub fn stated_award()
+    ensures { (bytes : List ℕ) (terms : Terms) → reading bytes ≡ states terms → IsAward terms }
+{}

@@ -16,6 +16,6 @@ pub use award::Award;
 pub use bid_book;
 pub use bid_book::{line_text, wide_num};
 pub use caps::CapFault;
-pub use laws::book_of_award;
+pub use laws::{book_of_award, stated_award};
 pub use read::{AwardStop, read_award};
 pub use steps::StepTable;

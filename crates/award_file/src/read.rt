@@ -3,7 +3,6 @@ ghost use Rattle.std.specs.Prelude.{◌≡◌, IfErr, IfOk, None, Some, map};
 ghost use Rattle.toml.specs.View.{table_view};
 ghost use Rattle.bid_book.specs.book_form.specs.BookForm.{IsOffer};
 ghost use Rattle.bid_book.specs.book_form.specs.BookLines.{supply_excess};
-ghost use Rattle.auction_rules.specs.lots.specs.Limits.{IsSupply};
 ghost use Rattle.award_file.specs.Award.{IsAward};
 ghost use Rattle.award_file.specs.Parts.{award_value, counts, terms_value};
 ghost use Rattle.award_file.specs.Reading.{IsFault, IsLimit, IsStated, IsStop, limit_stop, reading, reading_of, states, terms_excess};
@@ -217,8 +216,7 @@ fn made_of(alloc: Global, parts: &Parts) -> Result<Made, AwardStop>
 fn make_supply(alloc: Global, categories: &[Category]) -> Result<Supply, AwardStop>
     requires { IsOffer (counts categories.now) }
     ensures ok { IfOk result
-        (λ supply. (supply ≡ counts categories.now) × IsSupply supply
-        × (supply_excess (counts categories.now) ≡ None)) }
+        (λ supply. (supply ≡ counts categories.now) × (supply_excess (counts categories.now) ≡ None)) }
     ensures err { IfErr result (IsLimit (supply_excess (counts categories.now))) }
 {
     let counts = counts_of(alloc, categories)?;

@@ -1,14 +1,14 @@
-use Rattle.std.proofs.Common.{◌≡◌, ℕ, None, List, length, map, sym, ap, subst, ◌∙◌, arith}
+use Rattle.std.proofs.Common.{◌≡◌, ℕ, ◌≤◌, None, List, length, map, sym, ap, subst, ◌∙◌, arith}
 use Rattle.std.proofs.lemmas.Result.{err_from_is_err_and}
 use Rattle.bid_book.specs.book_form.specs.BookForm.{IsOffer}
 use Rattle.bid_book.specs.book_form.specs.BookLines.{supply_excess}
-use Rattle.auction_rules.specs.lots.specs.Limits.{IsSupply}
 use Rattle.award_file.specs.declared.read.categories.Category.{Category as Read}
 use Rattle.award_file.specs.Award.{IsAward, IsSteps, steps_with}
 use Rattle.award_file.specs.Parts.{counts, terms_value}
-use Rattle.award_file.specs.Reading.{IsLimit, bidders_excess}
-use Rattle.award_file.proofs.AwardLaws.{offer-stated, steps-stated, award-stated}
+use Rattle.award_file.specs.Reading.{IsLimit, bidders_excess, terms_excess}
+use Rattle.award_file.proofs.AwardLaws.{offer-stated, steps-stated}
 use Rattle.award_file.proofs.PartLaws.{counts-are, parts-make, first-limits, bidders-exceed, none-exceeded}
+use Rattle.award_file.proofs.StatedAwards.{award-stated}
 use Rattle.award_file.proofs.read.made_of.Goals as goal
 
 pub make_supply-requires : goal.make_supply-requires
@@ -28,7 +28,7 @@ pub returns-then-bidders-gt-MOST_BIDDERS-clause-err : goal.returns-then-bidders-
 returns-then-bidders-gt-MOST_BIDDERS-clause-err c =
     let p = c.args.parts.now in
     let are = ap counts c.deref.ensures.value ∙ sym (counts-are p.categories.items) in
-    let none : supply_excess (terms_value p).supply ≡ None = ap supply_excess (sym are) ∙ c.in_ok-supply.ensures.ok.2 in
+    let none : supply_excess (terms_value p).supply ≡ None = ap supply_excess (sym are) ∙ c.in_ok-supply.ensures.ok.1 in
     let count : c.count-bidders.result ≡ length (terms_value p).bidders = c.count-bidders.ensures.count in
     rw count (bidders-exceed (supply_excess (terms_value p).supply) (length (terms_value p).bidders) none (omega (arith, count, c.if-bidders-gt-MOST_BIDDERS.true)))
 
@@ -44,8 +44,9 @@ returns-clause-ok c =
     let steps = c.in_ok-steps.ensures ∙ ap (λ ts. steps_with p.tick ts) c.deref-4.ensures.value in
     let terms = parts-make p c.in_ok-supply.supply c.in_ok-points.points.items c.in_ok-reserves.reserves.items c.in_ok-steps.steps supply points reserves steps in
     let are = ap counts c.deref.ensures.value ∙ sym (counts-are p.categories.items) in
-    let none : supply_excess (terms_value p).supply ≡ None = ap supply_excess (sym are) ∙ c.in_ok-supply.ensures.ok.2 in
+    let none : supply_excess (terms_value p).supply ≡ None = ap supply_excess (sym are) ∙ c.in_ok-supply.ensures.ok.1 in
     let count : c.count-bidders.result ≡ length (terms_value p).bidders = c.count-bidders.ensures.count in
-    let kept : IsSupply (terms_value p).supply = subst IsSupply (supply ∙ sym (counts-are p.categories.items)) c.in_ok-supply.ensures.ok.1 in
-    let award = subst IsAward (sym terms) (award-stated (terms_value p) c.requires kept (omega (arith, count, c.if-bidders-gt-MOST_BIDDERS.false)) c.count-bidders.ensures.apart) in
-    (none-exceeded (supply_excess (terms_value p).supply) (length (terms_value p).bidders) none (omega (arith, count, c.if-bidders-gt-MOST_BIDDERS.false)), award, terms)
+    let few : length (terms_value p).bidders ≤ 16 = omega (arith, count, c.if-bidders-gt-MOST_BIDDERS.false) in
+    let within : terms_excess (terms_value p) ≡ None =
+    none-exceeded (supply_excess (terms_value p).supply) (length (terms_value p).bidders) none few in
+    (within, subst IsAward (sym terms) (award-stated (terms_value p) c.requires within), terms)

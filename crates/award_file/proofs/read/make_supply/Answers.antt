@@ -27,4 +27,4 @@ returns-clause-ok c =
     let made = c.in_ok-supply.ensures.made in
     let is : c.in_ok-supply.supply ≡ counts c.args.categories.now = made.0 ∙ lots_are in
     let kept : IsSupply (counts c.args.categories.now) = made-within (counts c.args.categories.now) c.requires (ap supply_stop (sym lots_are) ∙ made.1) in
-    (is, subst IsSupply (sym is) kept, supply_within (counts c.args.categories.now) kept)
+    (is, supply_within (counts c.args.categories.now) kept)
