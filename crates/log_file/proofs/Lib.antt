@@ -7,3 +7,5 @@ mod OneEvent
 mod OneReading
 mod WorkedCases
 mod Categories
+mod WrittenLog
+mod ReadSoFar

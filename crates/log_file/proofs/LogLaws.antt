@@ -3,10 +3,13 @@ use Rattle.std.proofs.Common.{◌≡◌, ℕ, suc, ◌<◌, List, [], ◌∷◌,
 use Rattle.std.proofs.lemmas.List.{append-nil}
 use Rattle.award_file.specs.auction_rules.specs.Terms.{Terms}
 use Rattle.award_file.specs.auction_rules.specs.declared.Event.{Event}
-use Rattle.std.specs.Prelude.{Option, Some, None, Result, Err, IfErr}
+use Rattle.std.specs.Prelude.{Result, Err, IfErr}
 use Rattle.log_file.specs.declared.LogStop.{LogStop}
 use Rattle.log_file.specs.declared.LogStop.TheVariants.{Memory}
-use Rattle.log_file.specs.LogForm.{States, StatesNone, ReadsAs}
+use Rattle.log_file.specs.LogForm.{States, StatesNone}
+use Rattle.log_file.specs.Statements.{IsUntaken, untaken_stop}
+use Rattle.log_file.specs.declared.read.RecordFault.{RecordFault}
+use Rattle.log_file.specs.declared.read.RecordFault.TheVariants.{NoEvent, TooMany}
 use Rattle.log_file.specs.LogReading.{AllState, AreLog, AreTooMany, BeginWith, IsFirstFault, IsStop}
 use Rattle.award_file.specs.limits.specs.declared.TheConstants.{MOST_RECORDS}
 
@@ -56,13 +59,21 @@ too_many terms rows events left r later had is many = (events, r, later, begin_a
 -- ---- answers
 
 -- a stop for want of memory may stand for any records
-pub memory_stop : {T : Type 0} (terms : Terms) (rows : Rows) (r : Result T LogStop) (e : LogStop) → r ≡ Err e → e ≡ Memory → IfErr r (IsStop terms rows)
-memory_stop terms rows r e is memory = rw (is, memory) tt
+pub memory_stop : {T : Type 0} (Has : Rows → Type 0) (terms : Terms) (r : Result T LogStop) (e : LogStop) → r ≡ Err e
+    → ((rows : Rows) → Has rows → e ≡ Memory) → IfErr r (λ stop. (rows : Rows) → Has rows → IsStop terms rows stop)
+memory_stop Has terms r e is memory = rw is (λ rows has. subst (IsStop terms rows) (sym (memory rows has)) tt)
 
--- a record that is read as an event states that event
-pub stated : (terms : Terms) (fields : List (List ℕ)) (o : Option Event) (e : Event) → o ≡ Some e → ReadsAs terms fields o → States terms fields e
-stated terms fields o e is reads = subst (ReadsAs terms fields) is reads
+-- the stop at a record that isn't taken is one of the records
+untaken : (terms : Terms) (rows : Rows) (events : List Event) (left : Rows) (r : List (List ℕ)) (later : Rows) (fault : RecordFault)
+    → BeginWith terms rows events left → left ≡ r ∷ later → IsUntaken terms r (length events) fault → IsStop terms rows (untaken_stop fault)
+untaken terms rows events left r later (NoEvent number) had is (none, few, at) =
+    subst (IsFirstFault terms rows) (sym at) (first_fault terms rows events left r later had is few none)
+untaken terms rows events left r later TooMany had is many = (too_many terms rows events left r later had is many, refl, refl)
 
--- a record that is read as no event states none
-pub unstated : (terms : Terms) (fields : List (List ℕ)) (o : Option Event) → o ≡ None → ReadsAs terms fields o → StatesNone terms fields
-unstated terms fields o is reads = subst (ReadsAs terms fields) is reads
+-- for all records that there may be
+pub fault_stop : {T : Type 0} (Has : Rows → Type 0) (terms : Terms) (events : List Event) (r : List (List ℕ)) (fault : RecordFault)
+    (result : Result T LogStop) (e : LogStop) → result ≡ Err e → e ≡ untaken_stop fault → IsUntaken terms r (length events) fault
+    → ((rows : Rows) → Has rows → (later : Rows) × BeginWith terms rows events (r ∷ later))
+    → IfErr result (λ stop. (rows : Rows) → Has rows → IsStop terms rows stop)
+fault_stop Has terms events r fault result e is stops not had =
+    rw (is, stops) (λ rows has. let h = had rows has in untaken terms rows events (r ∷ h.0) r h.0 fault h.1 refl not)

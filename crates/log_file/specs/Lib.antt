@@ -1,5 +1,7 @@
 pub mod LogForm
+pub mod LogText
 pub mod LogReading
+pub mod Statements
 pub mod ReplyText
 pub mod RecordsLeft
 pub use Rattle.award_file.specs.auction_model

@@ -2,6 +2,7 @@
 use Rattle.std.specs.Prelude.{◌≡◌, ℕ, ◌≤◌, ◌^◌, Option, Some, None, List, [], ◌∷◌, ◌++◌, codes, length}
 use Rattle.std.specs.List.{AllByRecursion}
 use Rattle.std.specs.Fmt.{decimal}
+use Rattle.award_file.specs.limits.specs.declared.TheConstants.{MOST_STATED_AMOUNT, MOST_STATED_COUNT}
 use Rattle.award_file.specs.book_form.specs.BookForm.{IsName}
 use Rattle.award_file.specs.line_text.specs.Decimals.{decimals_text}
 use Rattle.award_file.specs.auction_rules.specs.Terms.{Terms}
@@ -14,9 +15,9 @@ abbrev pub counts_text : List ℕ → List ℕ
 counts_text [] = []
 counts_text (n ∷ ns) = decimal n ++ decimals_text ns
 
--- the counts of a package: one of at most 65,535 for each category
+-- the counts of a package: one for each category
 abbrev pub AreCounts : ℕ → List ℕ → Type 0
-AreCounts categories lots = (length lots ≡ categories) × AllByRecursion (λ n. n ≤ 65535) lots
+AreCounts categories lots = (length lots ≡ categories) × AllByRecursion (λ n. n ≤ MOST_STATED_COUNT) lots
 
 -- the name of bidder k of the award, and of a stranger where k is 0
 abbrev pub IsNameOf : Terms → ℕ → List ℕ → Type 0
@@ -32,7 +33,7 @@ States terms fields (Bid k lots) =
     (name : List ℕ) × IsNameOf terms k name × AreCounts (length terms.supply) lots
     × (fields ≡ four (codes "bid") name (counts_text lots) [])
 States terms fields (Draft k lots amount) =
-    (name : List ℕ) × IsNameOf terms k name × AreCounts (length terms.supply) lots × (amount ≤ 10 ^ 18)
+    (name : List ℕ) × IsNameOf terms k name × AreCounts (length terms.supply) lots × (amount ≤ MOST_STATED_AMOUNT)
     × (fields ≡ four (codes "draft") name (counts_text lots) (decimal amount))
 States terms fields (Drop k lots) =
     (name : List ℕ) × IsNameOf terms k name × AreCounts (length terms.supply) lots

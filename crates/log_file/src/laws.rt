@@ -1,11 +1,13 @@
 // Laws of the form of logs. Each function here does nothing, and its contract is the law.
-ghost use Rattle.std.specs.Prelude.{◌≡◌, ℕ, List};
+ghost use Rattle.std.specs.Prelude.{◌≡◌, ◌≤◌, ℕ, List, length};
 ghost use Rattle.std.specs.List.{AllByRecursion};
+ghost use Rattle.award_file.specs.limits.specs.declared.TheConstants.{MOST_RECORDS};
 ghost use Rattle.award_file.specs.auction_rules.specs.Lawful.{HasCategories};
 ghost use Rattle.award_file.specs.auction_rules.specs.Terms.{Terms};
 ghost use Rattle.award_file.specs.auction_rules.specs.declared.Event.{Event};
 ghost use Rattle.log_file.specs.LogForm.{States};
-ghost use Rattle.log_file.specs.LogReading.{AreLog, AreTooMany, IsFirstFault};
+ghost use Rattle.log_file.specs.LogReading.{AreLog, AreTooMany, IsFirstFault, log_records};
+ghost use Rattle.log_file.specs.LogText.{IsStatable, log_text};
 
 /// Records have one reading: a record states at most one event, and of being a log of these events, having this first faulty
 /// record and being too many only one holds, with one value.
@@ -28,4 +30,10 @@ pub fn one_reading()
 pub fn packages_of_log()
     ensures { (terms : Terms) (rows : List (List (List ℕ))) (events : List Event) → AreLog terms rows events
         → AllByRecursion (HasCategories terms) events }
+{}
+
+/// The text of events is read as these events, where a record can state each of them and there aren't too many.
+pub fn written_log()
+    ensures { (terms : Terms) (name : ℕ → List ℕ) (events : List Event) → AllByRecursion (IsStatable terms name) events
+        → length events ≤ MOST_RECORDS → AreLog terms (log_records (log_text name events)) events }
 {}

@@ -16,7 +16,7 @@ pub use award_file::auction_rules::{Event, Reply};
 pub use award_file::limits::LimitKind;
 pub use award_file::{auction_rules, bid_book, limits, wide_num};
 pub use events::Events;
-pub use laws::{one_reading, packages_of_log};
+pub use laws::{one_reading, packages_of_log, written_log};
 pub use read::read_log;
 pub use reply::reply_line;
 use std::alloc::{AllocError, AllocFailed};

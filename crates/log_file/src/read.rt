@@ -1,16 +1,39 @@
 // The reader of log files.
-ghost use Rattle.std.specs.Prelude.{◌≡◌, ℕ, suc, List, length, Some, Err, IfErr, IfOk, if◌then◌else◌};
+ghost use Rattle.std.specs.Prelude.{◌≡◌, ◌≤◌, ◌<◌, ℕ, suc, List, [], length, Some, Err, IfErr, IfOk, OnOk, if◌then◌else◌};
+ghost use Rattle.award_file.specs.limits.specs.declared.TheConstants.{MOST_RECORDS};
 ghost use Rattle.csv.specs.Reading.{error_kind, stops_reader};
 ghost use Rattle.csv.specs.Records.{fields_of};
+ghost use Rattle.log_file.specs.LogForm.{States};
 ghost use Rattle.log_file.specs.LogReading.{AreLog, IsStop, log_records};
 ghost use Rattle.log_file.specs.RecordsLeft.{HasLeft, Takes};
+ghost use Rattle.log_file.specs.Statements.{IsUntaken, event_stated, untaken_stop};
 
-use crate::record::read_event;
+use crate::record::{Statement, read_statement};
 use crate::{Events, LimitKind, LogStop};
 use award_file::Award;
 use award_file::limits::MOST_RECORDS;
 use csv::{ByteRecord, Error, ErrorKind, Reader, ReaderBuilder};
 use std::alloc::Global;
+
+/// Why a record isn't taken. Memory has no part in it.
+#[derive(Clone, Copy)]
+enum RecordFault {
+    /// It states no event. It has this number, counted from 1.
+    NoEvent(u64),
+    /// There are as many before it as a log may have.
+    TooMany,
+}
+
+impl From<RecordFault> for LogStop {
+    ghost from_gives = { λ fault stop. stop ≡ untaken_stop fault };
+
+    fn from(fault: RecordFault) -> LogStop {
+        match fault {
+            RecordFault::NoEvent(number) => LogStop::Form(number),
+            RecordFault::TooMany => LogStop::Limit(LimitKind::Records, MOST_RECORDS + 1),
+        }
+    }
+}
 
 /// Reads a log: records of comma-separated fields, each of which states an event by the names and the categories of the award.
 /// Records are counted from 1, and blank lines are none. The reader stops at the first record that states no event, at the
@@ -19,22 +42,59 @@ pub fn read_log(alloc: Global, bytes: &[u8], award: &Award) -> Result<Events, Lo
     ensures ok { IfOk result (AreLog award.now (log_records bytes.now)) }
     ensures err { IfErr result (IsStop award.now (log_records bytes.now)) }
 {
-    let mut reader = ReaderBuilder::new()
+    let mut reader = records_of(alloc, bytes);
+    let mut events = Events::new(alloc);
+    read_records(alloc, &mut reader, award, &mut events)?;
+    Ok(events)
+}
+
+/// A reader of the records of a text.
+fn records_of(alloc: Global, bytes: &[u8]) -> Reader<&[u8]>
+    ensures { HasLeft (λ s. Some s.now) result (log_records bytes.now) }
+{
+    ReaderBuilder::new()
         .has_headers(false)
         .flexible(true)
-        .from_reader(alloc, bytes);
+        .from_reader(alloc, bytes)
+}
+
+/// Reads all records that the reader has left into the empty list.
+fn read_records(
+    alloc: Global,
+    reader: &mut Reader<&[u8]>,
+    award: &Award,
+    events: &mut Events,
+) -> Result<(), LogStop>
+    requires { events.old ≡ [] }
+    ensures ok { OnOk result
+        ((rows : List (List (List ℕ))) → HasLeft (λ s. Some s.now) reader.old rows → AreLog award.now rows events.new) }
+    ensures err { IfErr result
+        (λ stop. (rows : List (List (List ℕ))) → HasLeft (λ s. Some s.now) reader.old rows
+        → IsStop award.now rows stop) }
+{
     let mut row = ByteRecord::new(alloc);
-    let mut events = Events::new(alloc);
-    while take_record(&mut reader, &mut row, number_behind(&events))? {
-        if events.items().len() as u64 == MOST_RECORDS {
-            return Err(LogStop::Limit(LimitKind::Records, MOST_RECORDS + 1));
-        }
-        match read_event(alloc, award, &row)? {
-            Some(event) => events.push(event)?,
-            None => return Err(LogStop::Form(number_behind(&events))),
-        }
+    while take_record(reader, &mut row, number_behind(events))? {
+        let statement = statement_behind(events.items().len() as u64, award, &row)?;
+        let event = statement.event(alloc)?;
+        events.push(event)?;
     }
-    Ok(events)
+    Ok(())
+}
+
+/// What a record states behind so many that state events.
+fn statement_behind(before: u64, award: &Award, row: &ByteRecord) -> Result<Statement, RecordFault>
+    requires { before ≤ MOST_RECORDS }
+    ensures ok { IfOk result
+        (λ statement. (before < MOST_RECORDS) × States award.now (fields_of row.now) (event_stated statement)) }
+    ensures err { IfErr result (IsUntaken award.now (fields_of row.now) before) }
+{
+    if before == MOST_RECORDS {
+        return Err(RecordFault::TooMany);
+    }
+    match read_statement(award, row) {
+        Some(statement) => Ok(statement),
+        None => Err(RecordFault::NoEvent(before + 1)),
+    }
 }
 
 /// The number of the record that follows those of these events.

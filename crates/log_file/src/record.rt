@@ -1,13 +1,85 @@
-// The event that a record states.
-ghost use Rattle.std.specs.Prelude.{◌≡◌, ◌≢◌, ◌<◌, Some, true, false, length, codes, IfNone, IfOk, IfSome};
+// What a record states.
+ghost use Rattle.std.specs.Prelude.{◌≡◌, ◌≢◌, ◌<◌, Some, true, false, length, codes, option_map, IfNone, IfOk, IfSome};
 ghost use Rattle.csv.specs.Records.{field_at, fields_of};
 ghost use Rattle.log_file.specs.LogForm.{ReadsAs, four};
+ghost use Rattle.log_file.specs.Statements.{event_stated};
 
-use crate::fields::{read_amount, read_bidder, read_package};
+use crate::fields::{Counts, read_amount, read_bidder, read_counts};
 use award_file::Award;
 use award_file::auction_rules::Event;
+use award_file::lots::Package;
 use csv::ByteRecord;
 use std::alloc::{AllocError, Global};
+
+/// What a record states: an event whose package has no memory yet. So whether a record states an event doesn't depend on memory.
+#[derive(Drop)]
+pub enum Statement {
+    Bid {
+        bidder: u16,
+        counts: Counts,
+    },
+    Draft {
+        bidder: u16,
+        counts: Counts,
+        amount: u64,
+    },
+    Drop {
+        bidder: u16,
+        counts: Counts,
+    },
+    Submit {
+        bidder: u16,
+    },
+    Close,
+}
+
+impl Statement {
+    /// The event that is stated. The only error is want of memory.
+    pub fn event(&self, alloc: Global) -> Result<Event, AllocError>
+        ensures { IfOk result (λ event. event ≡ event_stated self.now) }
+    {
+        match self {
+            Statement::Bid { bidder, counts } => {
+                let package = package_of(alloc, counts.as_slice())?;
+                Ok(Event::Bid {
+                    bidder: *bidder,
+                    package,
+                })
+            }
+            Statement::Draft {
+                bidder,
+                counts,
+                amount,
+            } => {
+                let package = package_of(alloc, counts.as_slice())?;
+                Ok(Event::Draft {
+                    bidder: *bidder,
+                    package,
+                    amount: *amount,
+                })
+            }
+            Statement::Drop { bidder, counts } => {
+                let package = package_of(alloc, counts.as_slice())?;
+                Ok(Event::Drop {
+                    bidder: *bidder,
+                    package,
+                })
+            }
+            Statement::Submit { bidder } => Ok(Event::Submit { bidder: *bidder }),
+            Statement::Close => Ok(Event::Close),
+        }
+    }
+}
+
+/// The package of these counts, of which there are as many as an award has categories. So it can want nothing but memory.
+fn package_of(alloc: Global, counts: &[u16]) -> Result<Package, AllocError>
+    ensures { IfOk result (λ made. made ≡ counts.now) }
+{
+    match Package::new(alloc, counts) {
+        Ok(package) => Ok(package),
+        Err(_stop) => Err(AllocError),
+    }
+}
 
 /// The four fields of a record.
 #[derive(Clone, Copy)]
@@ -18,17 +90,13 @@ struct Fields<'a> {
     amount: &'a [u8],
 }
 
-/// The event that a record states, and None where it states none. The only error is want of memory.
-pub fn read_event(
-    alloc: Global,
-    award: &Award,
-    row: &ByteRecord,
-) -> Result<Option<Event>, AllocError>
-    ensures { IfOk result (ReadsAs award.now (fields_of row.now)) }
+/// What a record states, and None where it states no event.
+pub fn read_statement(award: &Award, row: &ByteRecord) -> Option<Statement>
+    ensures { ReadsAs award.now (fields_of row.now) (option_map event_stated result) }
 {
     match four_fields(row) {
-        Some(fields) => event_of(alloc, award, fields),
-        None => Ok(None),
+        Some(fields) => statement_of(award, fields),
+        None => None,
     }
 }
 
@@ -56,28 +124,28 @@ fn field(row: &ByteRecord, i: usize) -> &[u8]
     row.get(i).unwrap()
 }
 
-/// The event that these fields state.
-fn event_of(alloc: Global, award: &Award, fields: Fields<'_>) -> Result<Option<Event>, AllocError>
-    ensures { IfOk result
-        (ReadsAs award.now
-        (four fields.entry.kind.now fields.entry.bidder.now fields.entry.lots.now fields.entry.amount.now)) }
+/// What these fields state.
+fn statement_of(award: &Award, fields: Fields<'_>) -> Option<Statement>
+    ensures { ReadsAs award.now
+        (four fields.entry.kind.now fields.entry.bidder.now fields.entry.lots.now fields.entry.amount.now)
+        (option_map event_stated result) }
 {
     if is_word(fields.kind, b"bid") {
-        return bid_of(alloc, award, fields.bidder, fields.lots, fields.amount);
+        return bid_of(award, fields.bidder, fields.lots, fields.amount);
     }
     if is_word(fields.kind, b"draft") {
-        return draft_of(alloc, award, fields.bidder, fields.lots, fields.amount);
+        return draft_of(award, fields.bidder, fields.lots, fields.amount);
     }
     if is_word(fields.kind, b"drop") {
-        return drop_of(alloc, award, fields.bidder, fields.lots, fields.amount);
+        return drop_of(award, fields.bidder, fields.lots, fields.amount);
     }
     if is_word(fields.kind, b"submit") {
-        return Ok(submit_of(award, fields.bidder, fields.lots, fields.amount));
+        return submit_of(award, fields.bidder, fields.lots, fields.amount);
     }
     if is_word(fields.kind, b"close") {
-        return Ok(close_of(award, fields.bidder, fields.lots, fields.amount));
+        return close_of(award, fields.bidder, fields.lots, fields.amount);
     }
-    Ok(None)
+    None
 }
 
 /// Whether a field is this word.
@@ -89,94 +157,80 @@ fn is_word(field: &[u8], word: &[u8]) -> bool
 }
 
 /// The clock bid that these fields state.
-fn bid_of(
-    alloc: Global,
-    award: &Award,
-    bidder: &[u8],
-    lots: &[u8],
-    amount: &[u8],
-) -> Result<Option<Event>, AllocError>
-    ensures { IfOk result (ReadsAs award.now (four (codes "bid") bidder.now lots.now amount.now)) }
+fn bid_of(award: &Award, bidder: &[u8], lots: &[u8], amount: &[u8]) -> Option<Statement>
+    ensures { ReadsAs award.now (four (codes "bid") bidder.now lots.now amount.now) (option_map event_stated result) }
 {
     if !amount.is_empty() {
-        return Ok(None);
+        return None;
     }
     let Some(bidder) = read_bidder(award, bidder) else {
-        return Ok(None);
+        return None;
     };
-    match read_package(alloc, award, lots)? {
-        Some(package) => Ok(Some(Event::Bid { bidder, package })),
-        None => Ok(None),
+    match read_counts(award, lots) {
+        Some(counts) => Some(Statement::Bid { bidder, counts }),
+        None => None,
     }
 }
 
 /// The draft that these fields state.
-fn draft_of(
-    alloc: Global,
-    award: &Award,
-    bidder: &[u8],
-    lots: &[u8],
-    amount: &[u8],
-) -> Result<Option<Event>, AllocError>
-    ensures { IfOk result (ReadsAs award.now (four (codes "draft") bidder.now lots.now amount.now)) }
+fn draft_of(award: &Award, bidder: &[u8], lots: &[u8], amount: &[u8]) -> Option<Statement>
+    ensures { ReadsAs award.now (four (codes "draft") bidder.now lots.now amount.now)
+        (option_map event_stated result) }
 {
     let Some(number) = read_amount(amount) else {
-        return Ok(None);
+        return None;
     };
     let Some(bidder) = read_bidder(award, bidder) else {
-        return Ok(None);
+        return None;
     };
-    match read_package(alloc, award, lots)? {
-        Some(package) => Ok(Some(Event::Draft {
+    match read_counts(award, lots) {
+        Some(counts) => Some(Statement::Draft {
             bidder,
-            package,
+            counts,
             amount: number,
-        })),
-        None => Ok(None),
+        }),
+        None => None,
     }
 }
 
 /// The drop that these fields state.
-fn drop_of(
-    alloc: Global,
-    award: &Award,
-    bidder: &[u8],
-    lots: &[u8],
-    amount: &[u8],
-) -> Result<Option<Event>, AllocError>
-    ensures { IfOk result (ReadsAs award.now (four (codes "drop") bidder.now lots.now amount.now)) }
+fn drop_of(award: &Award, bidder: &[u8], lots: &[u8], amount: &[u8]) -> Option<Statement>
+    ensures { ReadsAs award.now (four (codes "drop") bidder.now lots.now amount.now)
+        (option_map event_stated result) }
 {
     if !amount.is_empty() {
-        return Ok(None);
+        return None;
     }
     let Some(bidder) = read_bidder(award, bidder) else {
-        return Ok(None);
+        return None;
     };
-    match read_package(alloc, award, lots)? {
-        Some(package) => Ok(Some(Event::Drop { bidder, package })),
-        None => Ok(None),
+    match read_counts(award, lots) {
+        Some(counts) => Some(Statement::Drop { bidder, counts }),
+        None => None,
     }
 }
 
 /// The submission that these fields state.
-fn submit_of(award: &Award, bidder: &[u8], lots: &[u8], amount: &[u8]) -> Option<Event>
-    ensures { ReadsAs award.now (four (codes "submit") bidder.now lots.now amount.now) result }
+fn submit_of(award: &Award, bidder: &[u8], lots: &[u8], amount: &[u8]) -> Option<Statement>
+    ensures { ReadsAs award.now (four (codes "submit") bidder.now lots.now amount.now)
+        (option_map event_stated result) }
 {
     if !lots.is_empty() || !amount.is_empty() {
         return None;
     }
     match read_bidder(award, bidder) {
-        Some(bidder) => Some(Event::Submit { bidder }),
+        Some(bidder) => Some(Statement::Submit { bidder }),
         None => None,
     }
 }
 
 /// The close that these fields state.
-fn close_of(award: &Award, bidder: &[u8], lots: &[u8], amount: &[u8]) -> Option<Event>
-    ensures { ReadsAs award.now (four (codes "close") bidder.now lots.now amount.now) result }
+fn close_of(award: &Award, bidder: &[u8], lots: &[u8], amount: &[u8]) -> Option<Statement>
+    ensures { ReadsAs award.now (four (codes "close") bidder.now lots.now amount.now)
+        (option_map event_stated result) }
 {
     if !bidder.is_empty() || !lots.is_empty() || !amount.is_empty() {
         return None;
     }
-    Some(Event::Close)
+    Some(Statement::Close)
 }
