@@ -22,7 +22,8 @@ IsName-digits n more few =
     let ones : n % 10 < 10 = omega arith in
     rw (decimal_step n more (omega arith), decimal_digit (n / 10) tens) ((omega arith, omega arith), (inr (inl (omega arith, omega arith)), (inr (inl (omega arith, omega arith)), tt)), omega arith)
 
-entrant-lawful : (k : ℕ) → k < 100 → IsEntrant 4 (made_entrant k)
+-- a made bidder keeps the rules of one
+pub entrant-lawful : (k : ℕ) → k < 100 → IsEntrant 4 (made_entrant k)
 entrant-lawful k few = record {
   name = elim (cases_lt k 10) [ inl low ↦ IsName-digit k low | inr more ↦ IsName-digits k more few ];
   eligibility = omega arith;

@@ -8,6 +8,7 @@ pub mod SealedRound
 pub mod Offers
 pub mod MadeClock
 pub mod WholeLog
+mod StatedLog
 pub mod FewWinners
 pub mod Asking
 pub mod LinesAdded

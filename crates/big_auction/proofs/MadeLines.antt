@@ -23,7 +23,7 @@ use Rattle.big_auction.proofs.LinesAdded.{added, added-more}
 use Rattle.big_auction.proofs.MadeClock.{held-early}
 
 -- one more of what f gives
-flat-more : (f : ℕ → List Event) (n : ℕ) → flat_map f (listing (λ k. k) (suc n)) ≡ flat_map f (listing (λ k. k) n) ++ f (suc n)
+pub flat-more : (f : ℕ → List Event) (n : ℕ) → flat_map f (listing (λ k. k) (suc n)) ≡ flat_map f (listing (λ k. k) n) ++ f (suc n)
 flat-more f n = flat_map-append f (listing (λ k. k) n) (suc n ∷ []) ∙ ap (λ (es : List Event). flat_map f (listing (λ k. k) n) ++ es) (append-nil (f (suc n)))
 
 flat-added : (f : ℕ → List Event) (i : ℕ) (old now new : List ℕ) → now ≡ old ++ log_text (flat_map f (listing (λ k. k) i)) → new ≡ now ++ log_text (f (suc i))

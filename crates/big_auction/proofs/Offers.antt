@@ -139,7 +139,8 @@ pub record IsBidding (rounds : List OwnRound) (prices own final : List ℕ) (k :
   pub last : HasRounds rounds (last_with prices own final)
   pub stays : nat_le k staying ≡ true → final ≡ reduced own
 
-due-drawn : (rounds : List OwnRound) (prices own final : List ℕ) (k state permille : ℕ) → permille ≤ 1000 → IsBidding rounds prices own final k
+-- a drawn draft is answered Ok
+pub due-drawn : (rounds : List OwnRound) (prices own final : List ℕ) (k state permille : ℕ) → permille ≤ 1000 → IsBidding rounds prices own final k
     → IsDue rounds (last_with prices own final) (drawn_package state own) (amount_of prices own final (drawn_package state own) permille)
 due-drawn rounds prices own final k state permille few bidding =
     let lots : List ℕ = drawn_package state own in
@@ -158,7 +159,8 @@ due-drawn rounds prices own final k state permille few bidding =
       lot = own-lot lots is;
     }
 
-due-last : (rounds : List OwnRound) (prices own final : List ℕ) (k more : ℕ) → more < 1000 → nat_le k staying ≡ true → IsBidding rounds prices own final k
+-- and so is the draft more of a bidder that stays
+pub due-last : (rounds : List OwnRound) (prices own final : List ℕ) (k more : ℕ) → more < 1000 → nat_le k staying ≡ true → IsBidding rounds prices own final k
     → IsDue rounds (last_with prices own final) final (cost_of prices final + more)
 due-last rounds prices own final k more few stay bidding =
     let is : IsOwn final = subst IsOwn (sym (bidding.stays stay)) (reduced-own own bidding.kind) in

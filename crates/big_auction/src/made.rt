@@ -12,7 +12,7 @@ ghost use Rattle.big_auction.specs.Parts.{counts_of, figures_of, full_rounds_for
 
 use crate::award::award_text;
 use crate::draws::Draws;
-use crate::laws::{answered_log, few_winners, lawful_award};
+use crate::laws::{answered_log, few_winners, lawful_award, stated_log};
 use crate::lines::{Bidder, add_bid, add_bidder, add_bids, add_close};
 use crate::prices::{final_prices, last_package};
 use crate::values::{BIDDERS, FULL_ROUNDS, Figures, Lots, STAYING, WIDEST};
@@ -33,8 +33,9 @@ pub struct Made {
     pub lines: u64,
 }
 
-/// The auction of a number: the bytes of its award and of its log, each a function of the number alone. The award is lawful, each line of
-/// the log is answered Ok, the log is complete, and at most four bidders can win. The only error is want of memory.
+/// The auction of a number: the bytes of its award and of its log, each a function of the number alone. The award is lawful, the
+/// log is read as its lines, each of them is answered Ok, the log is complete, and at most four bidders can win. The only error is want
+/// of memory.
 pub fn make(alloc: Global, number: u32) -> Result<Made, AllocError>
     ensures award { IfOk result (λ made. made.award ≡ made_award_text) }
     ensures log { IfOk result (λ made. made.log ≡ log_text (made_log number)) }
@@ -42,6 +43,7 @@ pub fn make(alloc: Global, number: u32) -> Result<Made, AllocError>
     ensures auction { IfOk result (λ made. IsMadeAuction number) }
 {
     lawful_award();
+    stated_log();
     answered_log();
     few_winners();
     let mut draws = Draws::new(number);
@@ -76,7 +78,7 @@ fn draw_packages(alloc: Global, draws: &mut Draws) -> Result<Vec<Lots>, AllocErr
 
 /// Adds the lines of the rounds in which all bidders bid.
 fn add_full_rounds(text: &mut Text, packages: &[Lots]) -> Result<(), AllocError>
-    requires { length packages.now ≡ 12 }
+    requires { length packages.now ≡ made_bidders }
     ensures { OnOk result (text.new ≡ text.old ++ log_text (full_rounds_for (map counts_of packages.now) full_rounds)) }
 {
     for _round in 0..FULL_ROUNDS {
@@ -88,7 +90,7 @@ fn add_full_rounds(text: &mut Text, packages: &[Lots]) -> Result<(), AllocError>
 
 /// Adds the bids of the last round.
 fn add_last_bids(text: &mut Text, packages: &[Lots]) -> Result<(), AllocError>
-    requires { length packages.now ≡ 12 }
+    requires { length packages.now ≡ made_bidders }
     ensures { OnOk result (text.new ≡ text.old ++ log_text (last_bids_for (map counts_of packages.now) staying)) }
 {
     for k in 0..STAYING {

@@ -7,7 +7,7 @@ ghost use Rattle.row_laws.specs.auction_model.specs.PackageTests.{is_same};
 ghost use Rattle.clock_stage.specs.auction_rules.specs.Rounds.{prices_after, raised_prices};
 ghost use Rattle.clock_stage.specs.auction_rules.specs.Step.{stepped};
 ghost use Rattle.clock_stage.specs.auction_rules.specs.State.{asked};
-ghost use Rattle.big_auction.specs.MadeAward.{made_terms};
+ghost use Rattle.big_auction.specs.MadeAward.{made_bidders, made_terms};
 ghost use Rattle.big_auction.specs.MadeLog.{amount_of, full_rounds, last_of};
 ghost use Rattle.big_auction.specs.Parts.{counts_of, figures_of, held_from};
 
@@ -116,7 +116,7 @@ fn raised(prices: &Figures, asked: &Figures, table: &StepTable) -> Figures
 
 /// The prices of the last round, where these packages are asked for in each round before it.
 pub fn final_prices(alloc: Global, packages: &[Lots]) -> Result<Figures, AllocError>
-    requires { length packages.now ≡ 12 }
+    requires { length packages.now ≡ made_bidders }
     ensures prices { IfOk result
         (λ p. figures_of p ≡ prices_after made_terms (held_from (map counts_of packages.now)) full_rounds) }
     ensures low { IfOk result (λ p. AllByRecursion (λ p. p ≤ MOST_PRICE) (figures_of p)) }
