@@ -50,6 +50,15 @@ impl Supply {
         })
     }
 
+    /// The rules that each supply keeps, and that the whole supply has the last place. Nothing is done: proofs read the clauses.
+    pub fn kept(&self)
+        ensures kept { IsSupply self.now }
+        ensures last { place_of self.now self.now + 1 ≡ states_of self.now }
+    {
+        // The rules of a type are known where a field of it is used.
+        let _ = &self.counts;
+    }
+
     /// How many categories there are.
     pub fn categories(&self) -> usize
         ensures count { result ≡ length self.now }

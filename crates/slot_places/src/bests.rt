@@ -164,7 +164,7 @@ fn behind<'b>(search: &Search, set: usize, j: u16, greater: &'b [Best]) -> &'b B
     requires greater { AreBests search.now (set + 1) greater.now }
     ensures { IsBestOf search.now (set + 2 ^ (j - 1)) result.now }
 {
-    let _bidders = search.slots.bidders();
+    search.slots.kept();
     &greater[weight(j) - 1]
 }
 

@@ -34,7 +34,7 @@ impl<'a> SlotChooser<'a> {
         ensures winners { result.winners ≡ winners }
     {
         slot_market();
-        let _bidders = slots.bidders();
+        slots.kept();
         SlotChooser { slots, winners }
     }
 
@@ -139,7 +139,7 @@ impl<'a> Chooser for SlotChooser<'a> {
         den: i128,
         surplus: &[i128],
     ) -> Result<Found<Grid>, AllocError> {
-        let _bidders = self.slots.bidders();
+        self.slots.kept();
         let search = Search {
             slots: self.slots,
             skip: 0,

@@ -124,6 +124,14 @@ impl Slots {
         self.band + 1 - self.width(self.bidders() as u16)
     }
 
+    /// The rules that all slots keep. Nothing is done: proofs read the clause.
+    pub fn kept(&self)
+        ensures { AreSlots self.now }
+    {
+        // The rules of a type are known where a field of it is used.
+        let _ = &self.bidders;
+    }
+
     /// How many bidders there are.
     pub fn bidders(&self) -> usize
         ensures bidders { result ≡ length self.now.bidders }

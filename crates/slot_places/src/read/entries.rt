@@ -91,7 +91,7 @@ fn read_place(slots: &Slots, line: &[u8]) -> Option<Place>
     ensures found { IfSome result (λ place. IsNextPlace slots.now line.now (bid_value place)) }
     ensures none { IfNone result ((bid : SlotBid) → IsNextPlace slots.now line.now bid → ⊥) }
 {
-    let _bidders = slots.bidders();
+    slots.kept();
     let fields = line.strip_prefix(b"place ")?;
     let (first, second) = two_fields(fields)?;
     let start = read_within(first, slots.next_start() as u64, slots.last_start() as u64)?;
