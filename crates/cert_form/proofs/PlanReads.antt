@@ -2,7 +2,8 @@
 use Rattle.std.proofs.Common.{◌≡◌, ℕ, Bool, Option, None, List, [], ◌∷◌, ◌++◌, length, take, refl, sym, ap, subst, ◌∙◌, append_assoc}
 use Rattle.std.proofs.lemmas.List.{append-nil}
 use Rattle.line_text.specs.LineText.{IsLine}
-use Rattle.line_text.proofs.Runs.{Runs, Reads}
+use Rattle.line_text.specs.Reading.{Runs}
+use Rattle.line_text.proofs.Runs.{Reads}
 use Rattle.cert_form.specs.Plan.{Follows, mark, next_place, placed, end_place, last_mark, Stage, StepTo, excess, begin, finish}
 
 module _ {K I : Type 0} (Fits : K → I → Type 0) (after : K → I → List K) where

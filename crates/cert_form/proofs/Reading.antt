@@ -1,7 +1,8 @@
 -- What a reader of a text by a plan gets of each line.
 use Rattle.std.proofs.Common.{◌≡◌, ℕ, ◌+◌, ◌<◌, Bool, true, false, cond, Option, Some, None, List, [], ◌∷◌, ◌++◌, length, take, drop, refl, sym, ap, subst, ◌∙◌, arith, length-take}
 use Rattle.line_text.specs.LineText.{IsLine, IsTextOf, FaultAt, Exceeds}
-use Rattle.line_text.proofs.Runs.{SoFar, nothing_yet, line_taken, line_exceeds, line_refused, line_missing, all_read}
+use Rattle.line_text.specs.Reading.{SoFar}
+use Rattle.line_text.proofs.Runs.{nothing_yet, line_taken, line_exceeds, line_refused, line_missing, all_read}
 use Rattle.cert_form.specs.Plan.{Follows, Stage, StepTo, excess, begin, finish, mark, next_place, end_place, last_mark}
 use Rattle.cert_form.specs.Lines.{Line, Kind, Fits, after, spell, over, cert_plan, lines}
 use Rattle.cert_form.specs.Reading.{Fine, Reached, ReachedBy}

@@ -1,7 +1,7 @@
 -- Where a reader of a text by a plan stands.
 use Rattle.std.specs.Prelude.{◌≡◌, ℕ, ◌<◌, None, List, [], ◌∷◌}
 use Rattle.line_text.specs.LineText.{IsLine}
-use Rattle.line_text.proofs.Runs.{SoFar}
+use Rattle.line_text.specs.Reading.{SoFar}
 use Rattle.cert_form.specs.Plan.{StepTo, excess, begin, end_place, last_mark}
 use Rattle.cert_form.specs.Lines.{Line, Kind, Numbers, these, signed, chosen, headed, counted, members, ordered_head, ordered_count, Fits, after, spell, over, cert_plan}
 

@@ -4,7 +4,8 @@ use Rattle.std.proofs.lemmas.List.{append-nil, take_all}
 use Rattle.std.specs.Option.{option_or}
 use Rattle.line_text.specs.LineText.{text_of, first_excess, IsTextOf, Front, FaultAt, Exceeds, Said, stated, faulty, beyond, Says}
 use Rattle.line_text.proofs.Lines.{SameLines, text_of-append, first_excess-append, compare_lines, GoesOn, StopsWithin}
-use Rattle.line_text.proofs.Runs.{Runs, Reads, runs_lines, runs_split, one_run, front_runs}
+use Rattle.line_text.specs.Reading.{Runs}
+use Rattle.line_text.proofs.Runs.{Reads, runs_lines, runs_split, one_run, front_runs}
 
 module _ {S V O : Type 0} (Sound : S → Type 0) (Step : S → List ℕ → S → Type 0) (excess : S → Option O) (begin : S) (finish : V → S) (IsValid : V → Type 0) (lines : V → List (List ℕ × Option O)) (reads : Reads Sound Step excess begin finish IsValid lines) where
   -- the lines of a front

@@ -1,39 +1,35 @@
 -- A reader that goes from stage to stage, line by line, against the form that it reads.
 use Rattle.std.proofs.Common.{⊎_elim, ◌≡◌, ℕ, ◌+◌, ◌≤◌, ◌<◌, Option, Some, None, List, [], ◌∷◌, ◌++◌, length, take, drop, refl, sym, ap, subst, ◌∙◌, arith, append_assoc, length-append, length-take, take-append-drop, drop-drop}
-use Rattle.std.proofs.lemmas.List.{append-nil, take_all}
+use Rattle.std.proofs.lemmas.List.{append-nil, drop_all, take_all}
 use Rattle.std.specs.Option.{option_or}
 use Rattle.line_text.specs.LineText.{IsLine, text_of, first_excess, IsTextOf, FaultAt, Exceeds}
+use Rattle.line_text.specs.Reading.{Runs, SoFar, HaltsAt, ExceedsFirst}
 use Rattle.line_text.proofs.Lines.{AreLines, SameLines, text_of-append, first_excess-append, compare_lines, GoesOn, StopsWithin, text_of_same, one_line, no_feed}
 
 module _ {S O : Type 0} (Step : S → List ℕ → S → Type 0) (excess : S → Option O) where
-  -- the reader goes from one stage to the other over these lines, and each exceeds what stands beside it
-  abbrev pub Runs : S → List (List ℕ × Option O) → S → Type 0
-  Runs s [] t = s ≡ t
-  Runs s (m ∷ ms) t = (u : S) × IsLine m.0 × Step s m.0 u × (m.1 ≡ excess u) × Runs u ms t
-
   -- a run to a stage and a run on from it are one run over the lines of both
-  pub runs_append : (s t u : S) (xs ys : List (List ℕ × Option O)) → Runs s xs t → Runs t ys u → Runs s (xs ++ ys) u
-  runs_append s t u [] ys first next = subst (λ (r : S). Runs r ys u) (sym first) next
+  pub runs_append : (s t u : S) (xs ys : List (List ℕ × Option O)) → Runs Step excess s xs t → Runs Step excess t ys u → Runs Step excess s (xs ++ ys) u
+  runs_append s t u [] ys first next = subst (λ (r : S). Runs Step excess r ys u) (sym first) next
   runs_append s t u (x ∷ xs) ys first next = (first.0, first.1, first.2, first.3, runs_append first.0 t u xs ys first.4 next)
 
   -- a run over two lists of lines passes some stage between them
-  pub runs_split : (s t : S) (xs ys : List (List ℕ × Option O)) → Runs s (xs ++ ys) t → (u : S) × Runs s xs u × Runs u ys t
+  pub runs_split : (s t : S) (xs ys : List (List ℕ × Option O)) → Runs Step excess s (xs ++ ys) t → (u : S) × Runs Step excess s xs u × Runs Step excess u ys t
   runs_split s t [] ys run = (s, refl, run)
   runs_split s t (x ∷ xs) ys run = let rest = runs_split run.0 t xs ys run.4 in (rest.0, (run.0, run.1, run.2, run.3, rest.1), rest.2)
 
   -- what a run goes over are lines, none with a line feed within
-  pub runs_lines : (s t : S) (ms : List (List ℕ × Option O)) → Runs s ms t → AreLines ms
+  pub runs_lines : (s t : S) (ms : List (List ℕ × Option O)) → Runs Step excess s ms t → AreLines ms
   runs_lines s t [] run = tt
   runs_lines s t (m ∷ ms) run = (run.1, runs_lines run.0 t ms run.4)
 
   -- the lines determine what stands beside them, and the stage
-  pub one_run : (Sound : S → Type 0) (keeps : (s t : S) (l : List ℕ) → Sound s → Step s l t → Sound t) (one_step : (s t u : S) (l : List ℕ) → Sound s → Step s l t → Step s l u → t ≡ u) (s t u : S) → Sound s → (ls ms : List (List ℕ × Option O)) → SameLines ls ms → Runs s ls t → Runs s ms u → (ls ≡ ms) × (t ≡ u)
+  pub one_run : (Sound : S → Type 0) (keeps : (s t : S) (l : List ℕ) → Sound s → Step s l t → Sound t) (one_step : (s t u : S) (l : List ℕ) → Sound s → Step s l t → Step s l u → t ≡ u) (s t u : S) → Sound s → (ls ms : List (List ℕ × Option O)) → SameLines ls ms → Runs Step excess s ls t → Runs Step excess s ms u → (ls ≡ ms) × (t ≡ u)
   one_run Sound keeps one_step s t u sound [] [] same a b = (refl, sym a ∙ b)
   one_run Sound keeps one_step s t u sound [] (m ∷ ms) same a b = absurd same
   one_run Sound keeps one_step s t u sound (l ∷ ls) [] same a b = absurd same
   one_run Sound keeps one_step s t u sound (l ∷ ls) (m ∷ ms) same a b =
       let stages : a.0 ≡ b.0 = one_step s a.0 b.0 m.0 sound (subst (λ (x : List ℕ). Step s x a.0) same.0 a.2) b.2 in
-      let rest = one_run Sound keeps one_step a.0 t u (keeps s a.0 l.0 sound a.2) ls ms same.1 a.4 (subst (λ (r : S). Runs r ms u) (sym stages) b.4) in
+      let rest = one_run Sound keeps one_step a.0 t u (keeps s a.0 l.0 sound a.2) ls ms same.1 a.4 (subst (λ (r : S). Runs Step excess r ms u) (sym stages) b.4) in
       let beside : l.1 ≡ m.1 = a.3 ∙ ap excess stages ∙ sym b.3 in
       ((λ i. (same.0 i, beside i) ∷ rest.0 i), rest.1)
 
@@ -169,79 +165,110 @@ module _ {S V O : Type 0} (Sound : S → Type 0) (Step : S → List ℕ → S �
           within = ap first_excess found.1 ∙ within;
         }
 
--- The reader stands at a stage, before this place of the bytes: what it has behind it.
-pub record SoFar {S O : Type 0} (Step : S → List ℕ → S → Type 0) (excess : S → Option O) (begin : S) (bytes : List ℕ) (place : ℕ) (s : S) : Type 0 where
-  pub behind : List (List ℕ × Option O)
-  pub run : Runs Step excess begin behind s
-  pub within : first_excess behind ≡ None
-  pub split : bytes ≡ text_of behind ++ drop place bytes
-  pub here : length (text_of behind) ≡ place
+-- at the beginning the reader stands before place 0
+pub start_so_far : {S O : Type 0} (Step : S → List ℕ → S → Type 0) (excess : S → Option O) (begin : S) (bytes : List ℕ) → SoFar Step excess begin bytes 0 begin
+start_so_far Step excess begin bytes = record { behind = []; run = refl; within = refl; split = refl; here = refl }
+
+module _ {S O : Type 0} (Step : S → List ℕ → S → Type 0) (excess : S → Option O) (begin : S) (bytes : List ℕ) (place : ℕ) (s : S) (so_far : SoFar Step excess begin bytes place s) where
+  -- the next line, and where it leads
+  module _ (n : ℕ) (is_line : IsLine (take n (drop place bytes))) (feed : drop n (drop place bytes) ≡ 10 ∷ drop (n + 1) (drop place bytes)) where
+    rest_is : drop place bytes ≡ take n (drop place bytes) ++ 10 ∷ drop (n + 1) (drop place bytes)
+    rest_is = sym (take-append-drop n (drop place bytes)) ∙ ap (λ (r : List ℕ). take n (drop place bytes) ++ r) feed
+
+    split_more : (mark : Option O) → bytes ≡ text_of (so_far.behind ++ (take n (drop place bytes), mark) ∷ []) ++ drop (n + 1) (drop place bytes)
+    split_more mark =
+        so_far.split ∙ ap (λ (r : List ℕ). text_of so_far.behind ++ r) (rest_is ∙ sym (append_assoc (take n (drop place bytes)) (10 ∷ []) (drop (n + 1) (drop place bytes))))
+        ∙ sym (append_assoc (text_of so_far.behind) (take n (drop place bytes) ++ 10 ∷ []) (drop (n + 1) (drop place bytes)))
+        ∙ ap (λ (r : List ℕ). r ++ drop (n + 1) (drop place bytes)) (sym (text_of-append so_far.behind ((take n (drop place bytes), mark) ∷ [])))
+
+    run_more : (t : S) → Step s (take n (drop place bytes)) t → Runs Step excess begin (so_far.behind ++ (take n (drop place bytes), excess t) ∷ []) t
+    run_more t step = runs_append Step excess begin s t so_far.behind ((take n (drop place bytes), excess t) ∷ []) so_far.run (t, is_line, step, refl, refl)
+
+    marks_more : (mark : Option O) → first_excess (so_far.behind ++ (take n (drop place bytes), mark) ∷ []) ≡ mark
+    marks_more mark = first_excess-append so_far.behind ((take n (drop place bytes), mark) ∷ []) ∙ ap (λ (o : Option O). option_or o (first_excess ((take n (drop place bytes), mark) ∷ []))) so_far.within ∙ alone mark
+      where
+        alone : (o : Option O) → first_excess ((take n (drop place bytes), o) ∷ []) ≡ o
+        alone None = refl
+        alone (Some x) = refl
+
+    -- by a line with a step to a stage that exceeds nothing, the reader comes behind its line feed
+    pub next_so_far : (t : S) → Step s (take n (drop place bytes)) t → excess t ≡ None → n < length (drop place bytes) → SoFar Step excess begin bytes (place + (n + 1)) t
+    next_so_far t step none lt =
+        let behind = so_far.behind ++ (take n (drop place bytes), excess t) ∷ [] in
+        let long : length (text_of (so_far.behind ++ (take n (drop place bytes), excess t) ∷ [])) ≡ place + (n + 1) =
+        ap length (text_of-append so_far.behind ((take n (drop place bytes), excess t) ∷ []))
+        ∙ length-append (text_of so_far.behind) (take n (drop place bytes) ++ 10 ∷ [])
+        ∙ omega (arith, so_far.here, length-append (take n (drop place bytes)) (10 ∷ []), length-take n (drop place bytes)) in
+        record {
+          behind = behind;
+          run = run_more t step;
+          within = marks_more (excess t) ∙ none;
+          split = split_more (excess t) ∙ ap (λ (r : List ℕ). text_of behind ++ r) (drop-drop (n + 1) place bytes);
+          here = long;
+        }
+
+    -- where the next line has a step to a stage that exceeds a limit, the bytes exceed that limit first
+    pub next_exceeds : (t : S) (o : O) → Step s (take n (drop place bytes)) t → excess t ≡ Some o → ExceedsFirst Step excess begin bytes o
+    next_exceeds t o step over = record {
+      stage = t;
+      behind = so_far.behind ++ (take n (drop place bytes), excess t) ∷ [];
+      run = run_more t step;
+      rest = drop (n + 1) (drop place bytes);
+      split = split_more (excess t);
+      first = marks_more (excess t) ∙ over;
+    }
+
+    -- at a next line that no step takes the reader halts
+    pub next_halts : {V : Type 0} (ended : V → S) → ((t : S) → Step s (take n (drop place bytes)) t → ⊥) → HaltsAt Step excess begin ended bytes place
+    next_halts ended refused = record {
+      stage = s;
+      so_far = so_far;
+      blocked = λ l more line is t step. let one = one_line l (take n (drop place bytes)) more (drop (n + 1) (drop place bytes)) line is_line (sym is ∙ rest_is) in
+          refused t (subst (λ (x : List ℕ). Step s x t) one.0 step);
+      open_end = λ v end. omega (arith, ap length rest_is, length-append (take n (drop place bytes)) (10 ∷ drop (n + 1) (drop place bytes)));
+    }
+
+  -- where there is no further line, the reader halts
+  pub last_halts : {V : Type 0} (ended : V → S) → IsLine (drop place bytes) → ((v : V) → s ≡ ended v → 0 < length (drop place bytes)) → HaltsAt Step excess begin ended bytes place
+  last_halts ended no_line open_end = record {
+    stage = s;
+    so_far = so_far;
+    blocked = λ l more line is t step. no_feed l more (subst IsLine is no_line);
+    open_end = open_end;
+  }
+
+module _ {S V O : Type 0} {Sound : S → Type 0} {Step : S → List ℕ → S → Type 0} {excess : S → Option O} {begin : S} {finish : V → S} {IsValid : V → Type 0} {lines : V → List (List ℕ × Option O)} (reads : Reads Sound Step excess begin finish IsValid lines) (bytes : List ℕ) where
+  -- bytes that are read up to the end of a value are its text
+  pub text_read : (v : V) → SoFar Step excess begin bytes (length bytes) (finish v) → IsTextOf IsValid lines bytes v
+  text_read v end = is_text Sound Step excess begin finish IsValid lines reads bytes (drop (length bytes) bytes) end.behind (finish v) end.run end.split v refl (drop_all (length bytes) bytes (omega arith)) end.within
+
+  -- where the reader halts, the first faulty line begins
+  pub fault_read : (place : ℕ) → HaltsAt Step excess begin finish bytes place → FaultAt IsValid lines bytes place
+  fault_read place halts = fault_at Sound Step excess begin finish IsValid lines reads bytes (drop place bytes) halts.so_far.behind halts.stage halts.so_far.run halts.so_far.split place halts.so_far.within halts.so_far.here halts.blocked halts.open_end
+
+  -- what the reader exceeds first the bytes do
+  pub excess_read : (o : O) → ExceedsFirst Step excess begin bytes o → Exceeds IsValid lines bytes o
+  excess_read o over = exceeds Sound Step excess begin finish IsValid lines reads bytes over.rest over.behind over.stage over.run over.split o over.first
 
 module _ {S V O : Type 0} (Sound : S → Type 0) (Step : S → List ℕ → S → Type 0) (excess : S → Option O) (begin : S) (finish : V → S) (IsValid : V → Type 0) (lines : V → List (List ℕ × Option O)) (reads : Reads Sound Step excess begin finish IsValid lines) where
-  -- at the beginning the reader stands before place 0
   pub nothing_yet : (bytes : List ℕ) → SoFar Step excess begin bytes 0 begin
-  nothing_yet bytes = record { behind = []; run = refl; within = refl; split = refl; here = refl }
+  nothing_yet bytes = start_so_far Step excess begin bytes
 
+  -- the same for a reader that keeps its place by itself
   module _ (bytes : List ℕ) (place : ℕ) (s : S) (so_far : SoFar Step excess begin bytes place s) where
-    -- the next line, and where it leads
     module _ (n : ℕ) (is_line : IsLine (take n (drop place bytes))) (feed : drop n (drop place bytes) ≡ 10 ∷ drop (n + 1) (drop place bytes)) where
-      rest_is : drop place bytes ≡ take n (drop place bytes) ++ 10 ∷ drop (n + 1) (drop place bytes)
-      rest_is = sym (take-append-drop n (drop place bytes)) ∙ ap (λ (r : List ℕ). take n (drop place bytes) ++ r) feed
-
-      split_more : (mark : Option O) → bytes ≡ text_of (so_far.behind ++ (take n (drop place bytes), mark) ∷ []) ++ drop (n + 1) (drop place bytes)
-      split_more mark =
-          so_far.split ∙ ap (λ (r : List ℕ). text_of so_far.behind ++ r) (rest_is ∙ sym (append_assoc (take n (drop place bytes)) (10 ∷ []) (drop (n + 1) (drop place bytes))))
-          ∙ sym (append_assoc (text_of so_far.behind) (take n (drop place bytes) ++ 10 ∷ []) (drop (n + 1) (drop place bytes)))
-          ∙ ap (λ (r : List ℕ). r ++ drop (n + 1) (drop place bytes)) (sym (text_of-append so_far.behind ((take n (drop place bytes), mark) ∷ [])))
-
-      run_more : (t : S) → Step s (take n (drop place bytes)) t → Runs Step excess begin (so_far.behind ++ (take n (drop place bytes), excess t) ∷ []) t
-      run_more t step = runs_append Step excess begin s t so_far.behind ((take n (drop place bytes), excess t) ∷ []) so_far.run (t, is_line, step, refl, refl)
-
-      marks_more : (mark : Option O) → first_excess (so_far.behind ++ (take n (drop place bytes), mark) ∷ []) ≡ mark
-      marks_more mark = first_excess-append so_far.behind ((take n (drop place bytes), mark) ∷ []) ∙ ap (λ (o : Option O). option_or o (first_excess ((take n (drop place bytes), mark) ∷ []))) so_far.within ∙ alone mark
-        where
-          alone : (o : Option O) → first_excess ((take n (drop place bytes), o) ∷ []) ≡ o
-          alone None = refl
-          alone (Some x) = refl
-
-      -- by a line with a step to a stage that exceeds nothing, the reader comes behind its line feed
       pub line_taken : (t : S) → Step s (take n (drop place bytes)) t → excess t ≡ None → n < length (drop place bytes) → SoFar Step excess begin bytes (place + (n + 1)) t
-      line_taken t step none lt =
-          let behind = so_far.behind ++ (take n (drop place bytes), excess t) ∷ [] in
-          let long : length (text_of (so_far.behind ++ (take n (drop place bytes), excess t) ∷ [])) ≡ place + (n + 1) =
-          ap length (text_of-append so_far.behind ((take n (drop place bytes), excess t) ∷ []))
-          ∙ length-append (text_of so_far.behind) (take n (drop place bytes) ++ 10 ∷ [])
-          ∙ omega (arith, so_far.here, length-append (take n (drop place bytes)) (10 ∷ []), length-take n (drop place bytes)) in
-          record {
-            behind = behind;
-            run = run_more t step;
-            within = marks_more (excess t) ∙ none;
-            split = split_more (excess t) ∙ ap (λ (r : List ℕ). text_of behind ++ r) (drop-drop (n + 1) place bytes);
-            here = long;
-          }
+      line_taken t step none lt = next_so_far Step excess begin bytes place s so_far n is_line feed t step none lt
 
-      -- where the next line has a step to a stage that exceeds a limit, the bytes exceed that limit first
       pub line_exceeds : (t : S) (o : O) → Step s (take n (drop place bytes)) t → excess t ≡ Some o → Exceeds IsValid lines bytes o
-      line_exceeds t o step over =
-          exceeds Sound Step excess begin finish IsValid lines reads bytes (drop (n + 1) (drop place bytes)) (so_far.behind ++ (take n (drop place bytes), excess t) ∷ []) t
-          (run_more t step) (split_more (excess t)) o (marks_more (excess t) ∙ over)
+      line_exceeds t o step over = excess_read reads bytes o (next_exceeds Step excess begin bytes place s so_far n is_line feed t o step over)
 
-      -- a next line that no step takes is the first faulty line
       pub line_refused : ((t : S) → Step s (take n (drop place bytes)) t → ⊥) → FaultAt IsValid lines bytes place
-      line_refused refused =
-          fault_at Sound Step excess begin finish IsValid lines reads bytes (drop place bytes) so_far.behind s so_far.run so_far.split place so_far.within so_far.here
-          (λ l more line is t step. let one = one_line l (take n (drop place bytes)) more (drop (n + 1) (drop place bytes)) line is_line (sym is ∙ rest_is) in
-          refused t (subst (λ (x : List ℕ). Step s x t) one.0 step))
-          (λ v end. omega (arith, ap length rest_is, length-append (take n (drop place bytes)) (10 ∷ drop (n + 1) (drop place bytes))))
+      line_refused refused = fault_read reads bytes place (next_halts Step excess begin bytes place s so_far n is_line feed finish refused)
 
-    -- no further line
     pub line_missing : IsLine (drop place bytes) → ((v : V) → s ≡ finish v → 0 < length (drop place bytes)) → FaultAt IsValid lines bytes place
-    line_missing no_line open_end =
-        fault_at Sound Step excess begin finish IsValid lines reads bytes (drop place bytes) so_far.behind s so_far.run so_far.split place so_far.within so_far.here
-        (λ l more line is t step. no_feed l more (subst IsLine is no_line))
-        open_end
+    line_missing no_line open_end = fault_read reads bytes place (last_halts Step excess begin bytes place s so_far finish no_line open_end)
 
-    -- bytes that are all read when the reader stands at the end of a value are the text of that value
     pub all_read : (v : V) → s ≡ finish v → length (drop place bytes) ≡ 0 → IsTextOf IsValid lines bytes v
     all_read v end none = is_text Sound Step excess begin finish IsValid lines reads bytes (drop place bytes) so_far.behind s so_far.run so_far.split v end (empty (drop place bytes) none) so_far.within
       where
