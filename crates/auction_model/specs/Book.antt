@@ -24,6 +24,13 @@ no_bid = record { lots = []; amount = 0 }
 abbrev pub no_bidder : Bidder
 no_bidder = record { name = []; bids = [] }
 
+abbrev pub bidder_with : List ℕ → List BookBid → Bidder
+bidder_with name bids = record { name = name; bids = bids }
+
+-- the book with other bidders
+abbrev pub with_bidders : Book → List Bidder → Book
+with_bidders book bidders = record { supply = book.supply; reserves = book.reserves; bidders = bidders }
+
 -- bidder j; bidders are numbered from 1
 abbrev pub bidder_of : Book → ℕ → Bidder
 bidder_of book j = slice_index_or book.bidders (j - 1) no_bidder

@@ -4,12 +4,12 @@ use Rattle.std.specs.Prelude.{map}
 use Rattle.std.specs.List.{All}
 use Rattle.std.proofs.lemmas.List.{map-append}
 use Rattle.std.proofs.lemmas.List.Elements.{All-nil, All-push}
-use Rattle.lots.specs.auction_model.specs.Book.{Book, BookBid, Bidder, bids_of}
+use Rattle.lots.specs.auction_model.specs.Book.{Book, BookBid, Bidder, bids_of, bidder_with, with_bidders}
 use Rattle.bid_book.specs.declared.book.Entry.{Entry}
 use Rattle.bid_book.specs.declared.book.BookBidder.{BookBidder}
 use Rattle.bid_book.specs.declared.book.BidBook.TheInside.{Inside}
 use Rattle.bid_book.specs.Fields.{bid_value, bidder_value, book_value, HasNet, NetsAreKept}
-use Rattle.bid_book.specs.Stages.{bidder_with, with_bidders, with_bid}
+use Rattle.bid_book.specs.Stages.{with_bid}
 use Rattle.bid_book.specs.Better.{AreBetter, BeatsAmong, BettersAreKept}
 use Rattle.bid_book.specs.Changes.{with_bids}
 use Rattle.bid_book.proofs.BookReads.{bidders-read}

@@ -5,14 +5,13 @@ use Rattle.std.specs.Vec.{with_item}
 use Rattle.std.specs.List.{All}
 use Rattle.std.proofs.lemmas.List.{map-set, get_or-map, get_or_default, set-get_or}
 use Rattle.std.proofs.lemmas.List.Elements.{All-set}
-use Rattle.lots.specs.auction_model.specs.Book.{Book, BookBid, Bidder, bidder_of, bids_of}
+use Rattle.lots.specs.auction_model.specs.Book.{Book, BookBid, Bidder, bidder_of, bids_of, bidder_with, with_bidders}
 use Rattle.bid_book.specs.declared.book.Entry.{Entry}
 use Rattle.bid_book.specs.declared.book.BookBidder.{BookBidder}
 use Rattle.bid_book.specs.declared.book.BidBook.TheInside.{Inside}
 use Rattle.bid_book.specs.Kept.{IsBidBook}
 use Rattle.bid_book.specs.Changes.{with_bids}
 use Rattle.bid_book.specs.Fields.{bid_value, bidder_value, book_value, HasNet, NetsAreKept}
-use Rattle.bid_book.specs.Stages.{bidder_with, with_bidders}
 use Rattle.bid_book.specs.Better.{AreBetter, BettersAreKept}
 use Rattle.bid_book.proofs.BookReads.{bidder-read, bids-read, categories-at}
 

@@ -12,7 +12,7 @@ use Rattle.std.proofs.lemmas.List.{take_more}
 use Rattle.std.proofs.lemmas.List.Sums.{sum_by-cons}
 use Rattle.std.proofs.lemmas.Str.{IsUtf8-from_ascii}
 use Rattle.std.proofs.lemmas.Str.Ascii.{IsAscii-from_all}
-use Rattle.lots.specs.auction_model.specs.Book.{Book, BookBid, Bidder, no_bidder, bidder_of}
+use Rattle.lots.specs.auction_model.specs.Book.{Book, BookBid, Bidder, no_bidder, bidder_of, bidder_with, with_bidders}
 use Rattle.lots.specs.auction_model.specs.Package.{is_within}
 use Rattle.book_form.specs.BookForm.{IsNameByte, IsName, IsBid}
 use Rattle.book_form.specs.BookLines.{bid_excess, bidder_excess, bid_line}
@@ -21,7 +21,7 @@ use Rattle.lots.specs.limits.specs.declared.LimitKind.TheVariants.{Bidders, Bids
 use Rattle.lots.specs.Limits.{IsSupply}
 use Rattle.bid_book.specs.declared.read.Stage.{Stage}
 use Rattle.bid_book.specs.declared.read.Stage.TheVariants.{Listing}
-use Rattle.bid_book.specs.Stages.{Step, Adds, AddsBidder, AddsBid, bidder_with, with_bidders, with_bid, last_bids, lots_before, last_excess}
+use Rattle.bid_book.specs.Stages.{Step, Adds, AddsBidder, AddsBid, with_bid, last_bids, lots_before, last_excess}
 use Rattle.bid_book.specs.Stops.{AreNumbers}
 use Rattle.bid_book.proofs.Numbers.{snoc_one}
 use Rattle.lots.specs.auction_model.proofs.ListLaws.{each-push}

@@ -2,10 +2,10 @@
 use Rattle.std.proofs.Common.{⊎_elim, ◌≡◌, ℕ, suc, ◌+◌, ◌-◌, ◌<◌, Option, List, [], ◌∷◌, ◌++◌, length, get_or, set, take, refl, sym, ap, subst, ◌∙◌, arith, append_assoc, length-append}
 use Rattle.std.specs.Prelude.{codes}
 use Rattle.std.proofs.lemmas.List.{append-nil, take_all, take_more, get_or_at, set_at}
-use Rattle.lots.specs.auction_model.specs.Book.{BookBid, Bidder, Book, no_bidder, bidder_of}
+use Rattle.lots.specs.auction_model.specs.Book.{BookBid, Bidder, Book, no_bidder, bidder_of, bidder_with, with_bidders}
 use Rattle.book_form.specs.BookForm.{IsBid, AreBids, empty_package, IsBidder, AreBidders, IsBook}
 use Rattle.book_form.specs.BookLines.{Excess, Line, bid_excess, bid_line, bid_lines, bidder_line, bidder_lines, head_lines}
-use Rattle.bid_book.specs.Stages.{bidder_with, with_bidders, with_bid, last_lots, AddsBidder, AddsBid, Adds, bids_excess, last_excess}
+use Rattle.bid_book.specs.Stages.{with_bid, last_lots, AddsBidder, AddsBid, Adds, bids_excess, last_excess}
 
 -- all lines of a book but the last
 abbrev pub listed : Book → List Line

@@ -13,10 +13,11 @@ use Rattle.lots.specs.declared.LotStop.TheVariants as lots
 use Rattle.lots.specs.Limits.{supply_stop}
 use Rattle.bid_book.specs.declared.read.Stage.{Stage}
 use Rattle.bid_book.specs.declared.read.Stage.TheVariants.{Headed, Supplied}
-use Rattle.bid_book.specs.declared.stop.LineStop.TheVariants.{Form, Limit}
+use Rattle.book_form.specs.line_text.specs.declared.stop.LineStop.TheVariants.{Form, Limit}
 use Rattle.bid_book.specs.Stages.{Step, excess}
 use Rattle.bid_book.specs.Stops.{AreNumbers, line_stop}
 use Rattle.bid_book.proofs.Numbers.{AreSmall, numbers_one}
+use Rattle.bid_book.proofs.StopLaws.{limit_one}
 use Rattle.bid_book.proofs.SupplyLaws.{supply_over}
 
 offer_numbers : (ns : List ℕ) → AllByRecursion (λ n. (1 ≤ n) × (n ≤ 999)) ns → AreNumbers ns
@@ -61,19 +62,17 @@ each_low (n ∷ ns) all = (all.0.1, each_low ns all.1)
 
 module _ (line counts : List ℕ) (spelled : line ≡ (supply_line counts).0) (offer : IsOffer counts) (stop : LotStop) where
   -- a limit that stops the making of a supply is one that the stage behind the supply's line exceeds
-  pub supply_limit : (stop ≡ lots.Memory) ⊎ (supply_stop counts ≡ Some stop) → (kind : LimitKind) (count : ℕ) → line_stop stop ≡ Limit kind count
+  pub supply_limit : (stop ≡ lots.Memory) ⊎ (supply_stop counts ≡ Some stop) → (kind : LimitKind) (count : ℕ) → line_stop stop ≡ Limit (kind, count)
       → (t : Stage) × Step Headed line t × (excess t ≡ Some (kind, count))
-  supply_limit (inl memory) kind count is = let e : line_stop lots.Memory ≡ Limit kind count = ap line_stop (sym memory) ∙ is in absurd (cc e)
+  supply_limit (inl memory) kind count is = let e : line_stop lots.Memory ≡ Limit (kind, count) = ap line_stop (sym memory) ∙ is in absurd (cc e)
   supply_limit (inr stops) kind count is =
       let over = supply_over counts stop offer stops in
-      let e : Limit over.kind over.count ≡ Limit kind count = sym over.line ∙ is in
-      let kinds : over.kind ≡ kind = cc in
-      let same : over.count ≡ count = cc in
-      (Supplied counts, (counts, spelled, offer, refl), over.exceeds ∙ (λ i. Some (kinds i, same i)))
+      let told = limit_one (over.kind, over.count) (kind, count) (sym over.line ∙ is) in
+      (Supplied counts, (counts, spelled, offer, refl), over.exceeds ∙ ap Some told)
 
   -- where an offer's supply can't be made, that is no fault of form
   pub supply_no_form : (stop ≡ lots.Memory) ⊎ (supply_stop counts ≡ Some stop) → line_stop stop ≡ Form → ⊥
   supply_no_form (inl memory) is = let e : line_stop lots.Memory ≡ Form = ap line_stop (sym memory) ∙ is in cc
   supply_no_form (inr stops) is =
       let over = supply_over counts stop offer stops in
-      let e : Limit over.kind over.count ≡ Form = sym over.line ∙ is in cc
+      let e : Limit (over.kind, over.count) ≡ Form = sym over.line ∙ is in cc

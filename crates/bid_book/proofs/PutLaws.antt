@@ -10,7 +10,7 @@ use Rattle.std.proofs.lemmas.List.{get_or-set_same}
 use Rattle.std.proofs.lemmas.List.Edits.{length-remove}
 use Rattle.book_form.specs.line_text.specs.LineText.{first_excess}
 use Rattle.book_form.specs.line_text.proofs.Lines.{first_excess-append}
-use Rattle.lots.specs.auction_model.specs.Book.{Book, BookBid, Bidder, no_bid, no_bidder, bidder_of, bids_of}
+use Rattle.lots.specs.auction_model.specs.Book.{Book, BookBid, Bidder, no_bid, no_bidder, bidder_of, bids_of, bidder_with}
 use Rattle.lots.specs.auction_model.specs.Package.{ComesBefore}
 use Rattle.lots.specs.auction_model.specs.Entries.{with_entry}
 use Rattle.lots.specs.auction_model.specs.PackageTests.{is_before, is_same}
@@ -20,7 +20,6 @@ use Rattle.book_form.specs.BookLines.{Excess, supply_excess, bid_excess, bidder_
 use Rattle.bid_book.specs.Changes.{CanPut, InPackageOrder, with_bids, with_put, without_bid}
 use Rattle.bid_book.specs.Kept.{IsBidBook}
 use Rattle.bid_book.specs.Sound.{IsSoundBid, IsSoundBidder}
-use Rattle.bid_book.specs.Stages.{bidder_with}
 use Rattle.bid_book.proofs.PackageOrder.{empty_comes, lots_at}
 use Rattle.bid_book.proofs.PlaceLaws.{AllBefore, put-taken}
 use Rattle.bid_book.proofs.Within.{each_at, kept, sound}

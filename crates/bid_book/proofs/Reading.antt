@@ -3,14 +3,15 @@ use Rattle.std.proofs.Common.{inl, inr, ◌≡◌, ℕ, zero, suc, ◌+◌, ◌�
 use Rattle.std.specs.Prelude.{codes}
 use Rattle.std.specs.List.{AllByRecursion}
 use Rattle.std.proofs.lemmas.List.{append-nil, take_at, take_all, length-replicate}
-use Rattle.book_form.specs.line_text.proofs.Runs.{Runs, Reads, StepsBehind, runs_append, runs_behind}
-use Rattle.lots.specs.auction_model.specs.Book.{BookBid, Bidder, Book}
+use Rattle.book_form.specs.line_text.specs.Reading.{Runs}
+use Rattle.book_form.specs.line_text.proofs.Runs.{Reads, StepsBehind, runs_append, runs_behind}
+use Rattle.lots.specs.auction_model.specs.Book.{BookBid, Bidder, Book, bidder_with, with_bidders}
 use Rattle.book_form.specs.BookForm.{IsOffer, IsBid, AreBids, empty_package, IsBidder, AreBidders, IsBook}
 use Rattle.book_form.specs.BookLines.{Line, bidder_excess, bid_excess, bid_line, bid_lines, bidder_line, bidder_lines, supply_line, reserve_line, head_lines, lines}
 use Rattle.book_form.specs.line_text.specs.Decimals.{decimals_text}
 use Rattle.bid_book.specs.declared.read.Stage.{Stage}
 use Rattle.bid_book.specs.declared.read.Stage.TheVariants.{Start, Headed, Supplied, Listing, Ended}
-use Rattle.bid_book.specs.Stages.{last_lots, bidder_with, with_bidders, opened, AddsBid, Step, last_excess, excess}
+use Rattle.bid_book.specs.Stages.{last_lots, opened, AddsBid, Step, last_excess, excess}
 use Rattle.bid_book.proofs.Numbers.{AreSmall}
 use Rattle.book_form.specs.line_text.proofs.Lines.{line_append}
 use Rattle.bid_book.proofs.Spelled.{numbers_line, name_line, small_supply, small_reserves, small_counts, book_word, supply_word, reserve_word, bidder_word, bid_word, end_word}

@@ -13,7 +13,7 @@ use Rattle.lots.specs.limits.specs.declared.LimitKind.TheVariants.{Categories, L
 use Rattle.lots.specs.declared.LotStop.{LotStop}
 use Rattle.lots.specs.declared.LotStop.TheVariants as lots
 use Rattle.lots.specs.Limits.{IsSupply, categories_stop, zero_stop, lots_stop, states_stop, supply_stop}
-use Rattle.bid_book.specs.declared.stop.LineStop.TheVariants.{Limit}
+use Rattle.book_form.specs.line_text.specs.declared.stop.LineStop.TheVariants.{Limit}
 use Rattle.bid_book.specs.Stops.{line_stop}
 
 -- where one value or else another is none, the one is none
@@ -93,7 +93,7 @@ pub record Over (excess : Option Excess) (stop : LotStop) : Type 0 where
   pub kind : LimitKind
   pub count : ℕ
   pub exceeds : excess ≡ Some (kind, count)
-  pub line : line_stop stop ≡ Limit kind count
+  pub line : line_stop stop ≡ Limit (kind, count)
 
 over : (l m t : ℕ) (stop : LotStop) → 0 < l → stop_of l m t ≡ Some stop → Over (excess_of l m t) stop
 over l m t stop some stops =

@@ -2,7 +2,7 @@
 -- contracts; what bytes say of a book is said without them.
 use Rattle.std.specs.Prelude.{◌≡◌, ◌≢◌, ◌⊎◌, ℕ, ◌+◌, ◌-◌, ◌<◌, Option, None, List, [], ◌∷◌, ◌++◌, codes, length, slice_set}
 use Rattle.std.specs.List.{AllByRecursion}
-use Rattle.lots.specs.auction_model.specs.Book.{BookBid, Bidder, Book, bidder_of, bids_of}
+use Rattle.lots.specs.auction_model.specs.Book.{BookBid, Bidder, Book, bidder_of, bidder_with, bids_of, with_bidders}
 use Rattle.book_form.specs.BookForm.{IsName, IsOffer, AreReserves, IsBid, empty_package}
 use Rattle.book_form.specs.BookLines.{Excess, supply_excess, bidder_excess, bid_excess, supply_line, reserve_line, bidder_line, bid_line}
 use Rattle.bid_book.specs.declared.read.Stage.{Stage}
@@ -12,12 +12,6 @@ use Rattle.bid_book.specs.declared.read.Stage.TheVariants.{Start, Headed, Suppli
 abbrev pub last_lots : List ℕ → List BookBid → List ℕ
 last_lots before [] = before
 last_lots before (b ∷ bs) = last_lots b.lots bs
-
-abbrev pub bidder_with : List ℕ → List BookBid → Bidder
-bidder_with name bids = record { name = name; bids = bids }
-
-abbrev pub with_bidders : Book → List Bidder → Book
-with_bidders book bidders = record { supply = book.supply; reserves = book.reserves; bidders = bidders }
 
 -- the book before its first bidder
 abbrev pub opened : List ℕ → List ℕ → Book

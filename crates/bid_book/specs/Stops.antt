@@ -6,10 +6,9 @@ use Rattle.lots.specs.limits.specs.declared.LimitKind.TheVariants.{Categories, L
 use Rattle.book_form.specs.line_text.specs.Fields.{FieldEnds}
 use Rattle.lots.specs.declared.LotStop.{LotStop}
 use Rattle.lots.specs.declared.LotStop.TheVariants as lots
-use Rattle.bid_book.specs.declared.BookStop.{BookStop}
-use Rattle.bid_book.specs.declared.BookStop.TheVariants as book
-use Rattle.bid_book.specs.declared.stop.LineStop.{LineStop}
-use Rattle.bid_book.specs.declared.stop.LineStop.TheVariants.{Form, Limit, Memory}
+use Rattle.book_form.specs.BookLines.{Excess}
+use Rattle.book_form.specs.line_text.specs.declared.stop.LineStop.{LineStop}
+use Rattle.book_form.specs.line_text.specs.declared.stop.LineStop.TheVariants.{Form, Limit, Memory}
 
 -- the numbers of a book's lines: none is above the greatest amount
 abbrev pub AreNumbers : List ℕ → Type 0
@@ -22,15 +21,9 @@ pub record IsField (text field more : List ℕ) : Type 0 where
   pub stops : FieldEnds more
 
 -- a count without lots is a fault of form
-abbrev pub line_stop : LotStop → LineStop
-line_stop (lots.Categories count) = Limit Categories count
+abbrev pub line_stop : LotStop → LineStop Excess
+line_stop (lots.Categories count) = Limit (Categories, count)
 line_stop (lots.Zero category) = Form
-line_stop (lots.Lots count) = Limit Lots count
-line_stop (lots.States count) = Limit States count
+line_stop (lots.Lots count) = Limit (Lots, count)
+line_stop (lots.States count) = Limit (States, count)
 line_stop lots.Memory = Memory
-
--- the stop of the reader at the line that begins at this place
-abbrev pub book_stop : LineStop → ℕ → BookStop
-book_stop Form place = book.Form place
-book_stop (Limit kind count) place = book.Limit kind count
-book_stop Memory place = book.Memory

@@ -1,6 +1,6 @@
 // Books, and the calls that read them.
 ghost use Rattle.std.specs.Prelude.{◌≡◌, ℕ, ◌≤◌, ◌<◌, [], ◌∷◌, ◌++◌, IfOk, IsOk, OnErr, OnOk, length};
-ghost use Rattle.lots.specs.auction_model.specs.Book.{bidder_of, bids_of, bid_of, lots_of, net_of};
+ghost use Rattle.lots.specs.auction_model.specs.Book.{bidder_of, bids_of, bid_of, lots_of, net_of, bidder_with, with_bidders};
 ghost use Rattle.bid_book.specs.Kept.{IsBidBook};
 ghost use Rattle.lots.specs.limits.specs.declared.TheConstants.{MOST_BIDDERS, MOST_BIDS};
 
@@ -72,7 +72,7 @@ impl BidBook {
     ghost use Rattle.book_form.specs.BookLines.{IsBookWithinLimits};
     ghost use Rattle.bid_book.specs.Fields.{HasNet, bid_value};
     ghost use Rattle.lots.specs.Limits.{IsSupply};
-    ghost use Rattle.bid_book.specs.Stages.{bidder_with, opened, with_bid, with_bidders};
+    ghost use Rattle.bid_book.specs.Stages.{opened, with_bid};
     ghost use Rattle.bid_book.specs.Better.{IsBetter};
     ghost use Rattle.bid_book.specs.Lists.{bid_of as put_value, book_of};
     ghost use Rattle.bid_book.specs.Changes.{with_put, without_bid, IsBidFor};

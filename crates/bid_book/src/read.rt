@@ -1,5 +1,6 @@
 // The reader of a book's text.
 ghost use Rattle.std.specs.Prelude.{IfOk, None, Some, ℕ, ◌≡◌};
+ghost use Rattle.bid_book.specs.declared.read.Stage.TheVariants.{Ended};
 ghost use Rattle.book_form.specs.BookForm.{IsBook};
 ghost use Rattle.book_form.specs.BookLines.{lines};
 ghost use Rattle.bid_book.specs.Stages.{Step, excess};
@@ -12,11 +13,12 @@ pub(crate) mod head;
 use crate::book::rivals::Rivals;
 use crate::read::entries::take_entry;
 use crate::read::head::{take_first, take_reserve, take_supply};
-use crate::stop::LineStop;
 use crate::{BidBook, BookStop, LimitKind};
-use book_form::line_text::line_len;
+use book_form::Excess;
+use book_form::line_text::{LineReader, LineStop, TextStop, read_lines};
 use lots::Supply;
 use std::alloc::Global;
+use std::marker::Model;
 
 /// What the lines so far say.
 #[derive(Drop)]
@@ -28,9 +30,53 @@ pub enum Stage {
     /// The first two lines: what is sold.
     Supplied(Supply),
     /// The first three lines, and those of some bidders with bids.
-    Listing(BidBook),
+    Listing(OpenBook),
     /// All lines, the last one too.
     Ended(BidBook),
+}
+
+/// A book whose bidders are being read, with the guesses for the next bid of the last one.
+#[derive(Drop)]
+pub struct OpenBook {
+    book: BidBook,
+    rivals: Rivals,
+}
+
+impl Model for OpenBook {
+    ghost use Rattle.lots.specs.auction_model.specs.Book.{Book};
+
+    ghost Value = { Book };
+
+    ghost view = { λ listing. listing.book };
+}
+
+/// The reader of a book's text.
+#[derive(Drop)]
+struct BookReader;
+
+impl LineReader for BookReader {
+    type Stage = Stage;
+
+    type Value = BidBook;
+
+    type Excess = Excess;
+
+    ghost leads = { λ _. Step };
+
+    ghost over = { λ _. excess };
+
+    ghost ended = { λ _ book. Ended book };
+
+    fn take(&self, alloc: Global, stage: Stage, line: &[u8]) -> Result<Stage, LineStop<Excess>> {
+        take_line(alloc, stage, line)
+    }
+
+    fn end(&self, stage: Stage) -> Option<BidBook> {
+        match stage {
+            Stage::Ended(book) => Some(book),
+            _ => None,
+        }
+    }
 }
 
 /// The book that the bytes state. The first faulty line, or the first limit that a line exceeds, stops it; within one line a
@@ -41,61 +87,48 @@ pub fn read_book(alloc: Global, bytes: &[u8]) -> Result<BidBook, BookStop>
     ensures limit { (kind : LimitKind) (count : ℕ) → result ≡ Err (BookStop.Limit kind count)
         → Says IsBook lines bytes.now (beyond (kind, count)) }
 {
-    let mut stage = Stage::Start;
-    let mut rivals = Rivals::new(alloc);
-    let mut place = 0;
-    while let Some(len) = line_len(&bytes[place..]) {
-        match take_line(alloc, stage, &mut rivals, &bytes[place..][..len]) {
-            Ok(next) => stage = next,
-            Err(stop) => return Err(stop.at(place as u64)),
-        }
-        place += len + 1;
-    }
-    if place < bytes.len() {
-        return Err(BookStop::Form(place as u64));
-    }
-    match stage {
-        Stage::Ended(book) => Ok(book),
-        _ => Err(BookStop::Form(place as u64)),
+    match read_lines(alloc, &BookReader, Stage::Start, bytes) {
+        Ok(book) => Ok(book),
+        Err(TextStop::Form(place)) => Err(BookStop::Form(place)),
+        Err(TextStop::Limit((kind, count))) => Err(BookStop::Limit(kind, count)),
+        Err(TextStop::Memory) => Err(BookStop::Memory),
     }
 }
 
 /// Takes the next line.
-fn take_line(
-    alloc: Global,
-    stage: Stage,
-    rivals: &mut Rivals,
-    line: &[u8],
-) -> Result<Stage, LineStop>
+fn take_line(alloc: Global, stage: Stage, line: &[u8]) -> Result<Stage, LineStop<Excess>>
     ensures ok { IfOk result (λ next. Step stage line.now next × (excess next ≡ None)) }
     ensures form { result ≡ Err LineStop.Form → (t : Stage) → Step stage line.now t → ⊥ }
-    ensures limit { (kind : LimitKind) (count : ℕ) → result ≡ Err (LineStop.Limit kind count)
+    ensures limit { (kind : LimitKind) (count : ℕ) → result ≡ Err (LineStop.Limit (kind, count))
         → (t : Stage) × Step stage line.now t × (excess t ≡ Some (kind, count)) }
 {
     match stage {
         Stage::Start => take_first(line),
         Stage::Headed => Ok(Stage::Supplied(take_supply(alloc, line)?)),
-        Stage::Supplied(supply) => Ok(Stage::Listing(take_reserve(alloc, supply, line)?)),
-        Stage::Listing(book) => take_listed(alloc, book, rivals, line),
+        Stage::Supplied(supply) => {
+            let book = take_reserve(alloc, supply, line)?;
+            let rivals = Rivals::new(alloc);
+            Ok(Stage::Listing(OpenBook { book, rivals }))
+        }
+        Stage::Listing(listing) => take_listed(alloc, listing, line),
         Stage::Ended(_) => Err(LineStop::Form),
     }
 }
 
 /// Takes the line of a bidder or of a bid, or the last line.
-fn take_listed(
-    alloc: Global,
-    mut book: BidBook,
-    rivals: &mut Rivals,
-    line: &[u8],
-) -> Result<Stage, LineStop>
-    ensures ok { IfOk result (λ next. Step (Stage.Listing book) line.now next × (excess next ≡ None)) }
-    ensures form { result ≡ Err LineStop.Form → (t : Stage) → Step (Stage.Listing book) line.now t → ⊥ }
-    ensures limit { (kind : LimitKind) (count : ℕ) → result ≡ Err (LineStop.Limit kind count)
-        → (t : Stage) × Step (Stage.Listing book) line.now t × (excess t ≡ Some (kind, count)) }
+fn take_listed(alloc: Global, listing: OpenBook, line: &[u8]) -> Result<Stage, LineStop<Excess>>
+    ensures ok { IfOk result (λ next. Step (Stage.Listing listing) line.now next × (excess next ≡ None)) }
+    ensures form { result ≡ Err LineStop.Form → (t : Stage) → Step (Stage.Listing listing) line.now t → ⊥ }
+    ensures limit { (kind : LimitKind) (count : ℕ) → result ≡ Err (LineStop.Limit (kind, count))
+        → (t : Stage) × Step (Stage.Listing listing) line.now t × (excess t ≡ Some (kind, count)) }
 {
+    let OpenBook {
+        mut book,
+        mut rivals,
+    } = listing;
     if line == b"end".as_slice() {
         return Ok(Stage::Ended(book));
     }
-    take_entry(alloc, &mut book, rivals, line)?;
-    Ok(Stage::Listing(book))
+    take_entry(alloc, &mut book, &mut rivals, line)?;
+    Ok(Stage::Listing(OpenBook { book, rivals }))
 }

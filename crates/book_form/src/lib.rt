@@ -1,5 +1,10 @@
 //! The form of a book as definitions, and what is printed of its winners. No code stands here.
 #![tactic(auto)]
 
+pub use limits;
+use limits::LimitKind;
 pub use line_text;
 pub use line_text::wide_num;
+
+/// What a line exceeds: the quantity that has the limit, and its count.
+pub type Excess = (LimitKind, u64);

@@ -22,5 +22,4 @@ mod LineLaws
 mod Reading
 pub mod Within
 mod Added
-mod StopLaws
 mod EntryLaws

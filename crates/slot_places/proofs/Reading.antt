@@ -3,7 +3,8 @@ use Rattle.std.proofs.Common.{inl, inr, ◌≡◌, ℕ, ◌+◌, ◌≤◌, None
 use Rattle.std.specs.Prelude.{codes}
 use Rattle.std.specs.Fmt.{decimal}
 use Rattle.std.proofs.lemmas.List.{append-nil, take_at, take_all}
-use Rattle.choices.specs.line_text.proofs.Runs.{Runs, Reads, StepsBehind, runs_append, runs_behind}
+use Rattle.choices.specs.line_text.specs.Reading.{Runs}
+use Rattle.choices.specs.line_text.proofs.Runs.{Reads, StepsBehind, runs_append, runs_behind}
 use Rattle.slot_places.specs.Slots.{SlotBid, SlotBidder, SlotList}
 use Rattle.choices.specs.book_form.specs.BookLines.{Line}
 use Rattle.slot_places.specs.SlotForm.{IsSlotBid, AreSlotBids, IsSlotBidder, AreSlotBidders, IsSlotText, bidder_excess, band_line, bidder_line, place_line, place_lines, bidder_lines, head_lines, slot_lines}

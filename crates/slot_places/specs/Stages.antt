@@ -8,10 +8,6 @@ use Rattle.choices.specs.limits.specs.declared.TheConstants.{MOST_COUNT}
 use Rattle.slot_places.specs.Slots.{SlotBid, SlotBidder, SlotList, bidder_of, bids_of, width_of}
 use Rattle.choices.specs.book_form.specs.BookLines.{Excess}
 use Rattle.slot_places.specs.SlotForm.{IsSlotBid, width_together, band_excess, bidder_excess, band_line, place_line}
-use Rattle.slot_places.specs.declared.SlotStop.{SlotStop}
-use Rattle.slot_places.specs.declared.SlotStop.TheVariants as slots
-use Rattle.slot_places.specs.declared.stop.LineStop.{LineStop}
-use Rattle.slot_places.specs.declared.stop.LineStop.TheVariants.{Form, Limit, Memory}
 use Rattle.slot_places.specs.declared.read.Stage.{Stage}
 use Rattle.slot_places.specs.declared.read.Stage.TheVariants.{Start, Headed, Listing, Ended}
 
@@ -105,9 +101,3 @@ excess Start = None
 excess Headed = None
 excess (Listing slots) = excess_of slots
 excess (Ended slots) = None
-
--- the stop of the reader at the line that begins at this place
-abbrev pub slot_stop : LineStop → ℕ → SlotStop
-slot_stop Form place = slots.Form place
-slot_stop (Limit kind count) place = slots.Limit kind count
-slot_stop Memory place = slots.Memory

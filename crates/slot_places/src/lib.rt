@@ -11,7 +11,6 @@ mod searching;
 pub mod sets;
 mod slot_chooser;
 mod slots;
-mod stop;
 
 pub use choices;
 pub use choices::limits::{LimitKind, MOST_PLACED};

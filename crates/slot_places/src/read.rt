@@ -4,16 +4,17 @@ ghost use Rattle.choices.specs.limits.specs.declared.TheConstants.{MOST_COUNT};
 ghost use Rattle.choices.specs.line_text.specs.LineText.{Says, beyond, faulty, stated};
 ghost use Rattle.slot_places.specs.SlotForm.{IsSlotText, band_line, slot_lines};
 ghost use Rattle.slot_places.specs.Stages.{Step, excess};
+ghost use Rattle.slot_places.specs.declared.read.Stage.TheVariants.{Ended};
 
 pub(crate) mod entries;
 pub(crate) mod fields;
 
 use crate::read::entries::take_entry;
 use crate::read::fields::read_within;
-use crate::stop::LineStop;
 use crate::{SlotStop, Slots};
+use choices::bid_book::Excess;
 use choices::limits::{LimitKind, MOST_COUNT, MOST_LOTS};
-use choices::line_text::line_len;
+use choices::line_text::{LineReader, LineStop, TextStop, read_lines};
 use std::alloc::Global;
 
 /// What the lines so far say.
@@ -29,6 +30,35 @@ pub enum Stage {
     Ended(Slots),
 }
 
+/// The reader of the text of slots.
+#[derive(Drop)]
+struct SlotReader;
+
+impl LineReader for SlotReader {
+    type Stage = Stage;
+
+    type Value = Slots;
+
+    type Excess = Excess;
+
+    ghost leads = { λ _. Step };
+
+    ghost over = { λ _. excess };
+
+    ghost ended = { λ _ slots. Ended slots };
+
+    fn take(&self, alloc: Global, stage: Stage, line: &[u8]) -> Result<Stage, LineStop<Excess>> {
+        take_line(alloc, stage, line)
+    }
+
+    fn end(&self, stage: Stage) -> Option<Slots> {
+        match stage {
+            Stage::Ended(slots) => Some(slots),
+            _ => None,
+        }
+    }
+}
+
 /// The slots that the bytes state. The first faulty line, or the first limit that a line exceeds, stops it; within one line a fault
 /// of form comes before a limit.
 pub fn read_slots(alloc: Global, bytes: &[u8]) -> Result<Slots, SlotStop>
@@ -38,29 +68,19 @@ pub fn read_slots(alloc: Global, bytes: &[u8]) -> Result<Slots, SlotStop>
     ensures limit { (kind : LimitKind) (count : ℕ) → result ≡ Err (SlotStop.Limit kind count)
         → Says IsSlotText slot_lines bytes.now (beyond (kind, count)) }
 {
-    let mut stage = Stage::Start;
-    let mut place = 0;
-    while let Some(len) = line_len(&bytes[place..]) {
-        match take_line(alloc, stage, &bytes[place..][..len]) {
-            Ok(next) => stage = next,
-            Err(stop) => return Err(stop.at(place as u64)),
-        }
-        place += len + 1;
-    }
-    if place < bytes.len() {
-        return Err(SlotStop::Form(place as u64));
-    }
-    match stage {
-        Stage::Ended(slots) => Ok(slots),
-        _ => Err(SlotStop::Form(place as u64)),
+    match read_lines(alloc, &SlotReader, Stage::Start, bytes) {
+        Ok(slots) => Ok(slots),
+        Err(TextStop::Form(place)) => Err(SlotStop::Form(place)),
+        Err(TextStop::Limit((kind, count))) => Err(SlotStop::Limit(kind, count)),
+        Err(TextStop::Memory) => Err(SlotStop::Memory),
     }
 }
 
 /// Takes the next line.
-fn take_line(alloc: Global, stage: Stage, line: &[u8]) -> Result<Stage, LineStop>
+fn take_line(alloc: Global, stage: Stage, line: &[u8]) -> Result<Stage, LineStop<Excess>>
     ensures ok { IfOk result (λ next. Step stage line.now next × (excess next ≡ None)) }
     ensures form { result ≡ Err LineStop.Form → (t : Stage) → Step stage line.now t → ⊥ }
-    ensures limit { (kind : LimitKind) (count : ℕ) → result ≡ Err (LineStop.Limit kind count)
+    ensures limit { (kind : LimitKind) (count : ℕ) → result ≡ Err (LineStop.Limit (kind, count))
         → (t : Stage) × Step stage line.now t × (excess t ≡ Some (kind, count)) }
 {
     match stage {
@@ -72,10 +92,10 @@ fn take_line(alloc: Global, stage: Stage, line: &[u8]) -> Result<Stage, LineStop
 }
 
 /// Takes the first line.
-fn take_first(line: &[u8]) -> Result<Stage, LineStop>
+fn take_first(line: &[u8]) -> Result<Stage, LineStop<Excess>>
     ensures ok { IfOk result (λ next. Step Stage.Start line.now next × (excess next ≡ None)) }
     ensures form { result ≡ Err LineStop.Form → (t : Stage) → Step Stage.Start line.now t → ⊥ }
-    ensures no_limit { (kind : LimitKind) (count : ℕ) → result ≡ Err (LineStop.Limit kind count) → ⊥ }
+    ensures no_limit { (kind : LimitKind) (count : ℕ) → result ≡ Err (LineStop.Limit (kind, count)) → ⊥ }
 {
     if line != b"slots 1".as_slice() {
         return Err(LineStop::Form);
@@ -84,17 +104,17 @@ fn take_first(line: &[u8]) -> Result<Stage, LineStop>
 }
 
 /// Takes the line of the band.
-fn take_band(alloc: Global, line: &[u8]) -> Result<Stage, LineStop>
+fn take_band(alloc: Global, line: &[u8]) -> Result<Stage, LineStop<Excess>>
     ensures ok { IfOk result (λ next. Step Stage.Headed line.now next × (excess next ≡ None)) }
     ensures form { result ≡ Err LineStop.Form → (t : Stage) → Step Stage.Headed line.now t → ⊥ }
-    ensures limit { (kind : LimitKind) (count : ℕ) → result ≡ Err (LineStop.Limit kind count)
+    ensures limit { (kind : LimitKind) (count : ℕ) → result ≡ Err (LineStop.Limit (kind, count))
         → (t : Stage) × Step Stage.Headed line.now t × (excess t ≡ Some (kind, count)) }
 {
     let Some(band) = read_band(line) else {
         return Err(LineStop::Form);
     };
     if band > MOST_LOTS {
-        return Err(LineStop::Limit(LimitKind::Lots, band));
+        return Err(LineStop::Limit((LimitKind::Lots, band)));
     }
     Ok(Stage::Listing(Slots::open(alloc, band as u16)))
 }
@@ -109,10 +129,10 @@ fn read_band(line: &[u8]) -> Option<u64>
 }
 
 /// Takes the line of a bidder or of a bid, or the last line.
-fn take_listed(alloc: Global, mut slots: Slots, line: &[u8]) -> Result<Stage, LineStop>
+fn take_listed(alloc: Global, mut slots: Slots, line: &[u8]) -> Result<Stage, LineStop<Excess>>
     ensures ok { IfOk result (λ next. Step (Stage.Listing slots) line.now next × (excess next ≡ None)) }
     ensures form { result ≡ Err LineStop.Form → (t : Stage) → Step (Stage.Listing slots) line.now t → ⊥ }
-    ensures limit { (kind : LimitKind) (count : ℕ) → result ≡ Err (LineStop.Limit kind count)
+    ensures limit { (kind : LimitKind) (count : ℕ) → result ≡ Err (LineStop.Limit (kind, count))
         → (t : Stage) × Step (Stage.Listing slots) line.now t × (excess t ≡ Some (kind, count)) }
 {
     if line == b"end".as_slice() {

@@ -1,3 +1,3 @@
 mod Lines
 mod Reading
-mod StopLaws
+mod Unmarked

@@ -3,7 +3,8 @@ use Rattle.std.proofs.Common.{inl, inr, ◌⊎◌, ◌≡◌, ℕ, zero, suc, �
 use Rattle.std.specs.Prelude.{codes}
 use Rattle.std.specs.List.{AllByRecursion}
 use Rattle.std.proofs.lemmas.List.{append-nil, take_at, take_all, length-replicate}
-use Rattle.bid_book.specs.line_text.proofs.Runs.{Runs, Reads, runs_append}
+use Rattle.bid_book.specs.line_text.specs.Reading.{Runs}
+use Rattle.bid_book.specs.line_text.proofs.Runs.{Reads, runs_append}
 use Rattle.bid_book.specs.auction_model.specs.Book.{Bidder, Book, bidder_of, no_bidder}
 use Rattle.bid_book.specs.auction_model.specs.Prices.{AreWeights}
 use Rattle.bid_book.specs.book_form.specs.BookForm.{IsBook, IsName}

@@ -3,10 +3,6 @@
 use Rattle.std.specs.Prelude.{◌≡◌, ◌⊎◌, ℕ, ◌+◌, ◌<◌, ◌≤◌, Option, None, List, [], ◌∷◌, ◌++◌, codes, length}
 use Rattle.bid_book.specs.auction_model.specs.Book.{Book, bidder_of}
 use Rattle.weights_file.specs.WeightsForm.{IsWeight, weight_line}
-use Rattle.weights_file.specs.declared.WeightStop.{WeightStop}
-use Rattle.weights_file.specs.declared.WeightStop.TheVariants as weights
-use Rattle.weights_file.specs.declared.read.LineStop.{LineStop}
-use Rattle.weights_file.specs.declared.read.LineStop.TheVariants.{Form, Memory}
 use Rattle.weights_file.specs.declared.read.Stage.{Stage}
 use Rattle.weights_file.specs.declared.read.Stage.TheVariants.{Start, Listing, Ended}
 
@@ -29,8 +25,3 @@ Step book (Ended given) line next = ⊥
 -- no stage exceeds a limit
 abbrev pub excess : Stage → Option ⊥
 excess stage = None
-
--- the stop of the reader at the line that begins at this place
-abbrev pub weight_stop : LineStop → ℕ → WeightStop
-weight_stop Form place = weights.Form place
-weight_stop Memory place = weights.Memory

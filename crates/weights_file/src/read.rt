@@ -1,15 +1,16 @@
 // The reader of a file of weights.
-ghost use Rattle.std.specs.Prelude.{Err, IfOk, [], codes, length, ℕ, ◌<◌, ◌≡◌, ◌≢◌};
+ghost use Rattle.std.specs.Prelude.{Err, IfOk, None, [], codes, length, ℕ, ◌<◌, ◌≡◌, ◌≢◌};
 ghost use Rattle.bid_book.specs.line_text.specs.LineText.{faulty, stated};
 ghost use Rattle.weights_file.specs.Stages.{Step, Weighs};
 ghost use Rattle.weights_file.specs.WeightsForm.{WeightsSay};
-ghost use Rattle.weights_file.specs.declared.read.LineStop.TheVariants.{Memory};
+ghost use Rattle.weights_file.specs.declared.read.Stage.TheVariants.{Ended};
 
 use crate::line::line_weight;
 use crate::{WeightStop, Weights};
 use bid_book::BidBook;
-use bid_book::line_text::line_len;
-use std::alloc::{AllocError, Global};
+use bid_book::line_text::{LineReader, LineStop, TextStop, read_lines};
+use std::alloc::Global;
+use std::convert::Infallible;
 
 /// What the lines so far say.
 #[derive(Drop)]
@@ -22,33 +23,38 @@ pub enum Stage {
     Ended(Weights),
 }
 
-/// Why a line is not taken.
-#[derive(Clone, Copy, Debug, PartialEq, Eq)]
-pub enum LineStop {
-    /// No file of weights goes on with such a line.
-    Form,
-    /// There was no memory.
-    Memory,
+/// The reader of a file of weights. No line exceeds a limit.
+#[derive(Drop)]
+struct WeightReader<'a> {
+    book: &'a BidBook,
 }
 
-impl From<AllocError> for LineStop {
-    ghost from_gives = { λ _ stop. stop ≡ Memory };
+impl<'a> LineReader for WeightReader<'a> {
+    type Stage = Stage;
 
-    fn from(_error: AllocError) -> LineStop {
-        LineStop::Memory
+    type Value = Weights;
+
+    type Excess = Infallible;
+
+    ghost leads = { λ reader. Step reader.book.now };
+
+    ghost over = { λ _ _. None };
+
+    ghost ended = { λ _ weights. Ended weights };
+
+    fn take(
+        &self,
+        alloc: Global,
+        stage: Stage,
+        line: &[u8],
+    ) -> Result<Stage, LineStop<Infallible>> {
+        take_line(alloc, stage, self.book, line)
     }
-}
 
-impl LineStop {
-    ghost use Rattle.weights_file.specs.Stages.{weight_stop};
-
-    /// The stop of the reader at the line that begins at this byte.
-    fn at(self, place: u64) -> WeightStop
-        ensures { result ≡ weight_stop self place }
-    {
-        match self {
-            LineStop::Form => WeightStop::Form(place),
-            LineStop::Memory => WeightStop::Memory,
+    fn end(&self, stage: Stage) -> Option<Weights> {
+        match stage {
+            Stage::Ended(weights) => Some(weights),
+            _ => None,
         }
     }
 }
@@ -60,26 +66,21 @@ pub fn read_weights(alloc: Global, bytes: &[u8], book: &BidBook) -> Result<Weigh
     ensures form { (place : ℕ) → result ≡ Err (WeightStop.Form place) → WeightsSay book.now bytes.now (faulty place) }
 {
     book.kept();
-    let mut stage = Stage::Start;
-    let mut place = 0;
-    while let Some(len) = line_len(&bytes[place..]) {
-        match take_line(alloc, stage, book, &bytes[place..][..len]) {
-            Ok(next) => stage = next,
-            Err(stop) => return Err(stop.at(place as u64)),
-        }
-        place += len + 1;
-    }
-    if place < bytes.len() {
-        return Err(WeightStop::Form(place as u64));
-    }
-    match stage {
-        Stage::Ended(weights) => Ok(weights),
-        _ => Err(WeightStop::Form(place as u64)),
+    match read_lines(alloc, &WeightReader { book }, Stage::Start, bytes) {
+        Ok(weights) => Ok(weights),
+        Err(TextStop::Form(place)) => Err(WeightStop::Form(place)),
+        Err(TextStop::Limit(none)) => match none {},
+        Err(TextStop::Memory) => Err(WeightStop::Memory),
     }
 }
 
 /// Takes the next line.
-fn take_line(alloc: Global, stage: Stage, book: &BidBook, line: &[u8]) -> Result<Stage, LineStop>
+fn take_line(
+    alloc: Global,
+    stage: Stage,
+    book: &BidBook,
+    line: &[u8],
+) -> Result<Stage, LineStop<Infallible>>
     ensures ok { IfOk result (λ next. Step book.now stage line.now next) }
     ensures form { result ≡ Err LineStop.Form → (t : Stage) → Step book.now stage line.now t → ⊥ }
 {
@@ -91,7 +92,7 @@ fn take_line(alloc: Global, stage: Stage, book: &BidBook, line: &[u8]) -> Result
 }
 
 /// Takes the first line.
-fn take_first(alloc: Global, line: &[u8]) -> Result<Stage, LineStop>
+fn take_first(alloc: Global, line: &[u8]) -> Result<Stage, LineStop<Infallible>>
     ensures ok { IfOk result (λ next. (line.now ≡ codes "weights 1") × (next ≡ Stage.Listing [])) }
     ensures form { result ≡ Err LineStop.Form → line.now ≢ codes "weights 1" }
 {
@@ -102,7 +103,7 @@ fn take_first(alloc: Global, line: &[u8]) -> Result<Stage, LineStop>
 }
 
 /// Takes the line of the next bidder, or the last line behind those of all bidders.
-fn take_listed(weights: Weights, book: &BidBook, line: &[u8]) -> Result<Stage, LineStop>
+fn take_listed(weights: Weights, book: &BidBook, line: &[u8]) -> Result<Stage, LineStop<Infallible>>
     ensures ok { IfOk result (λ next. Step book.now (Stage.Listing weights) line.now next) }
     ensures form { result ≡ Err LineStop.Form → (t : Stage) → Step book.now (Stage.Listing weights) line.now t → ⊥ }
 {
@@ -114,7 +115,11 @@ fn take_listed(weights: Weights, book: &BidBook, line: &[u8]) -> Result<Stage, L
 }
 
 /// Takes the line of the next bidder.
-fn take_weight(mut weights: Weights, book: &BidBook, line: &[u8]) -> Result<Stage, LineStop>
+fn take_weight(
+    mut weights: Weights,
+    book: &BidBook,
+    line: &[u8],
+) -> Result<Stage, LineStop<Infallible>>
     requires { length weights < length book.now.bidders }
     ensures ok { IfOk result (Weighs book.now weights line.now) }
     ensures form { result ≡ Err LineStop.Form → (t : Stage) → Weighs book.now weights line.now t → ⊥ }
@@ -129,7 +134,7 @@ fn take_weight(mut weights: Weights, book: &BidBook, line: &[u8]) -> Result<Stag
 }
 
 /// Takes the last line.
-fn take_end(weights: Weights, line: &[u8]) -> Result<Stage, LineStop>
+fn take_end(weights: Weights, line: &[u8]) -> Result<Stage, LineStop<Infallible>>
     ensures ok { IfOk result (λ next. (line.now ≡ codes "end") × (next ≡ Stage.Ended weights)) }
     ensures form { result ≡ Err LineStop.Form → line.now ≢ codes "end" }
 {

@@ -11,8 +11,10 @@ ghost use Rattle.bid_book.specs.Stages.{Adds, AddsBid, AddsBidder, last_excess, 
 use crate::book::Entry;
 use crate::book::rivals::Rivals;
 use crate::read::fields::{is_name, lot_counts, numbers_behind};
-use crate::stop::LineStop;
+use crate::stop::lots_stop;
 use crate::{BidBook, LimitKind, Name};
+use book_form::Excess;
+use book_form::line_text::LineStop;
 use lots::limits::{MOST_BIDDERS, MOST_BIDS};
 use lots::{Bid, Package, Supply};
 use std::alloc::Global;
@@ -23,10 +25,10 @@ pub fn take_entry(
     book: &mut BidBook,
     rivals: &mut Rivals,
     line: &[u8],
-) -> Result<(), LineStop>
+) -> Result<(), LineStop<Excess>>
     ensures ok { OnOk result (Adds book.old book.new line.now × (last_excess 0 book.new.bidders ≡ None)) }
     ensures form { result ≡ Err LineStop.Form → (new : Book) → Adds book.old new line.now → ⊥ }
-    ensures limit { (kind : LimitKind) (count : ℕ) → result ≡ Err (LineStop.Limit kind count)
+    ensures limit { (kind : LimitKind) (count : ℕ) → result ≡ Err (LineStop.Limit (kind, count))
         → (new : Book) × Adds book.old new line.now × (last_excess 0 new.bidders ≡ Some (kind, count)) }
 {
     match line.strip_prefix(b"bidder ") {
@@ -39,10 +41,10 @@ pub fn take_entry(
 }
 
 /// Takes the line of a bidder, of which this is the name.
-fn take_bidder(alloc: Global, book: &mut BidBook, name: &[u8]) -> Result<(), LineStop>
+fn take_bidder(alloc: Global, book: &mut BidBook, name: &[u8]) -> Result<(), LineStop<Excess>>
     ensures ok { OnOk result (AddsBidder book.old book.new (codes "bidder " ++ name.now) × (last_excess 0 book.new.bidders ≡ None)) }
     ensures form { result ≡ Err LineStop.Form → (new : Book) → AddsBidder book.old new (codes "bidder " ++ name.now) → ⊥ }
-    ensures limit { (kind : LimitKind) (count : ℕ) → result ≡ Err (LineStop.Limit kind count) → (new : Book) × AddsBidder book.old new (codes "bidder " ++ name.now) × (last_excess 0 new.bidders ≡ Some (kind, count)) }
+    ensures limit { (kind : LimitKind) (count : ℕ) → result ≡ Err (LineStop.Limit (kind, count)) → (new : Book) × AddsBidder book.old new (codes "bidder " ++ name.now) × (last_excess 0 new.bidders ≡ Some (kind, count)) }
 {
     let Some(text) = name_text(name) else {
         return Err(LineStop::Form);
@@ -51,7 +53,7 @@ fn take_bidder(alloc: Global, book: &mut BidBook, name: &[u8]) -> Result<(), Lin
         return Err(LineStop::Form);
     }
     if book.bidders() >= MOST_BIDDERS {
-        return Err(LineStop::Limit(LimitKind::Bidders, MOST_BIDDERS as u64 + 1));
+        return Err(LineStop::Limit((LimitKind::Bidders, MOST_BIDDERS as u64 + 1)));
     }
     let name = Name::new(alloc, text)?;
     book.add_bidder(alloc, name)?;
@@ -87,10 +89,10 @@ fn take_bid(
     book: &mut BidBook,
     rivals: &mut Rivals,
     line: &[u8],
-) -> Result<(), LineStop>
+) -> Result<(), LineStop<Excess>>
     ensures ok { OnOk result (AddsBid book.old book.new line.now × (last_excess 0 book.new.bidders ≡ None)) }
     ensures form { result ≡ Err LineStop.Form → (new : Book) → AddsBid book.old new line.now → ⊥ }
-    ensures limit { (kind : LimitKind) (count : ℕ) → result ≡ Err (LineStop.Limit kind count)
+    ensures limit { (kind : LimitKind) (count : ℕ) → result ≡ Err (LineStop.Limit (kind, count))
         → (new : Book) × AddsBid book.old new line.now × (last_excess 0 new.bidders ≡ Some (kind, count)) }
 {
     if book.bidders() == 0 {
@@ -98,7 +100,7 @@ fn take_bid(
     }
     let entry = read_bid(alloc, book, line)?;
     if book.bids(book.bidders() as u16) >= MOST_BIDS {
-        return Err(LineStop::Limit(LimitKind::Bids, MOST_BIDS as u64 + 1));
+        return Err(LineStop::Limit((LimitKind::Bids, MOST_BIDS as u64 + 1)));
     }
     let rival = rivals.take(book.supply(), &entry.bid.package, entry.net)?;
     book.add_bid(entry, rival)?;
@@ -106,7 +108,7 @@ fn take_bid(
 }
 
 /// The bid that a line states, with its net amount, where it may follow the bids of the last bidder.
-fn read_bid(alloc: Global, book: &BidBook, line: &[u8]) -> Result<Entry, LineStop>
+fn read_bid(alloc: Global, book: &BidBook, line: &[u8]) -> Result<Entry, LineStop<Excess>>
     requires { 0 < length book.now.bidders }
     ensures ok { IfOk result
         (λ entry. (line.now ≡ (bid_line 0 (bid_value entry)).0)
@@ -114,7 +116,7 @@ fn read_bid(alloc: Global, book: &BidBook, line: &[u8]) -> Result<Entry, LineSto
         × HasNet book.now.reserves entry) }
     ensures form { result ≡ Err LineStop.Form → (bid : BookBid) → line.now ≡ (bid_line 0 bid).0
         → IsBid book.now.supply book.now.reserves (lots_before book.now) bid → ⊥ }
-    ensures no_limit { (kind : LimitKind) (count : ℕ) → result ≡ Err (LineStop.Limit kind count) → ⊥ }
+    ensures no_limit { (kind : LimitKind) (count : ℕ) → result ≡ Err (LineStop.Limit (kind, count)) → ⊥ }
 {
     let supply = book.supply();
     let mut numbers = numbers_behind(alloc, b"bid", line)?;
@@ -138,19 +140,26 @@ fn read_bid(alloc: Global, book: &BidBook, line: &[u8]) -> Result<Entry, LineSto
 }
 
 /// The package of these counts, where it has the categories of the supply and fits in it.
-fn read_package(alloc: Global, supply: &Supply, numbers: &[u64]) -> Result<Package, LineStop>
+fn read_package(
+    alloc: Global,
+    supply: &Supply,
+    numbers: &[u64],
+) -> Result<Package, LineStop<Excess>>
     ensures ok { IfOk result
         (λ p. (p ≡ numbers.now) × (length numbers.now ≡ length supply.now)
         × IsTrue (is_within numbers.now supply.now)) }
     ensures form { result ≡ Err LineStop.Form → length numbers.now ≡ length supply.now
         → IsTrue (is_within numbers.now supply.now) → ⊥ }
-    ensures no_limit { (kind : LimitKind) (count : ℕ) → result ≡ Err (LineStop.Limit kind count) → ⊥ }
+    ensures no_limit { (kind : LimitKind) (count : ℕ) → result ≡ Err (LineStop.Limit (kind, count)) → ⊥ }
 {
     if numbers.len() != supply.categories() {
         return Err(LineStop::Form);
     }
     let counts = lot_counts(alloc, numbers)?;
-    let package = Package::new(alloc, &counts)?;
+    let package = match Package::new(alloc, &counts) {
+        Ok(package) => package,
+        Err(stop) => return Err(lots_stop(stop)),
+    };
     if !package.fits(supply) {
         return Err(LineStop::Form);
     }

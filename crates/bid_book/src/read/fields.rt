@@ -8,17 +8,18 @@ ghost use Rattle.bid_book.specs.Stops.{AreNumbers, IsField};
 ghost use Rattle.lots.specs.limits.specs.declared.TheConstants.{MOST_AMOUNT, MOST_COUNT};
 
 use crate::LimitKind;
-use crate::stop::{LineStop, NoNumber};
-use book_form::line_text::{field_len, read_at_most};
+use crate::stop::NoNumber;
+use book_form::Excess;
+use book_form::line_text::{LineStop, field_len, read_at_most};
 use lots::limits::{MOST_AMOUNT, MOST_COUNT, MOST_NAME_BYTES};
 use std::alloc::Global;
 
 /// The numbers of a line behind its word, each behind one space.
-pub fn numbers_behind(alloc: Global, word: &[u8], line: &[u8]) -> Result<Vec<u64>, LineStop>
+pub fn numbers_behind(alloc: Global, word: &[u8], line: &[u8]) -> Result<Vec<u64>, LineStop<Excess>>
     ensures ok { IfOk result (λ v. AreNumbers v.items × (line.now ≡ word.now ++ decimals_text v.items)) }
     ensures form { result ≡ Err LineStop.Form → (ns : List ℕ) → AreNumbers ns
         → line.now ≡ word.now ++ decimals_text ns → ⊥ }
-    ensures no_limit { (kind : LimitKind) (count : ℕ) → result ≡ Err (LineStop.Limit kind count) → ⊥ }
+    ensures no_limit { (kind : LimitKind) (count : ℕ) → result ≡ Err (LineStop.Limit (kind, count)) → ⊥ }
 {
     match line.strip_prefix(word) {
         Some(fields) => read_numbers(alloc, fields),
@@ -27,10 +28,10 @@ pub fn numbers_behind(alloc: Global, word: &[u8], line: &[u8]) -> Result<Vec<u64
 }
 
 /// The numbers of a text in which one space stands before each.
-fn read_numbers(alloc: Global, text: &[u8]) -> Result<Vec<u64>, LineStop>
+fn read_numbers(alloc: Global, text: &[u8]) -> Result<Vec<u64>, LineStop<Excess>>
     ensures ok { IfOk result (λ v. AreNumbers v.items × (text.now ≡ decimals_text v.items)) }
     ensures form { result ≡ Err LineStop.Form → (ns : List ℕ) → AreNumbers ns → text.now ≡ decimals_text ns → ⊥ }
-    ensures no_limit { (kind : LimitKind) (count : ℕ) → result ≡ Err (LineStop.Limit kind count) → ⊥ }
+    ensures no_limit { (kind : LimitKind) (count : ℕ) → result ≡ Err (LineStop.Limit (kind, count)) → ⊥ }
 {
     let mut numbers = Vec::new(alloc);
     let mut rest = text;
@@ -70,10 +71,10 @@ fn first_field(text: &[u8]) -> Option<(&[u8], &[u8])>
 }
 
 /// The numbers as counts of lots.
-pub fn lot_counts(alloc: Global, numbers: &[u64]) -> Result<Vec<u16>, LineStop>
+pub fn lot_counts(alloc: Global, numbers: &[u64]) -> Result<Vec<u16>, LineStop<Excess>>
     ensures ok { IfOk result (λ v. (v.items ≡ numbers.now) × AllByRecursion (λ n. n ≤ MOST_COUNT) numbers.now) }
     ensures form { result ≡ Err LineStop.Form → AllByRecursion (λ n. n ≤ MOST_COUNT) numbers.now → ⊥ }
-    ensures no_limit { (kind : LimitKind) (count : ℕ) → result ≡ Err (LineStop.Limit kind count) → ⊥ }
+    ensures no_limit { (kind : LimitKind) (count : ℕ) → result ≡ Err (LineStop.Limit (kind, count)) → ⊥ }
 {
     let mut counts = Vec::with_capacity(alloc, numbers.len())?;
     for number in numbers {

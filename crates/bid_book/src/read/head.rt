@@ -8,17 +8,19 @@ ghost use Rattle.lots.specs.limits.specs.declared.TheConstants.{MOST_PRICE};
 
 use crate::read::Stage;
 use crate::read::fields::{lot_counts, numbers_behind};
-use crate::stop::LineStop;
+use crate::stop::lots_stop;
 use crate::{BidBook, LimitKind};
+use book_form::Excess;
+use book_form::line_text::LineStop;
 use lots::Supply;
 use lots::limits::MOST_PRICE;
 use std::alloc::Global;
 
 /// Takes the first line.
-pub fn take_first(line: &[u8]) -> Result<Stage, LineStop>
+pub fn take_first(line: &[u8]) -> Result<Stage, LineStop<Excess>>
     ensures ok { IfOk result (λ next. Step Stage.Start line.now next × (excess next ≡ None)) }
     ensures form { result ≡ Err LineStop.Form → (t : Stage) → Step Stage.Start line.now t → ⊥ }
-    ensures no_limit { (kind : LimitKind) (count : ℕ) → result ≡ Err (LineStop.Limit kind count) → ⊥ }
+    ensures no_limit { (kind : LimitKind) (count : ℕ) → result ≡ Err (LineStop.Limit (kind, count)) → ⊥ }
 {
     if line != b"book 1".as_slice() {
         return Err(LineStop::Form);
@@ -27,24 +29,26 @@ pub fn take_first(line: &[u8]) -> Result<Stage, LineStop>
 }
 
 /// Takes the line of the supply.
-pub fn take_supply(alloc: Global, line: &[u8]) -> Result<Supply, LineStop>
+pub fn take_supply(alloc: Global, line: &[u8]) -> Result<Supply, LineStop<Excess>>
     ensures ok { IfOk result
         (λ supply. Step Stage.Headed line.now (Stage.Supplied supply) × (excess (Stage.Supplied supply) ≡ None)) }
     ensures form { result ≡ Err LineStop.Form → (t : Stage) → Step Stage.Headed line.now t → ⊥ }
-    ensures limit { (kind : LimitKind) (count : ℕ) → result ≡ Err (LineStop.Limit kind count)
+    ensures limit { (kind : LimitKind) (count : ℕ) → result ≡ Err (LineStop.Limit (kind, count))
         → (t : Stage) × Step Stage.Headed line.now t × (excess t ≡ Some (kind, count)) }
 {
     let counts = read_supply(alloc, line)?;
-    let supply = Supply::new(alloc, &counts)?;
-    Ok(supply)
+    match Supply::new(alloc, &counts) {
+        Ok(supply) => Ok(supply),
+        Err(stop) => Err(lots_stop(stop)),
+    }
 }
 
 /// The counts that the line of a supply states, whatever the limits.
-fn read_supply(alloc: Global, line: &[u8]) -> Result<Vec<u16>, LineStop>
+fn read_supply(alloc: Global, line: &[u8]) -> Result<Vec<u16>, LineStop<Excess>>
     ensures ok { IfOk result (λ v. (line.now ≡ (supply_line v.items).0) × IsOffer v.items) }
     ensures form { result ≡ Err LineStop.Form → (supply : List ℕ) → line.now ≡ (supply_line supply).0 → IsOffer supply
         → ⊥ }
-    ensures no_limit { (kind : LimitKind) (count : ℕ) → result ≡ Err (LineStop.Limit kind count) → ⊥ }
+    ensures no_limit { (kind : LimitKind) (count : ℕ) → result ≡ Err (LineStop.Limit (kind, count)) → ⊥ }
 {
     let numbers = numbers_behind(alloc, b"supply", line)?;
     if numbers.is_empty() {
@@ -57,12 +61,12 @@ fn read_supply(alloc: Global, line: &[u8]) -> Result<Vec<u16>, LineStop>
 }
 
 /// Takes the line of the reserves, and opens the book.
-pub fn take_reserve(alloc: Global, supply: Supply, line: &[u8]) -> Result<BidBook, LineStop>
+pub fn take_reserve(alloc: Global, supply: Supply, line: &[u8]) -> Result<BidBook, LineStop<Excess>>
     ensures ok { IfOk result
         (λ book. Step (Stage.Supplied supply) line.now (Stage.Listing book)
         × (excess (Stage.Listing book) ≡ None)) }
     ensures form { result ≡ Err LineStop.Form → (t : Stage) → Step (Stage.Supplied supply) line.now t → ⊥ }
-    ensures no_limit { (kind : LimitKind) (count : ℕ) → result ≡ Err (LineStop.Limit kind count) → ⊥ }
+    ensures no_limit { (kind : LimitKind) (count : ℕ) → result ≡ Err (LineStop.Limit (kind, count)) → ⊥ }
 {
     let reserves = numbers_behind(alloc, b"reserve", line)?;
     if reserves.len() != supply.categories() {

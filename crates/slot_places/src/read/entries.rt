@@ -6,18 +6,17 @@ ghost use Rattle.slot_places.specs.Fields.{bid_value};
 ghost use Rattle.slot_places.specs.Stages.{Adds, AddsBidder, AddsPlace, IsEntrant, IsNextPlace, excess_of};
 
 use crate::read::fields::{read_within, two_fields};
-use crate::stop::LineStop;
 use crate::{MOST_PLACED, Place, Slots};
-use choices::bid_book::{Name, name_text};
+use choices::bid_book::{Excess, Name, name_text};
 use choices::limits::{LimitKind, MOST_AMOUNT};
-use choices::line_text::read_at_most;
+use choices::line_text::{LineStop, read_at_most};
 use std::alloc::Global;
 
 /// Takes the line of a bidder or of a bid.
-pub fn take_entry(alloc: Global, slots: &mut Slots, line: &[u8]) -> Result<(), LineStop>
+pub fn take_entry(alloc: Global, slots: &mut Slots, line: &[u8]) -> Result<(), LineStop<Excess>>
     ensures ok { OnOk result (Adds slots.old slots.new line.now × (excess_of slots.new ≡ None)) }
     ensures form { result ≡ Err LineStop.Form → (new : SlotList) → Adds slots.old new line.now → ⊥ }
-    ensures limit { (kind : LimitKind) (count : ℕ) → result ≡ Err (LineStop.Limit kind count)
+    ensures limit { (kind : LimitKind) (count : ℕ) → result ≡ Err (LineStop.Limit (kind, count))
         → (new : SlotList) × Adds slots.old new line.now × (excess_of new ≡ Some (kind, count)) }
 {
     match line.strip_prefix(b"bidder ") {
@@ -27,16 +26,16 @@ pub fn take_entry(alloc: Global, slots: &mut Slots, line: &[u8]) -> Result<(), L
 }
 
 /// Takes the line of a bidder, of which these are the fields.
-fn take_bidder(alloc: Global, slots: &mut Slots, fields: &[u8]) -> Result<(), LineStop>
+fn take_bidder(alloc: Global, slots: &mut Slots, fields: &[u8]) -> Result<(), LineStop<Excess>>
     ensures ok { OnOk result (AddsBidder slots.old slots.new (codes "bidder " ++ fields.now) × (excess_of slots.new ≡ None)) }
     ensures form { result ≡ Err LineStop.Form → (new : SlotList) → AddsBidder slots.old new (codes "bidder " ++ fields.now) → ⊥ }
-    ensures limit { (kind : LimitKind) (count : ℕ) → result ≡ Err (LineStop.Limit kind count) → (new : SlotList) × AddsBidder slots.old new (codes "bidder " ++ fields.now) × (excess_of new ≡ Some (kind, count)) }
+    ensures limit { (kind : LimitKind) (count : ℕ) → result ≡ Err (LineStop.Limit (kind, count)) → (new : SlotList) × AddsBidder slots.old new (codes "bidder " ++ fields.now) × (excess_of new ≡ Some (kind, count)) }
 {
     let Some((text, width)) = read_bidder(slots, fields) else {
         return Err(LineStop::Form);
     };
     if slots.bidders() >= MOST_PLACED {
-        return Err(LineStop::Limit(LimitKind::Bidders, MOST_PLACED as u64 + 1));
+        return Err(LineStop::Limit((LimitKind::Bidders, MOST_PLACED as u64 + 1)));
     }
     let name = Name::new(alloc, text)?;
     slots.add_bidder(alloc, name, width)?;
@@ -70,10 +69,10 @@ fn is_used(slots: &Slots, name: &[u8]) -> bool
 }
 
 /// Takes the line of a bid of the last bidder.
-fn take_place(slots: &mut Slots, line: &[u8]) -> Result<(), LineStop>
+fn take_place(slots: &mut Slots, line: &[u8]) -> Result<(), LineStop<Excess>>
     ensures ok { OnOk result (AddsPlace slots.old slots.new line.now × (excess_of slots.new ≡ None)) }
     ensures form { result ≡ Err LineStop.Form → (new : SlotList) → AddsPlace slots.old new line.now → ⊥ }
-    ensures no_limit { (kind : LimitKind) (count : ℕ) → result ≡ Err (LineStop.Limit kind count) → ⊥ }
+    ensures no_limit { (kind : LimitKind) (count : ℕ) → result ≡ Err (LineStop.Limit (kind, count)) → ⊥ }
 {
     if slots.bidders() == 0 {
         return Err(LineStop::Form);

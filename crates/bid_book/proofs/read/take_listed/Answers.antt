@@ -1,10 +1,12 @@
-use Rattle.std.proofs.Common.{inr, ◌≡◌, ◌≢◌, ◌∙◌, true, Err, ap, refl, sym}
+use Rattle.std.proofs.Common.{inr, ◌≡◌, ◌≢◌, ◌∙◌, true, Err, ap, refl, sym, subst}
 use Rattle.std.specs.Prelude.{codes}
 use Rattle.std.proofs.lemmas.Result.{err_from_is_err_and}
 use Rattle.std.proofs.lemmas.Bool.Decides.{Decides-eqb}
 use Rattle.std.proofs.lemmas.Slice.Eq.{slice_eq-Decides}
-use Rattle.bid_book.specs.declared.stop.LineStop.TheVariants.{Form, Limit}
+use Rattle.book_form.specs.line_text.specs.declared.stop.LineStop.TheVariants.{Form, Limit}
 use Rattle.bid_book.specs.declared.read.Stage.TheVariants.{Listing}
+use Rattle.lots.specs.auction_model.specs.Book.{Book}
+use Rattle.bid_book.specs.Stages.{Adds, Step}
 use Rattle.bid_book.proofs.EntryLaws.{adds_step}
 use Rattle.bid_book.proofs.read.take_listed.Goals as goal
 
@@ -14,12 +16,13 @@ returns-in_err-take_entry-clause-form c = λ err t step.
     let form : c.in_err-take_entry.field-0.0 ≡ Form = cc (p.1, p.2, err) in
     let decides = slice_eq-Decides Decides-eqb c.args.line.now c.as_slice.result.now c.eq.result c.eq.ensures in
     let other : c.args.line.now ≢ codes "end" = λ same. let yes : c.eq.result ≡ true = decides.1 (same ∙ sym c.as_slice.ensures) in cc in
-    let adds = adds_step c.args.book c.args.line.now t other step in
+    let own = subst (λ (b : Book). Step (Listing b) c.args.line.now t) (sym c.listing.view_is) step in
+    let adds = adds_step c.listing.inside.book c.args.line.now t other own in
     c.in_err-take_entry.ensures.form (ap Err form) adds.0 adds.1
 
 pub returns-in_err-take_entry-clause-limit : goal.returns-in_err-take_entry-clause-limit
 returns-in_err-take_entry-clause-limit c = λ kind count err.
     let p = err_from_is_err_and c.from_residual.result c.from_residual.ensures.1 in
-    let limit : c.in_err-take_entry.field-0.0 ≡ Limit kind count = cc (p.1, p.2, err) in
+    let limit : c.in_err-take_entry.field-0.0 ≡ Limit (kind, count) = cc (p.1, p.2, err) in
     let over = c.in_err-take_entry.ensures.limit kind count (ap Err limit) in
-    (Listing over.0, inr (over.0, over.1, refl), over.2)
+    (Listing over.0, inr (over.0, subst (λ (b : Book). Adds b over.0 c.args.line.now) c.listing.view_is over.1, refl), over.2)

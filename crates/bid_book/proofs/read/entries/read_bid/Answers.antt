@@ -4,7 +4,7 @@ use Rattle.std.proofs.lemmas.Result.{err_from_is_err_and}
 use Rattle.std.proofs.lemmas.Bool.Decides.{nat_tests}
 use Rattle.lots.specs.auction_model.specs.Package.{ComesBefore, cost_of, is_within}
 use Rattle.book_form.specs.line_text.specs.Decimals.{decimals_text}
-use Rattle.bid_book.specs.declared.stop.LineStop.TheVariants.{Form}
+use Rattle.book_form.specs.line_text.specs.declared.stop.LineStop.TheVariants.{Form}
 use Rattle.bid_book.specs.Stages.{lots_before}
 use Rattle.bid_book.specs.Stops.{AreNumbers}
 use Rattle.bid_book.proofs.EntryLaws.{bid_numbers, bid_some, bid_read, numbers_last, net_is}

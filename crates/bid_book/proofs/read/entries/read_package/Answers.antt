@@ -1,6 +1,6 @@
 use Rattle.std.proofs.Common.{◌≡◌, Err, ap}
 use Rattle.std.proofs.lemmas.Result.{err_from_is_err_and}
-use Rattle.bid_book.specs.declared.stop.LineStop.TheVariants.{Form}
+use Rattle.book_form.specs.line_text.specs.declared.stop.LineStop.TheVariants.{Form}
 use Rattle.bid_book.proofs.EntryLaws.{within_low}
 use Rattle.bid_book.proofs.read.entries.read_package.Goals as goal
 

@@ -4,6 +4,7 @@ use Rattle.lots.specs.limits.specs.declared.LimitKind.TheVariants.{Bids}
 use Rattle.bid_book.specs.Fields.{bid_value}
 use Rattle.bid_book.specs.Stages.{AddsBid, with_bid, last_bids, last_excess}
 use Rattle.bid_book.proofs.Within.{grown}
+use Rattle.bid_book.proofs.StopLaws.{one_limit}
 use Rattle.bid_book.proofs.EntryLaws.{bid_marks, many_bids, few_bids, adds_entry}
 use Rattle.bid_book.proofs.read.entries.take_bid.Goals as goal
 
@@ -13,11 +14,10 @@ returns-then-bids-ge-MOST_BIDS-clause-limit c = λ kind count err.
     let entry = c.in_ok-entry.ensures.ok in
     let had : c.bids.result ≡ length (last_bids c.args.book.now) = c.bids.ensures.bids ∙ ap (λ (n : ℕ). length (bids_of c.args.book.now n)) c.bidders-2.ensures.bidders in
     let over : last_excess 0 (with_bid c.args.book.now (bid_value c.in_ok-entry.entry)).bidders ≡ Some (Bids, 601) = bid_marks c.args.book.now (bid_value c.in_ok-entry.entry) some ∙ many_bids (length (last_bids c.args.book.now)) (omega arith) in
-    let kinds : Bids ≡ kind = cc in
-    let counts : 601 ≡ count = cc in (
+    let told = one_limit (Bids, 601) (kind, count) err in (
       with_bid c.args.book.now (bid_value c.in_ok-entry.entry),
       adds_entry c.args.book.now c.args.line.now (bid_value c.in_ok-entry.entry) some entry.0 entry.1,
-      over ∙ (λ i. Some (kinds i, counts i)),
+      over ∙ ap Some told,
     )
 
 pub add_bid-requires-clause-kept : goal.add_bid-requires-clause-kept

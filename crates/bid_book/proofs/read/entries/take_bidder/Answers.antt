@@ -1,21 +1,21 @@
 use Rattle.std.proofs.Common.{inl, ◌≡◌, ◌++◌, ◌∷◌, [], List, ℕ, Some, None, length, refl, sym, ap, ◌∙◌, subst, arith}
 use Rattle.std.specs.Prelude.{codes}
-use Rattle.lots.specs.auction_model.specs.Book.{Book}
+use Rattle.lots.specs.auction_model.specs.Book.{Book, bidder_with, with_bidders}
 use Rattle.book_form.specs.BookLines.{IsBookWithinLimits}
 use Rattle.lots.specs.limits.specs.declared.LimitKind.TheVariants.{Bidders}
-use Rattle.bid_book.specs.Stages.{AddsBidder, bidder_with, with_bidders, last_excess}
+use Rattle.bid_book.specs.Stages.{AddsBidder, last_excess}
 use Rattle.bid_book.proofs.Within.{grown}
+use Rattle.bid_book.proofs.StopLaws.{one_limit}
 use Rattle.bid_book.proofs.EntryLaws.{bidder_marks, many_bidders, few_bidders, adds_name}
 use Rattle.bid_book.proofs.read.entries.take_bidder.Goals as goal
 
 pub returns-then-bidders-ge-MOST_BIDDERS-clause-limit : goal.returns-then-bidders-ge-MOST_BIDDERS-clause-limit
 returns-then-bidders-ge-MOST_BIDDERS-clause-limit c = λ kind count err.
     let over = bidder_marks c.args.book.now c.args.name.now ∙ many_bidders (length c.args.book.now.bidders) (omega arith) in
-    let kinds : Bidders ≡ kind = cc in
-    let counts : 17 ≡ count = cc in (
+    let told = one_limit (Bidders, 17) (kind, count) err in (
       with_bidders c.args.book.now (c.args.book.now.bidders ++ bidder_with c.args.name.now [] ∷ []),
       adds_name c.args.book.now (codes "bidder " ++ c.args.name.now) c.args.name.now c.in-Some.ensures.some.1 (c.is_used.ensures.0 c.if-is_used.false) refl,
-      over ∙ (λ i. Some (kinds i, counts i)),
+      over ∙ ap Some told,
     )
 
 pub add_bidder-requires : goal.add_bidder-requires

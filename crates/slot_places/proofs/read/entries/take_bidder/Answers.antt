@@ -7,17 +7,17 @@ use Rattle.slot_places.specs.Stages.{AddsBidder, bidder_with, with_bidders, exce
 use Rattle.slot_places.proofs.Growth.{bidder_marks}
 use Rattle.slot_places.proofs.Within.{grown}
 use Rattle.slot_places.proofs.EntryLaws.{many_bidders, few_bidders, adds_entrant}
+use Rattle.choices.specs.bid_book.proofs.StopLaws.{one_limit}
 use Rattle.slot_places.proofs.read.entries.take_bidder.Goals as goal
 
 pub returns-then-bidders-ge-MOST_PLACED-clause-limit : goal.returns-then-bidders-ge-MOST_PLACED-clause-limit
 returns-then-bidders-ge-MOST_PLACED-clause-limit c = λ kind count err.
     let slots = c.args.slots.now in
     let over = bidder_marks slots c.in-Some.text.now c.in-Some.width ∙ many_bidders (length slots.bidders) (omega arith) in
-    let kinds : Bidders ≡ kind = cc in
-    let counts : 7 ≡ count = cc in (
+    let told = one_limit (Bidders, 7) (kind, count) err in (
       with_bidders slots (slots.bidders ++ bidder_with c.in-Some.text.now c.in-Some.width [] ∷ []),
       adds_entrant slots (codes "bidder " ++ c.args.fields.now) c.args.fields.now c.in-Some.text.now c.in-Some.width refl c.in-Some.ensures.found,
-      over ∙ (λ i. Some (kinds i, counts i)),
+      over ∙ ap Some told,
     )
 
 pub add_bidder-requires : goal.add_bidder-requires

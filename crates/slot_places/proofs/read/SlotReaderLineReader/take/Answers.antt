@@ -1,0 +1,4 @@
+use Rattle.slot_places.proofs.read.SlotReaderLineReader.take.Goals as goal
+
+pub returns-clause-limit : goal.returns-clause-limit
+returns-clause-limit c = λ excess err. c.take_line.ensures.limit excess.0 excess.1 err
