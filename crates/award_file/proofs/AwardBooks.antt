@@ -1,22 +1,18 @@
 -- The book of a log on an award keeps the rules and the limits of a book.
-use Rattle.std.proofs.Common.{◌≡◌, ◌≢◌, ℕ, zero, suc, ◌+◌, ◌-◌, ◌<◌, ◌≤◌, true, false, List, [], ◌∷◌, ◌++◌, Option, None, length, map, get_or, replicate, refl, sym, ap, subst, ◌∙◌, inl, inr, arith, append_assoc}
-use Rattle.std.specs.Prelude.{codes, ◌==◌}
+use Rattle.std.proofs.Common.{◌≡◌, ◌≢◌, ℕ, zero, suc, ◌-◌, ◌<◌, ◌≤◌, true, false, List, [], ◌∷◌, ◌++◌, length, map, get_or, replicate, sym, subst, ◌∙◌, inl, inr, arith, append_assoc}
+use Rattle.std.specs.Prelude.{◌==◌}
 use Rattle.std.specs.List.{AllByRecursion}
-use Rattle.std.specs.Option.{option_or}
 use Rattle.std.specs.Str.{bytes_eq}
 use Rattle.std.proofs.lemmas.Bool.{cases_Bool, eqb-true, true≢false}
-use Rattle.std.proofs.lemmas.Bool.Decides.{nat_tests}
 use Rattle.std.proofs.lemmas.List.{append-nil, length-map}
 use Rattle.std.proofs.lemmas.List.Elements.{recursion_from_All}
 use Rattle.std.proofs.lemmas.Map.Keys.{apart_from_distinct}
 use Rattle.std.proofs.lemmas.Slice.Eq.{bytes_eq-Decides}
-use Rattle.bid_book.specs.line_text.specs.LineText.{first_excess}
-use Rattle.bid_book.specs.line_text.proofs.Lines.{first_excess-append}
-use Rattle.auction_rules.specs.auction_model.specs.Book.{BookBid, Bidder, Book}
+use Rattle.auction_rules.specs.auction_model.specs.Book.{BookBid, Bidder}
 use Rattle.auction_rules.specs.auction_model.specs.Package.{ComesBefore}
 use Rattle.auction_rules.specs.auction_model.proofs.ListLaws.{each-push}
 use Rattle.bid_book.specs.book_form.specs.BookForm.{AreBids, IsBidder, AreBidders, IsName, empty_package}
-use Rattle.bid_book.specs.book_form.specs.BookLines.{Excess, supply_excess, bid_excess, bidder_excess, bid_lines, bidder_line, bidder_lines, head_lines, IsBookWithinLimits}
+use Rattle.bid_book.specs.book_form.specs.BookLines.{IsBookWithinLimits}
 use Rattle.auction_rules.specs.declared.Event.{Event}
 use Rattle.auction_rules.specs.auction_model.specs.PackageTests.{is_empty, is_before, AllAfter, InOrder}
 use Rattle.auction_rules.specs.Terms.{Terms, Entrant, entrant}

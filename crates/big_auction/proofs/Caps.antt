@@ -1,11 +1,11 @@
 -- Caps and greatest amounts over the rounds of one bidder.
 use Rattle.std.proofs.Common.{◌≡◌, ℕ, suc, ◌≤◌, true, false, List, [], ◌∷◌, ◌++◌, Option, None, length, map, refl, ◌∙◌, ap, inl, inr, arith}
-use Rattle.std.specs.Prelude.{nat_le, ◌==◌}
+use Rattle.std.specs.Prelude.{nat_le}
 use Rattle.std.specs.List.{AllByRecursion}
-use Rattle.std.proofs.lemmas.Bool.{cases_Bool, le-leb, eqb-true, and_parts}
+use Rattle.std.proofs.lemmas.Bool.{cases_Bool, le-leb}
 use Rattle.std.proofs.lemmas.List.{map-append}
 use Rattle.row_laws.specs.auction_model.specs.Book.{BookBid}
-use Rattle.row_laws.specs.auction_model.specs.Package.{is_within, cost_of}
+use Rattle.row_laws.specs.auction_model.specs.Package.{cost_of}
 use Rattle.row_laws.specs.auction_model.specs.PackageTests.{is_empty, is_same, is_before}
 use Rattle.clock_stage.specs.auction_rules.specs.Step.{last_or}
 use Rattle.clock_stage.specs.auction_rules.specs.Rounds.{OwnRound}

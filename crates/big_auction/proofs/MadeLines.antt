@@ -7,7 +7,7 @@ use Rattle.std.proofs.lemmas.List.{append-nil, map-append}
 use Rattle.std.proofs.lemmas.List.Concat.{flat_map-append}
 use Rattle.clock_stage.specs.auction_rules.specs.declared.Event.{Event}
 use Rattle.clock_stage.specs.auction_rules.specs.declared.Event.TheVariants.{Bid, Submit, Close}
-use Rattle.clock_stage.specs.auction_rules.specs.Rounds.{listing, sum_of, demand, prices_after, raised_prices}
+use Rattle.clock_stage.specs.auction_rules.specs.Rounds.{listing, demand, prices_after, raised_prices}
 use Rattle.clock_stage.specs.auction_rules.specs.Terms.{no_lots}
 use Rattle.clock_stage.specs.auction_rules.proofs.Closing.{sum_of-within}
 use Rattle.clock_stage.specs.auction_rules.proofs.States.{get_or-listing, length-listing}

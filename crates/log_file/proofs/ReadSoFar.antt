@@ -1,5 +1,5 @@
 -- How far the records of a text are read.
-use Rattle.std.proofs.Common.{Bor, ◌≡◌, ℕ, suc, ◌<◌, List, [], ◌∷◌, ◌++◌, Bool, true, false, Some, length, subst, ◌∙◌, sym}
+use Rattle.std.proofs.Common.{Bor, ◌≡◌, ℕ, ◌<◌, List, [], ◌∷◌, ◌++◌, Bool, true, false, Some, length}
 use Rattle.csv.specs.declared.reader.Reader.{Reader}
 use Rattle.award_file.specs.limits.specs.declared.TheConstants.{MOST_RECORDS}
 use Rattle.award_file.specs.auction_rules.specs.Terms.{Terms}

@@ -6,7 +6,6 @@ use Rattle.csv.specs.Machine.{Read, next_record, step, ends_at_end, is_end}
 use Rattle.csv.specs.Reading.{default_config, records, records_from, ReadRecord, Reached, source_of, is_flexible, reader_trim, took_first, Ready}
 use Rattle.csv.specs.declared.reader.Trim.TheVariants as trim
 use Rattle.log_file.specs.RecordsLeft.{HasLeft, Takes}
-use Rattle.csv.specs.declared.error.ErrorKind.TheVariants as kind
 use Rattle.csv.specs.declared.reader.Reader.{Reader}
 use Rattle.csv.proofs.ReadFacts.{rows-more, rows-end}
 use Rattle.csv.specs.declared.parser.State.{State}

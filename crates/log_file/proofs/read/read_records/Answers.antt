@@ -1,4 +1,4 @@
-use Rattle.std.proofs.Common.{List, ℕ, length, length-append, ◌≡◌, ◌<◌, [], ◌∷◌, ap, subst, sym, arith}
+use Rattle.std.proofs.Common.{List, length, length-append, ◌≡◌, ◌<◌, [], ◌∷◌, ap, subst, sym, arith}
 use Rattle.std.proofs.lemmas.Result.{err_from_is_err_and}
 use Rattle.csv.specs.Records.{fields_of}
 use Rattle.award_file.specs.auction_rules.specs.declared.Event.{Event}
