@@ -5,7 +5,6 @@ ghost use Rattle.award_file.specs.auction_rules.specs.declared.Reply.{Reply};
 ghost use Rattle.award_file.specs.auction_rules.specs.declared.Stage.{Stage};
 ghost use Rattle.award_file.specs.auction_rules.specs.Replies.{bid_reply};
 
-use crate::demand::first_over;
 use award_file::Award;
 use award_file::auction_rules::{Reply, Stage};
 use award_file::lots::Package;
@@ -19,7 +18,7 @@ pub fn reply_to_package(award: &Award, eligible: u64, bidder: u16, package: &Pac
     ensures reply { result ≡ bid_reply award.now Stage.Clock eligible bidder «package».now }
     ensures few { result ≡ Reply.Ok → sum «package».now ≤ MOST_LOTS }
 {
-    if let Some(category) = first_over(package.counts(), award.supply().counts()) {
+    if let Some(category) = package.first_over(award.supply()) {
         return Reply::Supply(category);
     }
     if let Some(fault) = award.cap_fault(bidder, package) {

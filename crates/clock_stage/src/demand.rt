@@ -2,7 +2,6 @@
 ghost use Rattle.std.specs.Prelude.{◌≡◌, ◌≤◌, ◌+◌, ◌^◌, All, IfOk, List, [], ℕ, length, map, option_map, slice_index_or};
 ghost use Rattle.award_file.specs.limits.specs.declared.TheConstants.{MOST_BIDDERS, MOST_CATEGORIES};
 ghost use Rattle.award_file.specs.auction_model.specs.Package.{is_within, together};
-ghost use Rattle.award_file.specs.auction_model.specs.PackageTests.{first_over};
 ghost use Rattle.award_file.specs.auction_rules.specs.Replies.{price_top};
 ghost use Rattle.award_file.specs.auction_rules.specs.Rounds.{sum_of};
 ghost use Rattle.award_file.specs.auction_rules.specs.State.{asked_of};
@@ -50,20 +49,6 @@ pub fn is_met(demand: &[u64], supply: &[u16]) -> bool
         }
     }
     true
-}
-
-/// The first category whose count is above the supply, counted from 1.
-pub fn first_over(counts: &[u16], supply: &[u16]) -> Option<u16>
-    requires categories { length counts.now ≡ length supply.now }
-    requires few { length supply.now ≤ MOST_CATEGORIES }
-    ensures { result ≡ first_over 1 counts.now supply.now }
-{
-    for category in 0..counts.len() {
-        if counts[category] > supply[category] {
-            return Some(category as u16 + 1);
-        }
-    }
-    None
 }
 
 /// The first category, counted from 1, whose price is above the greatest price, with its price.

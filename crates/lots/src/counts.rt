@@ -2,6 +2,7 @@
 ghost use Rattle.std.specs.Prelude.{◌≡◌, ◌≤◌, ◌<◌, ◌^◌, ◌==◌, length, sum, position, All, IfOk, IfErr, None, Some};
 ghost use Rattle.std.specs.List.{list_all};
 ghost use Rattle.auction_model.specs.Package.{is_within, cost_of, IsNothingFrom};
+ghost use Rattle.auction_model.specs.PackageTests.{first_over};
 ghost use Rattle.auction_model.specs.Place.{states_of};
 ghost use Rattle.limits.specs.declared.TheConstants.{MOST_CATEGORIES, MOST_LOTS, MOST_POINTS, MOST_PRICE};
 ghost use Rattle.lots.specs.Limits.{categories_stop, supply_stop, IsPackage, IsSupply};
@@ -90,6 +91,20 @@ pub fn are_within(counts: &[u16], supply: &[u16]) -> bool
         }
     }
     true
+}
+
+/// The first category whose count is above that of the supply, counted from 1.
+pub fn first_above(counts: &[u16], supply: &[u16]) -> Option<u16>
+    requires categories { length counts.now ≡ length supply.now }
+    requires few { length supply.now ≤ MOST_CATEGORIES }
+    ensures { result ≡ first_over 1 counts.now supply.now }
+{
+    for category in 0..counts.len() {
+        if counts[category] > supply[category] {
+            return Some(category as u16 + 1);
+        }
+    }
+    None
 }
 
 /// The sum of price times count.

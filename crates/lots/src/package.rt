@@ -1,10 +1,13 @@
 // Packages and bids.
 ghost use Rattle.std.specs.Prelude.{◌≡◌, ◌⊎◌, ℕ, ◌≤◌, ◌<◌, [], length, All, IfOk, None, Some, slice_index};
 ghost use Rattle.auction_model.specs.Package.{is_within, cost_of};
+ghost use Rattle.auction_model.specs.PackageTests.{first_over};
 ghost use Rattle.limits.specs.declared.TheConstants.{MOST_POINTS, MOST_PRICE};
 ghost use Rattle.lots.specs.Limits.{categories_stop, IsPackage};
 
-use crate::counts::{are_within, check_categories, cost_among, have_none, points_among};
+use crate::counts::{
+    are_within, check_categories, cost_among, first_above, have_none, points_among,
+};
 use crate::{LotStop, Supply};
 use std::alloc::{AllocError, Global};
 use std::marker::Model;
@@ -123,5 +126,13 @@ impl Package {
         ensures { result ≡ is_within self.now supply.now }
     {
         are_within(&self.counts, supply.counts())
+    }
+
+    /// The first category, counted from 1, whose count is above that of the supply.
+    pub fn first_over(&self, supply: &Supply) -> Option<u16>
+        requires { length self.now ≡ length supply.now }
+        ensures { result ≡ first_over 1 self.now supply.now }
+    {
+        first_above(&self.counts, supply.counts())
     }
 }
