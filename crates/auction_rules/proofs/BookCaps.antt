@@ -104,23 +104,21 @@ highest-best_bids rounds list lots =
           cond-false (is_empty lots) 0 _ some ∙ (omega (arith, a, b, c)) ∙ sym (cond-false (is_empty lots) 0 _ some)
     ]
 
--- so the caps are the same
-cap_by-best_bids : (rounds : List OwnRound) (list : List BookBid) (lots : List ℕ) (r : OwnRound) → cap_by rounds (best_bids (map clock_bid rounds ++ list)) r lots ≡ cap_by rounds list r lots
-cap_by-best_bids rounds list lots r = ap (λ (h : ℕ). h + cost_of r.prices lots - cost_of r.prices r.held) (highest-best_bids rounds list r.held)
-
--- the cap of a package not held in the final round is the same over the book's bids as over the submitted list
-pub cap_among-best_bids : (final_cap : Bool) (points : List ℕ) (rounds : List OwnRound) (list : List BookBid) (lots : List ℕ)
-    → cap_among final_cap points rounds (best_bids (map clock_bid rounds ++ list)) lots ≡ cap_among final_cap points rounds list lots
-cap_among-best_bids true points rounds list lots =
-    ap (λ (n : ℕ). min n (cap_by rounds (best_bids (map clock_bid rounds ++ list)) (last_round rounds) lots)) (cap_by-best_bids rounds list lots (constraining (cost_of points lots) rounds))
-    ∙ ap (min (cap_by rounds list (constraining (cost_of points lots) rounds) lots)) (cap_by-best_bids rounds list lots (last_round rounds))
-cap_among-best_bids false points rounds list lots = cap_by-best_bids rounds list lots (constraining (cost_of points lots) rounds)
-
 -- whether a package has a cap, and which, is the same over the book's bids as over the submitted list
 pub cap_of-best_bids : (final_cap : Bool) (points : List ℕ) (rounds : List OwnRound) (list : List BookBid) (lots : List ℕ)
     → cap_of final_cap points rounds (best_bids (map clock_bid rounds ++ list)) lots ≡ cap_of final_cap points rounds list lots
-cap_of-best_bids final_cap points rounds list lots =
-    ap (λ (a : ℕ). if is_same lots (last_round rounds).held then None else Some a) (cap_among-best_bids final_cap points rounds list lots)
+cap_of-best_bids final_cap points rounds list lots = ap (λ (a : ℕ). if is_same lots (last_round rounds).held then None else Some a) (among final_cap)
+  where
+    by : (r : OwnRound) → cap_by rounds (best_bids (map clock_bid rounds ++ list)) r lots ≡ cap_by rounds list r lots
+    by r = ap (λ (h : ℕ). h + cost_of r.prices lots - cost_of r.prices r.held) (highest-best_bids rounds list r.held)
+
+    among : (final_cap : Bool)
+        → cap_among final_cap points rounds (best_bids (map clock_bid rounds ++ list)) lots ≡ cap_among final_cap points rounds list lots
+    among true =
+        let others : List BookBid = best_bids (map clock_bid rounds ++ list) in
+        ap (λ (n : ℕ). min n (cap_by rounds others (last_round rounds) lots)) (by (constraining (cost_of points lots) rounds))
+        ∙ ap (min (cap_by rounds list (constraining (cost_of points lots) rounds) lots)) (by (last_round rounds))
+    among false = by (constraining (cost_of points lots) rounds)
 
 -- Rounds whose prices never fall, and in which the bidder is eligible for what it holds.
 pub data RisesTo : OwnRound → OwnRound → Type 0 where

@@ -2,7 +2,7 @@
 use Rattle.std.proofs.Common.{◌≡◌, ◌⊎◌, ℕ, zero, suc, ◌+◌, ◌-◌, ◌^◌, ◌<◌, ◌≤◌, max, min, Bool, true, false, List, [], ◌∷◌, ◌++◌, Option, Some, None, length, map, take, drop, get_or, set, refl, sym, subst, ◌∙◌, ap, inl, inr, arith}
 use Rattle.std.specs.Prelude.{if◌then◌else◌, nat_lt, slice_index}
 use Rattle.std.specs.List.{All, insert, remove}
-use Rattle.std.proofs.lemmas.Bool.{cases_Bool, cases_order, cond-true, cond-false, ltb-true, ltb-false}
+use Rattle.std.proofs.lemmas.Bool.{cases_Bool, cases_order, cond-true, cond-false, ltb-true, ltb-false, false≢true}
 use Rattle.std.proofs.lemmas.List.{append_assoc, length-append, length-map, length-set, length-take, length-take-le, map-append, map-set, get_or-map, get_or-set_same, get_or-set_other, take_all, take_at, take_more, take_more_set, take-map}
 use Rattle.std.proofs.lemmas.List.Edits.{length-remove}
 use Rattle.std.proofs.lemmas.List.Elements.{All-append, All-cons, All-take, All-drop}
@@ -113,29 +113,23 @@ raise-other history j bids highs lots e are apart same inside =
     = raised-other e.terms.own e.bid.amount (first_place (rounds_of j history) lots) highs apart in
     record { is = kept ∙ (are.each lots inside).is ∙ sym same; most = omega (arith, kept, (are.each lots inside).most) }
 
--- the place of an entry is that of another package only if both are the same
-own-apart : (history : List Round) (points : List ℕ) (j : ℕ) (lots : List ℕ) (e : TestedEntry) → IsTested history points j e → first_place (rounds_of j history) lots < length history
-    → is_same e.bid.«package» lots ≡ false → first_place (rounds_of j history) lots ≡ e.terms.own → ⊥
-own-apart history points j lots e tested inside apart meet =
+-- the place of an entry is that of a package only if both are the same, and not empty
+own-same : (history : List Round) (points : List ℕ) (j : ℕ) (lots : List ℕ) (e : TestedEntry) → IsTested history points j e
+    → first_place (rounds_of j history) lots < length history → first_place (rounds_of j history) lots ≡ e.terms.own
+    → (is_same e.bid.«package» lots ≡ true) × (is_empty e.bid.«package» ≡ false)
+own-same history points j lots e tested inside meet =
     elim (cases_Bool (is_empty e.bid.«package»)) [
-      | inl empty ↦ let past : own_place history j e.bid.«package» ≡ length history = cond-true (is_empty e.bid.«package») (length history) _ empty in omega (arith, past, tested.terms.own, meet, inside)
+      | inl empty ↦
+          let past : own_place history j e.bid.«package» ≡ length history = cond-true (is_empty e.bid.«package») (length history) _ empty in
+          absurd (omega (arith, past, tested.terms.own, meet, inside))
       | inr some ↦
           let at : first_place (rounds_of j history) lots ≡ first_place (rounds_of j history) e.bid.«package»
           = meet ∙ tested.terms.own ∙ cond-false (is_empty e.bid.«package») (length history) _ some in
           let there : first_place (rounds_of j history) e.bid.«package» < length history = omega (arith, at, inside) in
           let one : e.bid.«package» ≡ lots
           = sym (first-held history j e.bid.«package» there) ∙ ap (λ n. (own_in history j (n + 1)).held) (sym at) ∙ first-held history j lots inside in
-          let yes : is_same e.bid.«package» lots ≡ true = ap (λ (q : List ℕ). is_same q lots) one ∙ is_same-refl lots in
-          let no : is_same e.bid.«package» lots ≡ false = apart in
-          absurd cc
+          (ap (λ (q : List ℕ). is_same q lots) one ∙ is_same-refl lots, some)
     ]
-
-own-not_empty : (history : List Round) (points : List ℕ) (j : ℕ) (lots : List ℕ) (e : TestedEntry) → IsTested history points j e → first_place (rounds_of j history) lots < length history
-    → e.bid.«package» ≡ lots → is_empty lots ≡ true → first_place (rounds_of j history) lots ≡ e.terms.own → ⊥
-own-not_empty history points j lots e tested inside own empty meet =
-    let past : own_place history j lots ≡ length history = cond-true (is_empty lots) (length history) _ empty in
-    let is : e.terms.own ≡ own_place history j lots = tested.terms.own ∙ ap (own_place history j) own in
-    omega (arith, past, is, meet, inside)
 
 -- over one tested entry more the amount at the place of its package is raised to its amount
 pub highs-more : (history : List Round) (points : List ℕ) (j : ℕ) (bids : List BookBid) (highs : List ℕ) (e : TestedEntry) → IsTested history points j e → AreHighs history j bids highs
@@ -146,33 +140,37 @@ highs-more history points j bids highs e tested are = record {
     | inl same ↦
         let own : e.bid.«package» ≡ lots = is_same-true e.bid.«package» lots same in
         elim (cases_Bool (is_empty lots)) [
-          | inl empty ↦ raise-other history j bids highs lots e are (own-not_empty history points j lots e tested inside own empty)
+          | inl empty ↦
+              let was : is_empty e.bid.«package» ≡ true = ap is_empty own ∙ empty in
+              raise-other history j bids highs lots e are (λ meet. false≢true (sym (own-same history points j lots e tested inside meet).1 ∙ was))
               (highest-none (rounds_of j history) bids (bids ++ tested_bid e ∷ []) lots empty) inside
           | inr some ↦ raise-own history points j bids highs lots e tested are own some inside
         ]
-    | inr apart ↦ raise-other history j bids highs lots e are (own-apart history points j lots e tested inside apart)
+    | inr apart ↦
+        raise-other history j bids highs lots e are (λ meet. false≢true (sym apart ∙ (own-same history points j lots e tested inside meet).0))
         (highest-other (rounds_of j history) bids (tested_bid e) lots apart) inside
   ];
 }
 
 -- ---- caps
 
-round-fits : (history : List Round) (j : ℕ) (bids : List BookBid) (highs lots : List ℕ) (r : ℕ) (t : RoundTerms) → AreHighs history j bids highs → 1 ≤ r → r ≤ length history
-    → IsRoundTerms history j r lots t → FitsRound highs t
+-- what stands among the highest amounts at the place of a round is that of the package held in it
+round-high : (history : List Round) (j : ℕ) (bids : List BookBid) (highs lots : List ℕ) (r : ℕ) (t : RoundTerms) → AreHighs history j bids highs
+    → 1 ≤ r → r ≤ length history → IsRoundTerms history j r lots t
+    → IsHighest (rounds_of j history) bids (own_in history j r).held (slice_index highs t.place)
+round-high history j bids highs lots r t are low high is =
+    subst (λ place. IsHighest (rounds_of j history) bids (own_in history j r).held (slice_index highs place)) (sym is.place)
+    (are.each (own_in history j r).held (first-inside history j r low high))
+
+round-fits : (history : List Round) (j : ℕ) (bids : List BookBid) (highs lots : List ℕ) (r : ℕ) (t : RoundTerms) → AreHighs history j bids highs
+    → 1 ≤ r → r ≤ length history → IsRoundTerms history j r lots t → FitsRound highs t
 round-fits history j bids highs lots r t are low high is =
-    let inside : first_place (rounds_of j history) (own_in history j r).held < length history = first-inside history j r low high in
-    let top : slice_index highs t.place ≡ slice_index highs (first_place (rounds_of j history) (own_in history j r).held) = ap (slice_index highs) is.place in
+    let top = round-high history j bids highs lots r t are low high is in
     record {
-      inside = omega (arith, is.place, inside, are.room);
-      high = omega (arith, top, (are.each (own_in history j r).held inside).most);
+      inside = omega (arith, is.place, first-inside history j r low high, are.room);
+      high = top.most;
       price = is.most;
-      held = omega (
-        arith,
-        top,
-        is.held,
-        (are.each (own_in history j r).held inside).is,
-        price-least history bids j r (own_in history j r).prices (own_in history j r).held low high refl refl,
-      );
+      held = omega (arith, top.is, is.held, price-least history bids j r (own_in history j r).prices (own_in history j r).held low high refl refl);
     }
 
 -- what the rounds say of a package fits the highest amounts: its places are among them, and its costs are small
@@ -183,12 +181,11 @@ terms-fit history points j bids highs lots t are some is = record {
   last = round-fits history j bids highs lots (length history) t.last are some (omega arith) is.by_last;
 }
 
-round-cap : (history : List Round) (j : ℕ) (bids : List BookBid) (highs lots : List ℕ) (r : ℕ) (t : RoundTerms) → AreHighs history j bids highs → 1 ≤ r → r ≤ length history
-    → IsRoundTerms history j r lots t → round_cap highs t ≡ cap_by (rounds_of j history) bids (own_in history j r) lots
+round-cap : (history : List Round) (j : ℕ) (bids : List BookBid) (highs lots : List ℕ) (r : ℕ) (t : RoundTerms) → AreHighs history j bids highs
+    → 1 ≤ r → r ≤ length history → IsRoundTerms history j r lots t
+    → round_cap highs t ≡ cap_by (rounds_of j history) bids (own_in history j r) lots
 round-cap history j bids highs lots r t are low high is =
-    let inside : first_place (rounds_of j history) (own_in history j r).held < length history = first-inside history j r low high in
-    let top : slice_index highs t.place ≡ highest (rounds_of j history) bids (own_in history j r).held = ap (slice_index highs) is.place ∙ (are.each (own_in history j r).held inside).is in
-    ap (λ n. n + t.price - t.held) top
+    ap (λ n. n + t.price - t.held) (round-high history j bids highs lots r t are low high is).is
     ∙ ap (λ n. highest (rounds_of j history) bids (own_in history j r).held + n - t.held) is.price
     ∙ ap (λ n. highest (rounds_of j history) bids (own_in history j r).held + cost_of (own_in history j r).prices lots - n) is.held
 

@@ -79,7 +79,8 @@ pub fn amount_listed(list: &[Bid], package: &Package) -> u64
 
 /// The greatest amount for a package among the clock bids of bidder `j` and the list, in whole units of money: the price of what
 /// the bidder held in a round at the prices of that round, and the amounts of the list. It is 0 for the empty package, and for a
-/// package without a clock bid and without an entry. The list is in the order of packages. It takes no memory.
+/// package without a clock bid and without an entry. The list is in the order of packages. It takes no memory, and looks through all
+/// rounds, for a single package.
 pub fn highest(history: &History, j: u16, list: &[Bid], package: &Package) -> u64
     requires bidder { IsBidderOf history.now j }
     requires list { All (IsEntry (categories_in history.now)) list.now }

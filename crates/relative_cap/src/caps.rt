@@ -50,7 +50,7 @@ fn cap_by(history: &History, j: u16, r: u32, list: &[Bid], package: &Package) ->
 /// The cap of a package for bidder `j` over a list, in whole units of money: the highest amount for what the bidder held in the
 /// constraining round, and the price of the difference at the prices of that round. With a final cap it is the lesser of this and
 /// the same by the final round, which is the last of the history. What the bidder held in the final round has no cap. The list is
-/// in the order of packages. It takes no memory.
+/// in the order of packages. It takes no memory. It is for a single package; lists are tested by `list_fault` or a `ListTester`.
 pub fn cap(
     history: &History,
     points: &[u32],
@@ -192,7 +192,7 @@ const ROUNDS: usize = MOST_ROUNDS as usize;
 
 /// The first entry of the list of bidder `j` whose amount is above its cap over the list, if there is one: its number, counted
 /// from 1, with its cap. The list is in the order of packages. It takes no memory, and works out once for the whole list what the
-/// rounds say.
+/// rounds say. It is for a single list; of many lists of one bidder a `ListTester` tests each after the first faster.
 pub fn list_fault(
     history: &History,
     points: &[u32],

@@ -23,7 +23,8 @@ pub fn last_enough(history: &History, j: u16, needed: u64) -> u32
 }
 
 /// The number of the constraining round of a package for bidder `j`: the greatest round at whose start the bidder was eligible
-/// for the points of the package. Rounds are numbered from 1. It takes no memory.
+/// for the points of the package. Rounds are numbered from 1. It takes no memory, and looks through the rounds from the last one, for a
+/// single package.
 pub fn constraining_round(history: &History, points: &[u32], j: u16, package: &Package) -> u32
     requires bidder { IsBidderOf history.now j }
     requires points { ArePoints history.now points.now }

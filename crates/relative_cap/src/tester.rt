@@ -20,7 +20,8 @@ use clock_stage::lots::Bid;
 use std::alloc::{AllocError, Global};
 use std::marker::Model;
 
-/// Tests the lists of one bidder, one after another, against their caps over the closed rounds, which don't change any more.
+/// Tests the lists of one bidder, one after another, against their caps over the closed rounds, which don't change any more. It is what a
+/// desk uses; for a single list `list_fault` gives the same answer without memory.
 ///
 /// It keeps what the rounds say: of each round, and of the package of each entry of the list that it tested last. So a list that
 /// differs from that one in a few packages is tested in one pass over its entries.
