@@ -11,5 +11,6 @@ pub mod Lowered
 pub mod Table
 pub mod Steps
 pub mod Prices
+pub mod Ones
 pub mod Blocks
 pub mod PricingRun

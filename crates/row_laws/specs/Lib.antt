@@ -1,4 +1,5 @@
 pub mod Winners
+pub mod Weights
 pub mod Surplus
 pub mod Rows
 pub mod Turns
