@@ -69,18 +69,22 @@ flag_short free p e = elim (cases_lt p (length free)) [ inl l ↦ l | inr g ↦ 
 IsCleared-more : (n k : ℕ) (lines : List (List ℤ)) (z : ℕ → ℤ) → IsCleared n k lines z → dot n (row lines k) z ≡ pos 0 → IsCleared n (suc k) lines z
 IsCleared-more n k lines z h e i l = elim (cases_eq i k) [ inl q ↦ subst (λ (j : ℕ). dot n (row lines j) z ≡ pos 0) (sym q) e | inr ne ↦ h i (omega arith) ]
 
--- a line that no free row answers changes nothing
-skip : (n k : ℕ) (lines : List (List ℤ)) (free : List Bool) (vs : List (List ℤ)) → State n k lines free vs →
-    ((j : ℕ) → j < n → flag free j ≡ true → dot n (row lines k) (row vs j) ≡ pos 0) → State n (suc k) lines free vs
-skip n k lines free vs st none = record {
-  kept = st.kept;
-  basis = st.basis;
-  primitive = st.primitive;
-  long = st.long;
-  sized = st.sized;
-  done = λ j l f. IsCleared-more n k lines (row vs j) (st.done j l f) (none j l f);
-  among = λ z h. st.among z (λ i l. h i (omega arith));
-}
+module _ (n k : ℕ) (lines : List (List ℤ)) (free : List Bool) (vs : List (List ℤ)) (st : State n k lines free vs) where
+  -- a line that no free row answers changes nothing
+  skip : ((j : ℕ) → j < n → flag free j ≡ true → dot n (row lines k) (row vs j) ≡ pos 0) → State n (suc k) lines free vs
+  skip none = record {
+    kept = st.kept;
+    basis = st.basis;
+    primitive = st.primitive;
+    long = st.long;
+    sized = st.sized;
+    done = λ j l f. IsCleared-more n k lines (row vs j) (st.done j l f) (none j l f);
+    among = λ z h. st.among z (λ i l. h i (omega arith));
+  }
+
+  -- at the end: a free row is a row that all lines send to 0, and where none is free only 0 is
+  pub closing : ((j : ℕ) → j < n → flag free j ≡ false) → (z : ℕ → ℤ) → IsCleared n k lines z → (i : ℕ) → i < n → z i ≡ pos 0
+  closing none z h = st.basis.only z (st.among z h) (λ l b f. true_false (flag free l) f (none l b))
 
 module _ (n k p : ℕ) (lines : List (List ℤ)) (free : List Bool) (vs ws : List (List ℤ)) (st : State n k lines free vs)
     (lp : p < n) (fp : flag free p ≡ true) (apart : dot n (row lines k) (row vs p) ≢ pos 0) (lk : k < length lines)
@@ -123,11 +127,6 @@ module _ (n k p : ℕ) (lines : List (List ℤ)) (free : List Bool) (vs ws : Lis
     done = λ j l f i b. cleared_at j l f i b;
     among = λ z h. (h k (omega arith), st.among z (λ i l. h i (omega arith)));
   }
-
--- at the end: a free row is a row that all lines send to 0, and where none is free only 0 is
-pub closing : (n k : ℕ) (lines : List (List ℤ)) (free : List Bool) (vs : List (List ℤ)) → State n k lines free vs →
-    ((j : ℕ) → j < n → flag free j ≡ false) → (z : ℕ → ℤ) → IsCleared n k lines z → (i : ℕ) → i < n → z i ≡ pos 0
-closing n k lines free vs st none z h = st.basis.only z (st.among z h) (λ l b f. true_false (flag free l) f (none l b))
 
 -- the start: all coordinates are free, and their rows are the unit rows
 opening : (n : ℕ) (lines : List (List ℤ)) (free : List Bool) (vs : List (List ℤ)) →

@@ -98,37 +98,37 @@ weighed_small w m h k =
 sum_small : (x m : ℤ) → unsigned_abs x ≤ 320 ^ 4 * 2 ^ 46 → unsigned_abs m ≤ 120 * 2 ^ 106 → unsigned_abs (x +ℤ m) < 2 ^ 113
 sum_small x m p q = omega (arith, ints)
 
--- the denominator times a target, moved by the weight times a sum of multipliers, is below 2^113 in size
-pub moved_small : (d a m : ℤ) (w : ℕ) → pos 0 <ℤ d → d ≤ℤ pos (320 ^ 4) → unsigned_abs a ≤ 2 ^ 46 → w ≤ 20 → unsigned_abs m ≤ 6 * 2 ^ 106
-    → unsigned_abs (d *ℤ a +ℤ pos w *ℤ m) < 2 ^ 113
-moved_small d a m w p q h e k = sum_small (d *ℤ a) (pos w *ℤ m) (product_small d a p q h) (weighed_small w m e k)
+-- a denominator, a target, a sum of multipliers and a weight
+module _ (d a m : ℤ) (w : ℕ) (positive : pos 0 <ℤ d) (small_den : d ≤ℤ pos (320 ^ 4)) (small_target : unsigned_abs a ≤ 2 ^ 46) (light : w ≤ 20)
+    (small_sum : unsigned_abs m ≤ 6 * 2 ^ 106) where
+  -- the denominator times the target, moved by the weight times the sum, is below 2^113 in size
+  pub moved_small : unsigned_abs (d *ℤ a +ℤ pos w *ℤ m) < 2 ^ 113
+  moved_small = sum_small (d *ℤ a) (pos w *ℤ m) (product_small d a positive small_den small_target) (weighed_small w m light small_sum)
 
--- the code's sum before it is read back
-sum_is : (d a m : ℤ) (w : ℕ) → pos 0 <ℤ d → d ≤ℤ pos (320 ^ 4) → unsigned_abs a ≤ 2 ^ 46 → w ≤ 20 → unsigned_abs m ≤ 6 * 2 ^ 106
-    → to_z w128 (of_z w128 (to_z w128 (of_z w128 d) *ℤ to_z w128 (of_z w128 a))) +ℤ to_z w128 (of_z w128 (to_z w128 w *ℤ to_z w128 (of_z w128 m))) ≡ d *ℤ a +ℤ pos w *ℤ m
-sum_is d a m w p q h e k =
-    let d' : to_z w128 (of_z w128 d) ≡ d = omega (arith, ints) in
-    let a' : to_z w128 (of_z w128 a) ≡ a = omega (arith, ints) in
-    let m' : to_z w128 (of_z w128 m) ≡ m = omega (arith, ints) in
-    let w' : to_z w128 w ≡ pos w = to_z_pos w128 w (omega arith) in
-    let da = product_small d a p q h in
-    let wm = weighed_small w m e k in
-    let left : to_z w128 (of_z w128 (to_z w128 (of_z w128 d) *ℤ to_z w128 (of_z w128 a))) ≡ d *ℤ a =
-    ap (λ (z : ℤ). to_z w128 (of_z w128 (z *ℤ to_z w128 (of_z w128 a)))) d' ∙ ap (λ (z : ℤ). to_z w128 (of_z w128 (d *ℤ z))) a' ∙ back (d *ℤ a) (omega (arith, da)) in
-    let right : to_z w128 (of_z w128 (to_z w128 w *ℤ to_z w128 (of_z w128 m))) ≡ pos w *ℤ m =
-    ap (λ (z : ℤ). to_z w128 (of_z w128 (z *ℤ to_z w128 (of_z w128 m)))) w' ∙ ap (λ (z : ℤ). to_z w128 (of_z w128 (pos w *ℤ z))) m' ∙ back (pos w *ℤ m) (omega (arith, wm)) in
-    ap (λ (z : ℤ). z +ℤ to_z w128 (of_z w128 (to_z w128 w *ℤ to_z w128 (of_z w128 m)))) left ∙ ap (λ (z : ℤ). d *ℤ a +ℤ z) right
+  -- the code's sum before it is read back
+  sum_is : to_z w128 (of_z w128 (to_z w128 (of_z w128 d) *ℤ to_z w128 (of_z w128 a))) +ℤ to_z w128 (of_z w128 (to_z w128 w *ℤ to_z w128 (of_z w128 m)))
+      ≡ d *ℤ a +ℤ pos w *ℤ m
+  sum_is =
+      let d' : to_z w128 (of_z w128 d) ≡ d = omega (arith, ints) in
+      let a' : to_z w128 (of_z w128 a) ≡ a = omega (arith, ints) in
+      let m' : to_z w128 (of_z w128 m) ≡ m = omega (arith, ints) in
+      let w' : to_z w128 w ≡ pos w = to_z_pos w128 w (omega arith) in
+      let da = product_small d a positive small_den small_target in
+      let wm = weighed_small w m light small_sum in
+      let left : to_z w128 (of_z w128 (to_z w128 (of_z w128 d) *ℤ to_z w128 (of_z w128 a))) ≡ d *ℤ a =
+      ap (λ (z : ℤ). to_z w128 (of_z w128 (z *ℤ to_z w128 (of_z w128 a)))) d' ∙ ap (λ (z : ℤ). to_z w128 (of_z w128 (d *ℤ z))) a'
+      ∙ back (d *ℤ a) (omega (arith, da)) in
+      let right : to_z w128 (of_z w128 (to_z w128 w *ℤ to_z w128 (of_z w128 m))) ≡ pos w *ℤ m =
+      ap (λ (z : ℤ). to_z w128 (of_z w128 (z *ℤ to_z w128 (of_z w128 m)))) w' ∙ ap (λ (z : ℤ). to_z w128 (of_z w128 (pos w *ℤ z))) m'
+      ∙ back (pos w *ℤ m) (omega (arith, wm)) in
+      ap (λ (z : ℤ). z +ℤ to_z w128 (of_z w128 (to_z w128 w *ℤ to_z w128 (of_z w128 m)))) left ∙ ap (λ (z : ℤ). d *ℤ a +ℤ z) right
 
--- in 128 bits, den times a small target and weight times a small sum of multipliers add up exactly
-pub moved_back : (d a m : ℤ) (w : ℕ) → pos 0 <ℤ d → d ≤ℤ pos (320 ^ 4) → unsigned_abs a ≤ 2 ^ 46 → w ≤ 20 → unsigned_abs m ≤ 6 * 2 ^ 106
-    → to_z w128 (of_z w128 (to_z w128 (of_z w128 (to_z w128 (of_z w128 d) *ℤ to_z w128 (of_z w128 a))) +ℤ to_z w128 (of_z w128 (to_z w128 w *ℤ to_z w128 (of_z w128 m))))) ≡ d *ℤ a +ℤ pos w *ℤ m
-moved_back d a m w p q h e k =
-    ap (λ (z : ℤ). to_z w128 (of_z w128 z)) (sum_is d a m w p q h e k)
-    ∙ back (d *ℤ a +ℤ pos w *ℤ m) (let s = moved_small d a m w p q h e k in omega (arith, s))
+  -- in 128 bits the products add up exactly
+  pub moved_back : to_z w128 (of_z w128 (to_z w128 (of_z w128 (to_z w128 (of_z w128 d) *ℤ to_z w128 (of_z w128 a)))
+      +ℤ to_z w128 (of_z w128 (to_z w128 w *ℤ to_z w128 (of_z w128 m))))) ≡ d *ℤ a +ℤ pos w *ℤ m
+  moved_back = ap (λ (z : ℤ). to_z w128 (of_z w128 z)) sum_is ∙ back (d *ℤ a +ℤ pos w *ℤ m) (let s = moved_small in omega (arith, s))
 
--- in 128 bits, the sum of den times a small target and weight times a small sum of multipliers fits
-pub moved_fits : (d a m : ℤ) (w : ℕ) → pos 0 <ℤ d → d ≤ℤ pos (320 ^ 4) → unsigned_abs a ≤ 2 ^ 46 → w ≤ 20 → unsigned_abs m ≤ 6 * 2 ^ 106
-    → FitsSigned w128 (to_z w128 (of_z w128 (to_z w128 (of_z w128 d) *ℤ to_z w128 (of_z w128 a))) +ℤ to_z w128 (of_z w128 (to_z w128 w *ℤ to_z w128 (of_z w128 m))))
-moved_fits d a m w p q h e k =
-    subst (FitsSigned w128) (sym (sum_is d a m w p q h e k))
-    (fits_signed_from_abs w128 (d *ℤ a +ℤ pos w *ℤ m) (let s = moved_small d a m w p q h e k in omega (arith, s)))
+  -- and their sum fits
+  pub moved_fits : FitsSigned w128 (to_z w128 (of_z w128 (to_z w128 (of_z w128 d) *ℤ to_z w128 (of_z w128 a)))
+      +ℤ to_z w128 (of_z w128 (to_z w128 w *ℤ to_z w128 (of_z w128 m))))
+  moved_fits = subst (FitsSigned w128) (sym sum_is) (fits_signed_from_abs w128 (d *ℤ a +ℤ pos w *ℤ m) (let s = moved_small in omega (arith, s)))

@@ -71,37 +71,39 @@ far_nonneg t far near tp h k = by_lt_z far (pos 0)
 pub near_nonneg : (t far near : ℤ) → far ≡ pos 0 → pos 0 ≤ℤ (far *ℤ t +ℤ near) → pos 0 ≤ℤ near
 near_nonneg t far near e k = let p : far *ℤ t ≡ pos 0 *ℤ t = ap (λ (z : ℤ). z *ℤ t) e in omega (arith, ints)
 
--- no coordinate has a far part: far parts are at least 0, each row that made the point is tight and its bound has no far part, and each coordinate lies in one
-pub plain : (m n : ℕ) (a : ℕ → ℕ → ℤ) (den : ℤ) (far first weight : ℕ → ℤ) → ((j : ℕ) → j < m → pos 0 <ℤ weight j)
-    → Solved m n a den far first (λ j. pos 0 -ℤ weight j) weight
-    → ((i : ℕ) → i < n → dot m (a i) far ≡ pos 0) → ((i j : ℕ) → pos 0 ≤ℤ a i j) → ((j : ℕ) → j < m → pos 0 ≤ℤ far j)
-    → (j : ℕ) → j < m → far j ≡ pos 0
-plain m n a den far first weight wp s tight entries low j lt = by_row (zeros_or n (λ i. a i j))
-  where
-    by_row : ((i : ℕ) → i < n → a i j ≡ pos 0) ⊎ ((q : ℕ) × (q < n) × ¬ (a q j ≡ pos 0)) → far j ≡ pos 0
-    by_row (inl none) =
-        let c : total n (λ i. first i *ℤ a i j) ≡ pos 0 = total-zero n (λ i. first i *ℤ a i j) (λ i li. times_zero (first i) (a i j) (none i li)) in
-        let z = times_zero (weight j) (total n (λ i. first i *ℤ a i j)) c in
-        let p = mul_positive den (weight j) s.positive (wp j lt) in
-        let e : den *ℤ (pos 0 -ℤ weight j) ≡ pos 0 -ℤ den *ℤ weight j = ring (den ∷ weight j ∷ []) (mul (var 0) (sub (con (pos 0)) (var 1))) (sub (con (pos 0)) (mul (var 0) (var 1))) refl in
-        let f = s.at j lt in let g = low j lt in
-        absurd (omega (arith, ints))
-    by_row (inr (q, lq, nz)) =
-        let t : (a q j *ℤ far j) ≤ℤ dot m (a q) far = term-le m (λ j. a q j *ℤ far j) (λ j lj. mul_nonneg (a q j) (far j) (entries q j) (low j lj)) j lt in
-        let u = tight q lq in
-        let v = mul_nonneg (a q j) (far j) (entries q j) (low j lt) in
-        mul-zero_cases (a q j) (far j) (omega (arith, ints)) nz
+-- the far parts of a point that is solved for the target lowered by each weight
+module _ (m n : ℕ) (a : ℕ → ℕ → ℤ) (den : ℤ) (far first weight : ℕ → ℤ) (wp : (j : ℕ) → j < m → pos 0 <ℤ weight j)
+    (s : Solved m n a den far first (λ j. pos 0 -ℤ weight j) weight) where
+  -- no coordinate has a far part: far parts are at least 0, each row that made the point is tight and its bound has no far part, and each coordinate lies in one
+  pub plain : ((i : ℕ) → i < n → dot m (a i) far ≡ pos 0) → ((i j : ℕ) → pos 0 ≤ℤ a i j) → ((j : ℕ) → j < m → pos 0 ≤ℤ far j)
+      → (j : ℕ) → j < m → far j ≡ pos 0
+  plain tight entries low j lt = by_row (zeros_or n (λ i. a i j))
+    where
+      by_row : ((i : ℕ) → i < n → a i j ≡ pos 0) ⊎ ((q : ℕ) × (q < n) × ¬ (a q j ≡ pos 0)) → far j ≡ pos 0
+      by_row (inl none) =
+          let c : total n (λ i. first i *ℤ a i j) ≡ pos 0 = total-zero n (λ i. first i *ℤ a i j) (λ i li. times_zero (first i) (a i j) (none i li)) in
+          let z = times_zero (weight j) (total n (λ i. first i *ℤ a i j)) c in
+          let p = mul_positive den (weight j) s.positive (wp j lt) in
+          let e : den *ℤ (pos 0 -ℤ weight j) ≡ pos 0 -ℤ den *ℤ weight j =
+          ring (den ∷ weight j ∷ []) (mul (var 0) (sub (con (pos 0)) (var 1))) (sub (con (pos 0)) (mul (var 0) (var 1))) refl in
+          let f = s.at j lt in let g = low j lt in
+          absurd (omega (arith, ints))
+      by_row (inr (q, lq, nz)) =
+          let t : (a q j *ℤ far j) ≤ℤ dot m (a q) far = term-le m (λ j. a q j *ℤ far j) (λ j lj. mul_nonneg (a q j) (far j) (entries q j) (low j lj)) j lt in
+          let u = tight q lq in
+          let v = mul_nonneg (a q j) (far j) (entries q j) (low j lt) in
+          mul-zero_cases (a q j) (far j) (omega (arith, ints)) nz
 
--- the first numbers of the rows that hold j sum to den
-pub columns_first : (m n : ℕ) (a : ℕ → ℕ → ℤ) (den : ℤ) (far first weight : ℕ → ℤ) → ((j : ℕ) → j < m → pos 0 <ℤ weight j)
-    → Solved m n a den far first (λ j. pos 0 -ℤ weight j) weight → (j : ℕ) → j < m → far j ≡ pos 0 → total n (λ i. first i *ℤ a i j) ≡ den
-columns_first m n a den far first weight wp s j lt e =
-    let c : ℤ = total n (λ i. first i *ℤ a i j) in
-    let f = s.at j lt in
-    let r : den *ℤ (pos 0 -ℤ weight j) +ℤ weight j *ℤ c ≡ weight j *ℤ (c -ℤ den) = ring (den ∷ weight j ∷ c ∷ []) (add (mul (var 0) (sub (con (pos 0)) (var 1))) (mul (var 1) (var 2))) (mul (var 1) (sub (var 2) (var 0))) refl in
-    let p : weight j *ℤ (c -ℤ den) ≡ pos 0 = omega (arith, ints) in
-    let d : c -ℤ den ≡ pos 0 = mul-zero_cases (weight j) (c -ℤ den) p (λ w. let b = wp j lt in absurd (omega (arith, ints))) in
-    omega (arith, ints)
+  -- the first numbers of the rows that hold j sum to den
+  pub columns_first : (j : ℕ) → j < m → far j ≡ pos 0 → total n (λ i. first i *ℤ a i j) ≡ den
+  columns_first j lt e =
+      let c : ℤ = total n (λ i. first i *ℤ a i j) in
+      let f = s.at j lt in
+      let r : den *ℤ (pos 0 -ℤ weight j) +ℤ weight j *ℤ c ≡ weight j *ℤ (c -ℤ den) =
+      ring (den ∷ weight j ∷ c ∷ []) (add (mul (var 0) (sub (con (pos 0)) (var 1))) (mul (var 1) (var 2))) (mul (var 1) (sub (var 2) (var 0))) refl in
+      let p : weight j *ℤ (c -ℤ den) ≡ pos 0 = omega (arith, ints) in
+      let d : c -ℤ den ≡ pos 0 = mul-zero_cases (weight j) (c -ℤ den) p (λ w. let b = wp j lt in absurd (omega (arith, ints))) in
+      omega (arith, ints)
 
 when_times : (b : Bool) (x y : ℤ) → when b x *ℤ y ≡ when b (x *ℤ y)
 when_times true x y = refl

@@ -103,70 +103,81 @@ pub record IsRead (values : List Far) (den : ℤ) (f : Multipliers) : Type 0 whe
   pub first : (i : ℕ) → i < length values → nth f.first.items i ≡ far_at values i
   pub second : (i : ℕ) → i < length values → nth f.second.items i ≡ near_at values i
 
-of_one : (target : List ℤ) (weights : List ℕ) (rows : List Row) (forced : List ℕ) (lowered : List ℤ) → IsLowered weights lowered → length lowered ≡ length target
-    → (matrix : List (List ℤ)) (right values : List Far) (den : ℤ) (f : Multipliers)
-    → IsGram (length target) (length forced) (row_of rows forced) (weight_at weights) matrix
-    → ((i : ℕ) → i < length forced → far_at right i ≡ pos 0 -ℤ dot (length target) (row_of rows forced i) (nth lowered))
-    → ((i : ℕ) → i < length forced → near_at right i ≡ bounds rows (place forced i) -ℤ dot (length target) (row_of rows forced i) (nth target))
-    → IsOneSolution matrix (far_at right) (near_at right) den values → IsSmallAnswer (320 ^ 4 + 1) (2 ^ 106) (One den values)
-    → (AreOnes (length target) weights → IsSmallAnswer (2 ^ 32) (2 ^ 106) (One den values)) → IsRead values den f
-    → AreMultipliers target weights rows forced f
-of_one target weights rows forced lowered low len matrix right values den f g fars nears one small smaller r =
-    let m = length target in
-    let n = length forced in
-    let d = r.den_is in
-    let p = one.positive in
-    let q = small.0 in
-    let long : length values ≡ n = one.long ∙ g.long in
-    record {
-      positive = omega (arith, ints);
-      small_den = omega (arith, ints);
-      ones_den = λ ones. (let s = (smaller ones).0 in omega (arith, ints));
-      long_first = r.long_first ∙ long;
-      long_second = r.long_second ∙ long;
-      far = solves_part m n (row_of rows forced) (weight_at weights) matrix f.den (far_at values) (nth f.first.items) (λ j. pos 0 -ℤ weight_at weights j) (λ i. pos 0) (far_at right) g
-          (λ k lt. one.far.solves k lt ∙ ap (λ (z : ℤ). z *ℤ far_at right k) (sym d)) (λ i lt. r.first i (omega arith))
-          (λ i lt. fars i lt ∙ ap (λ (z : ℤ). pos 0 -ℤ z) (lowered_dot m (row_of rows forced i) weights lowered low len));
-      near = solves_part m n (row_of rows forced) (weight_at weights) matrix f.den (near_at values) (nth f.second.items) (nth target) (λ i. bounds rows (place forced i)) (near_at right) g
-          (λ k lt. one.near.solves k lt ∙ ap (λ (z : ℤ). z *ℤ near_at right k) (sym d)) (λ i lt. r.second i (omega arith)) nears;
-      small_first = λ i lt. (let l = r.long_first in let b = (small.1 i (omega arith)).0 in rw (r.first i (omega arith)) b);
-      small_second = λ i lt. (let l = r.long_second in let b = (small.1 i (omega arith)).1 in rw (r.second i (omega arith)) b);
-    }
+-- the rows that are forced, and the target lowered by the weights
+module _ (target : List ℤ) (weights : List ℕ) (rows : List Row) (forced : List ℕ) (lowered : List ℤ) (low : IsLowered weights lowered)
+    (len : length lowered ≡ length target) where
+  -- a square of what common members weigh by the lowered target is the matrix of the forced rows
+  pub is_gram : (matrix : List (List ℤ)) → length matrix ≡ length forced
+      → ((i k : ℕ) → i < length forced → k < length forced
+      → row matrix i k ≡ common (length lowered) (row_of rows forced i) (row_of rows forced k) (nth lowered))
+      → IsGram (length target) (length forced) (row_of rows forced) (weight_at weights) matrix
+  is_gram matrix long all = record {
+    long = long;
+    entries = λ i k li lk. all i k li lk ∙ ap (λ (t : ℕ). common t (row_of rows forced i) (row_of rows forced k) (nth lowered)) len
+        ∙ gram_is (length target) (row_of rows forced i) (row_of rows forced k) weights lowered low len;
+  }
 
--- the small solution of the system, as it is read, gives the multipliers of the forced rows by parts
-pub multipliers_of : (target : List ℤ) (weights : List ℕ) (rows : List Row) (forced : List ℕ) (lowered : List ℤ) → IsLowered weights lowered → length lowered ≡ length target
-    → (matrix : List (List ℤ)) (right values : List Far) (den : ℤ) (f : Multipliers) (s : Answer)
-    → IsGram (length target) (length forced) (row_of rows forced) (weight_at weights) matrix
-    → ((i : ℕ) → i < length forced → far_at right i ≡ pos 0 -ℤ dot (length target) (row_of rows forced i) (nth lowered))
-    → ((i : ℕ) → i < length forced → near_at right i ≡ bounds rows (place forced i) -ℤ dot (length target) (row_of rows forced i) (nth target))
-    → IsAnswer matrix (far_at right) (near_at right) s → IsSmallAnswer (320 ^ 4 + 1) (2 ^ 106) s → (AreOnes (length target) weights → IsSmallAnswer (2 ^ 32) (2 ^ 106) s)
-    → s ≡ One den values → IsRead values den f
-    → AreMultipliers target weights rows forced f
-multipliers_of target weights rows forced lowered low len matrix right values den f s g fars nears answer small smaller e r =
-    of_one target weights rows forced lowered low len matrix right values den f g fars nears (subst (IsAnswer matrix (far_at right) (near_at right)) e answer) (subst (IsSmallAnswer (320 ^ 4 + 1) (2 ^ 106)) e small)
-    (λ ones. subst (IsSmallAnswer (2 ^ 32) (2 ^ 106)) e (smaller ones)) r
+  -- the point of solved multipliers, part by part
+  pub by_parts : (f : Multipliers) (far near : List ℤ) → AreMultipliers target weights rows forced f
+      → IsPart rows forced (weight_at weights) f.den lowered f.first.items far → IsPart rows forced (weight_at weights) f.den target f.second.items near
+      → ByParts (length target) (coefficients rows) (bounds rows) (nth target) (weight_at weights) forced f.den (nth far) (nth near) (nth f.first.items)
+      (nth f.second.items)
+  by_parts f far near h pf pn =
+      let m = length target in
+      let n = length forced in
+      let a = row_of rows forced in
+      let w = weight_at weights in
+      let sf : Solved m n a f.den (nth far) (nth f.first.items) (λ j. pos 0 -ℤ w j) w = record {
+        positive = h.positive;
+        at = λ j lt. pf.at j (omega arith) ∙ ap (λ (z : ℤ). f.den *ℤ z +ℤ w j *ℤ total n (λ i. nth f.first.items i *ℤ a i j)) (low.is j (omega arith));
+      } in
+      let sn : Solved m n a f.den (nth near) (nth f.second.items) (nth target) w = record { positive = h.positive; at = pn.at } in
+      record {
+        far = sf;
+        near = sn;
+        tight_far = λ i lt. settled m n a (λ i. pos 0) (λ j. pos 0 -ℤ w j) w f.den (nth f.first.items) (nth far) sf h.far i lt ∙ omega (arith, ints);
+        tight_near = λ i lt. settled m n a (λ i. bounds rows (place forced i)) (nth target) w f.den (nth f.second.items) (nth near) sn h.near i lt;
+      }
 
--- the point of solved multipliers, part by part
-by_parts : (target : List ℤ) (weights : List ℕ) (rows : List Row) (forced : List ℕ) (lowered : List ℤ) → IsLowered weights lowered → length lowered ≡ length target
-    → (f : Multipliers) (far near : List ℤ) → AreMultipliers target weights rows forced f
-    → IsPart rows forced (weight_at weights) f.den lowered f.first.items far → IsPart rows forced (weight_at weights) f.den target f.second.items near
-    → ByParts (length target) (coefficients rows) (bounds rows) (nth target) (weight_at weights) forced f.den (nth far) (nth near) (nth f.first.items) (nth f.second.items)
-by_parts target weights rows forced lowered low len f far near h pf pn =
-    let m = length target in
-    let n = length forced in
-    let a = row_of rows forced in
-    let w = weight_at weights in
-    let sf : Solved m n a f.den (nth far) (nth f.first.items) (λ j. pos 0 -ℤ w j) w = record {
-      positive = h.positive;
-      at = λ j lt. pf.at j (omega arith) ∙ ap (λ (z : ℤ). f.den *ℤ z +ℤ w j *ℤ total n (λ i. nth f.first.items i *ℤ a i j)) (low.is j (omega arith));
-    } in
-    let sn : Solved m n a f.den (nth near) (nth f.second.items) (nth target) w = record { positive = h.positive; at = pn.at } in
-    record {
-      far = sf;
-      near = sn;
-      tight_far = λ i lt. settled m n a (λ i. pos 0) (λ j. pos 0 -ℤ w j) w f.den (nth f.first.items) (nth far) sf h.far i lt ∙ omega (arith, ints);
-      tight_near = λ i lt. settled m n a (λ i. bounds rows (place forced i)) (nth target) w f.den (nth f.second.items) (nth near) sn h.near i lt;
-    }
+  -- the system of the forced rows
+  module _ (matrix : List (List ℤ)) (right values : List Far) (den : ℤ) (f : Multipliers)
+      (g : IsGram (length target) (length forced) (row_of rows forced) (weight_at weights) matrix)
+      (fars : (i : ℕ) → i < length forced → far_at right i ≡ pos 0 -ℤ dot (length target) (row_of rows forced i) (nth lowered))
+      (nears : (i : ℕ) → i < length forced → near_at right i ≡ bounds rows (place forced i) -ℤ dot (length target) (row_of rows forced i) (nth target)) where
+    of_one : IsOneSolution matrix (far_at right) (near_at right) den values → IsSmallAnswer (320 ^ 4 + 1) (2 ^ 106) (One den values)
+        → (AreOnes (length target) weights → IsSmallAnswer (2 ^ 32) (2 ^ 106) (One den values)) → IsRead values den f
+        → AreMultipliers target weights rows forced f
+    of_one one small smaller r =
+        let m = length target in
+        let n = length forced in
+        let a = row_of rows forced in
+        let w = weight_at weights in
+        let d = r.den_is in
+        let p = one.positive in
+        let q = small.0 in
+        let long : length values ≡ n = one.long ∙ g.long in
+        record {
+          positive = omega (arith, ints);
+          small_den = omega (arith, ints);
+          ones_den = λ ones. (let s = (smaller ones).0 in omega (arith, ints));
+          long_first = r.long_first ∙ long;
+          long_second = r.long_second ∙ long;
+          far = solves_part m n a w matrix f.den (far_at values) (nth f.first.items) (λ j. pos 0 -ℤ w j) (λ i. pos 0) (far_at right) g
+              (λ k lt. one.far.solves k lt ∙ ap (λ (z : ℤ). z *ℤ far_at right k) (sym d)) (λ i lt. r.first i (omega arith))
+              (λ i lt. fars i lt ∙ ap (λ (z : ℤ). pos 0 -ℤ z) (lowered_dot m (a i) weights lowered low len));
+          near = solves_part m n a w matrix f.den (near_at values) (nth f.second.items) (nth target) (λ i. bounds rows (place forced i)) (near_at right) g
+              (λ k lt. one.near.solves k lt ∙ ap (λ (z : ℤ). z *ℤ near_at right k) (sym d)) (λ i lt. r.second i (omega arith)) nears;
+          small_first = λ i lt. (let l = r.long_first in let b = (small.1 i (omega arith)).0 in rw (r.first i (omega arith)) b);
+          small_second = λ i lt. (let l = r.long_second in let b = (small.1 i (omega arith)).1 in rw (r.second i (omega arith)) b);
+        }
+
+    -- the small solution of the system, as it is read, gives the multipliers of the forced rows by parts
+    pub multipliers_of : (s : Answer) → IsAnswer matrix (far_at right) (near_at right) s → IsSmallAnswer (320 ^ 4 + 1) (2 ^ 106) s
+        → (AreOnes (length target) weights → IsSmallAnswer (2 ^ 32) (2 ^ 106) s) → s ≡ One den values → IsRead values den f
+        → AreMultipliers target weights rows forced f
+    multipliers_of s answer small smaller e r =
+        of_one (subst (IsAnswer matrix (far_at right) (near_at right)) e answer) (subst (IsSmallAnswer (320 ^ 4 + 1) (2 ^ 106)) e small)
+        (λ ones. subst (IsSmallAnswer (2 ^ 32) (2 ^ 106)) e (smaller ones)) r
 
 -- what the code holds once it has settled
 pub record IsSettled (target : List ℤ) (weights : List ℕ) (rows : List Row) (forced : List ℕ) (lowered : List ℤ) (f : Multipliers) (h : Held) : Type 0 where
@@ -180,56 +191,48 @@ pub record IsSettled (target : List ℤ) (weights : List ℕ) (rows : List Row) 
   pub first_is : h.first.items ≡ f.first.items
   pub second_is : h.second.items ≡ f.second.items
 
-parts_are : (target : List ℤ) (weights : List ℕ) (rows : List Row) (forced : List ℕ) (lowered : List ℤ) (f : Multipliers) (h : Held) → IsSettled target weights rows forced lowered f h
-    → ByParts (length target) (coefficients rows) (bounds rows) (nth target) (weight_at weights) h.rows.items h.den (nth h.far.items) (nth h.near.items) (nth h.first.items) (nth h.second.items)
-parts_are target weights rows forced lowered f h s =
-    rw (s.rows_are, s.den_is, s.first_is, s.second_is) (by_parts target weights rows forced lowered s.low s.long f h.far.items h.near.items s.solved s.far s.near)
+-- what is settled
+module _ (target : List ℤ) (weights : List ℕ) (rows : List Row) (forced : List ℕ) (lowered : List ℤ) (f : Multipliers) (h : Held)
+    (s : IsSettled target weights rows forced lowered f h) where
+  parts : ByParts (length target) (coefficients rows) (bounds rows) (nth target) (weight_at weights) forced f.den (nth h.far.items) (nth h.near.items)
+      (nth f.first.items)
+      (nth f.second.items)
+  parts = by_parts target weights rows forced lowered s.low s.long f h.far.items h.near.items s.solved s.far s.near
 
--- with independent forced rows the settled point is right for these with equality, and no row is taken yet
-pub settled_near : (target : List ℤ) (weights : List ℕ) (rows : List Row) (forced : List ℕ) (lowered : List ℤ) (f : Multipliers) (h : Held) → IsSettled target weights rows forced lowered f h
-    → Independent (length target) (length forced) (row_of rows forced) → IsNear target weights rows forced (length rows) h
-settled_near target weights rows forced lowered f h s ind =
-    let m = length target in
-    let w = weight_at weights in
-    let p = by_parts target weights rows forced lowered s.low s.long f h.far.items h.near.items s.solved s.far s.near in
-    let at : ℕ → ℤ = at_t large (nth h.far.items) (nth h.near.items) in
-    let tight : (i : ℕ) → i < length forced → dot m (coefficients rows (place forced i)) at ≡ f.den *ℤ bounds rows (place forced i) =
-    λ i lt. dot-at_t m (coefficients rows (place forced i)) large (nth h.far.items) (nth h.near.items)
-    ∙ ap (λ (z : ℤ). z *ℤ large +ℤ dot m (coefficients rows (place forced i)) (nth h.near.items)) (p.tight_far i lt)
-    ∙ ap (λ (z : ℤ). pos 0 *ℤ large +ℤ z) (p.tight_near i lt) ∙ omega (arith, ints) in
-    rw (s.rows_are, s.den_is, s.first_is, s.second_is)
-    (near_start m (length rows) (coefficients rows) (bounds rows) (at_t large (λ j. pos 0 -ℤ w j) (nth target)) w forced f.den at (at_t large (nth f.first.items) (nth f.second.items))
-    (solved-at_t m (length forced) (row_of rows forced) f.den large (nth h.far.items) (nth h.near.items) (nth f.first.items) (nth f.second.items) (λ j. pos 0 -ℤ w j) (nth target) w p.far p.near)
-    tight ind)
+  -- with independent forced rows the settled point is right for these with equality, and no row is taken yet
+  pub settled_near : Independent (length target) (length forced) (row_of rows forced) → IsNear target weights rows forced (length rows) h
+  settled_near ind =
+      let m = length target in
+      let w = weight_at weights in
+      let at : ℕ → ℤ = at_t large (nth h.far.items) (nth h.near.items) in
+      let tight : (i : ℕ) → i < length forced → dot m (coefficients rows (place forced i)) at ≡ f.den *ℤ bounds rows (place forced i) =
+      λ i lt. dot-at_t m (coefficients rows (place forced i)) large (nth h.far.items) (nth h.near.items)
+      ∙ ap (λ (z : ℤ). z *ℤ large +ℤ dot m (coefficients rows (place forced i)) (nth h.near.items)) (parts.tight_far i lt)
+      ∙ ap (λ (z : ℤ). pos 0 *ℤ large +ℤ z) (parts.tight_near i lt) ∙ omega (arith, ints) in
+      rw (s.rows_are, s.den_is, s.first_is, s.second_is)
+      (near_start m (length rows) (coefficients rows) (bounds rows) (at_t large (λ j. pos 0 -ℤ w j) (nth target)) w forced f.den at
+      (at_t large (nth f.first.items) (nth f.second.items))
+      (solved-at_t m (length forced) (row_of rows forced) f.den large (nth h.far.items) (nth h.near.items) (nth f.first.items) (nth f.second.items)
+      (λ j. pos 0 -ℤ w j) (nth target) w
+      parts.far parts.near)
+      tight ind)
 
--- what is settled has its parts and sizes, where forced places are of rows and its point's parts below 2^113
-pub settled_parts : (target : List ℤ) (weights : List ℕ) (rows : List Row) (forced : List ℕ) (lowered : List ℤ) (f : Multipliers) (h : Held) → IsSettled target weights rows forced lowered f h
-    → AreWithin forced rows → AreBelow (2 ^ 113) h.far.items → AreBelow (2 ^ 113) h.near.items → HasParts target weights rows h
-settled_parts target weights rows forced lowered f h s within far near = record {
-  long_far = s.far.long ∙ s.long;
-  long_near = s.near.long;
-  long_first = ap length s.first_is ∙ s.solved.long_first ∙ sym (ap length s.rows_are);
-  long_second = ap length s.second_is ∙ s.solved.long_second ∙ sym (ap length s.rows_are);
-  within = subst (λ (l : List ℕ). AreWithin l rows) (sym s.rows_are) within;
-  parts = parts_are target weights rows forced lowered f h s;
-  small_den = (let a = s.den_is in let b = s.solved.small_den in omega (arith, ints));
-  ones_den = λ ones. (let a = s.den_is in let b = s.solved.ones_den ones in omega (arith, ints));
-  small_far = far;
-  small_near = near;
-  small_first = subst (AreBelow (2 ^ 106)) (sym s.first_is) s.solved.small_first;
-  small_second = subst (AreBelow (2 ^ 106)) (sym s.second_is) s.solved.small_second;
-}
-
--- a square of what common members weigh by the lowered target is the matrix of the forced rows
-pub is_gram : (target : List ℤ) (weights : List ℕ) (rows : List Row) (forced : List ℕ) (lowered : List ℤ) → IsLowered weights lowered → length lowered ≡ length target
-    → (matrix : List (List ℤ)) → length matrix ≡ length forced
-    → ((i k : ℕ) → i < length forced → k < length forced → row matrix i k ≡ common (length lowered) (row_of rows forced i) (row_of rows forced k) (nth lowered))
-    → IsGram (length target) (length forced) (row_of rows forced) (weight_at weights) matrix
-is_gram target weights rows forced lowered low len matrix long all = record {
-  long = long;
-  entries = λ i k li lk. all i k li lk ∙ ap (λ (t : ℕ). common t (row_of rows forced i) (row_of rows forced k) (nth lowered)) len
-      ∙ gram_is (length target) (row_of rows forced i) (row_of rows forced k) weights lowered low len;
-}
+  -- what is settled has its parts and sizes, where forced places are of rows and its point's parts below 2^113
+  pub settled_parts : AreWithin forced rows → AreBelow (2 ^ 113) h.far.items → AreBelow (2 ^ 113) h.near.items → HasParts target weights rows h
+  settled_parts within far near = record {
+    long_far = s.far.long ∙ s.long;
+    long_near = s.near.long;
+    long_first = ap length s.first_is ∙ s.solved.long_first ∙ sym (ap length s.rows_are);
+    long_second = ap length s.second_is ∙ s.solved.long_second ∙ sym (ap length s.rows_are);
+    within = subst (λ (l : List ℕ). AreWithin l rows) (sym s.rows_are) within;
+    parts = rw (s.rows_are, s.den_is, s.first_is, s.second_is) parts;
+    small_den = (let a = s.den_is in let b = s.solved.small_den in omega (arith, ints));
+    ones_den = λ ones. (let a = s.den_is in let b = s.solved.ones_den ones in omega (arith, ints));
+    small_far = far;
+    small_near = near;
+    small_first = subst (AreBelow (2 ^ 106)) (sym s.first_is) s.solved.small_first;
+    small_second = subst (AreBelow (2 ^ 106)) (sym s.second_is) s.solved.small_second;
+  }
 
 -- the denominator of a small solution comes back from its 128 bits
 pub den_back : (matrix : List (List ℤ)) (fars nears : ℕ → ℤ) (den : ℤ) (values : List Far) (s : Answer) → IsAnswer matrix fars nears s → IsSmallAnswer (320 ^ 4 + 1) (2 ^ 106) s → s ≡ One den values

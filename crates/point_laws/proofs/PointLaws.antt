@@ -87,25 +87,6 @@ least_sum m r a bound d n first e x h =
     let g = total-gap m d n e x in
     omega (arith, ints)
 
-second_term : (m r : ℕ) (a : ℕ → ℕ → ℤ) (bound : ℕ → ℤ) (d : ℤ) (n first second target weight : ℕ → ℤ) (e : ℤ) (x : ℕ → ℤ)
-    → Compared m r a bound d n first e x → AreSecond m r a bound d n first second target weight → total m (gap_of d n e x) ≡ pos 0
-    → (i : ℕ) → i < r → pos 0 ≤ℤ (second i *ℤ dot m (a i) (gap_of d n e x))
-second_term m r a bound d n first second target weight e x h s z i lt =
-    let y : ℕ → ℤ = gap_of d n e x in
-    let terms = first_term m r a bound d n first e x h.firsts h.meets in
-    let all : d *ℤ total m y ≡ total r (λ i. first i *ℤ dot m (a i) y) = first_sum m r a d n first e x h.sums in
-    let dz : d *ℤ total m y ≡ pos 0 = times_zero d (total m y) z in
-    let small : (first i *ℤ dot m (a i) y) ≤ℤ total r (λ i. first i *ℤ dot m (a i) y) = term-le r (λ i. first i *ℤ dot m (a i) y) terms i lt in
-    let big : pos 0 ≤ℤ (first i *ℤ dot m (a i) y) = terms i lt in
-    let none : first i *ℤ dot m (a i) y ≡ pos 0 = omega (arith, ints) in
-    elim (zero_or (first i)) [
-      | inl f ↦ elim (zero_or (second i)) [
-        | inl g ↦ none_negative (second i) (dot m (a i) y) (zero_times (second i) (dot m (a i) y) g)
-        | inr g ↦ mul_nonneg (second i) (dot m (a i) y) (s.sign i lt f) (dot-tight m (a i) (bound i) d n e x h.firsts.positive (s.tight i lt g) (h.meets.above i lt))
-      ]
-      | inr f ↦ none_negative (second i) (dot m (a i) y) (times_zero (second i) (dot m (a i) y) (mul-zero_cases (first i) (dot m (a i) y) none f))
-    ]
-
 -- d² k (x - e v)² = e² k (n - d v)² + k y² + 2 e y k (n - d v) with y = d x - e n
 square_step : (k d e x n v : ℤ) → d *ℤ d *ℤ (k *ℤ ((x -ℤ e *ℤ v) *ℤ (x -ℤ e *ℤ v)))
     ≡ e *ℤ e *ℤ (k *ℤ ((n -ℤ d *ℤ v) *ℤ (n -ℤ d *ℤ v))) +ℤ (k *ℤ ((d *ℤ x -ℤ e *ℤ n) *ℤ (d *ℤ x -ℤ e *ℤ n)) +ℤ pos 2 *ℤ e *ℤ ((k *ℤ (n -ℤ d *ℤ v)) *ℤ (d *ℤ x -ℤ e *ℤ n)))
@@ -114,41 +95,6 @@ square_step k d e x n v =
     let p = sub X (mul E V) in let q = sub N (mul D V) in let y = sub (mul D X) (mul E N) in
     ring (k ∷ d ∷ e ∷ x ∷ n ∷ v ∷ []) (mul (mul D D) (mul K (mul p p)))
     (add (mul (mul E E) (mul K (mul q q))) (add (mul K (mul y y)) (mul (mul (con (pos 2)) E) (mul (mul K q) y)))) refl
-
--- a point of the same sum that isn't the same at coordinate j is farther from the target
-pub farther : (m r : ℕ) (a : ℕ → ℕ → ℤ) (bound : ℕ → ℤ) (d : ℤ) (n first second target weight : ℕ → ℤ) (l : ℤ) (share : ℕ → ℤ) (e : ℤ) (x : ℕ → ℤ)
-    → Compared m r a bound d n first e x → AreSecond m r a bound d n first second target weight → AreShares m l share weight
-    → d *ℤ total m x ≡ e *ℤ total m n → (j : ℕ) → j < m → d *ℤ x j ≢ e *ℤ n j
-    → (e *ℤ e *ℤ square_distance m share target d n) <ℤ (d *ℤ d *ℤ square_distance m share target e x)
-farther m r a bound d n first second target weight l share e x h s w same j lt other =
-    let y : ℕ → ℤ = gap_of d n e x in
-    let q : ℕ → ℤ = λ j. share j *ℤ (y j *ℤ y j) in
-    let near : ℕ → ℤ = λ j. share j *ℤ ((n j -ℤ d *ℤ target j) *ℤ (n j -ℤ d *ℤ target j)) in
-    let col : ℕ → ℤ = sum_at r a second in
-    let zero_sum : total m y ≡ pos 0 = total-gap m d n e x ∙ omega (arith, ints) in
-    let rows : pos 0 ≤ℤ total r (λ i. second i *ℤ dot m (a i) y) = total-nonneg r (λ i. second i *ℤ dot m (a i) y) (second_term m r a bound d n first second target weight e x h s zero_sum) in
-    let by_rows : total m (λ j. col j *ℤ y j) ≡ total r (λ i. second i *ℤ dot m (a i) y) = dual m r a second y in
-    let cross : (j : ℕ) → j < m → share j *ℤ (n j -ℤ d *ℤ target j) ≡ l *ℤ col j =
-    λ j lj. ap (λ (z : ℤ). share j *ℤ z) (sym (s.sums j lj)) ∙ sym (mul_assoc (share j) (weight j) (col j)) ∙ ap (λ (z : ℤ). z *ℤ col j) (w.whole j lj) in
-    let left : d *ℤ d *ℤ square_distance m share target e x ≡ e *ℤ e *ℤ total m near +ℤ (total m q +ℤ pos 2 *ℤ e *ℤ (l *ℤ total m (λ j. col j *ℤ y j))) =
-    sym (total-scale m (d *ℤ d) (λ j. share j *ℤ ((x j -ℤ e *ℤ target j) *ℤ (x j -ℤ e *ℤ target j))))
-    ∙ total-same m (λ j. d *ℤ d *ℤ (share j *ℤ ((x j -ℤ e *ℤ target j) *ℤ (x j -ℤ e *ℤ target j)))) (λ j. e *ℤ e *ℤ near j +ℤ (q j +ℤ pos 2 *ℤ e *ℤ (l *ℤ (col j *ℤ y j))))
-    (λ j lj. square_step (share j) d e (x j) (n j) (target j)
-    ∙ ap (λ (z : ℤ). e *ℤ e *ℤ near j +ℤ (q j +ℤ pos 2 *ℤ e *ℤ z)) (ap (λ (z : ℤ). z *ℤ y j) (cross j lj) ∙ mul_assoc l (col j) (y j)))
-    ∙ total-add m (λ j. e *ℤ e *ℤ near j) (λ j. q j +ℤ pos 2 *ℤ e *ℤ (l *ℤ (col j *ℤ y j)))
-    ∙ (let p₁ = total-scale m (e *ℤ e) near in
-    let p₂ = total-add m q (λ j. pos 2 *ℤ e *ℤ (l *ℤ (col j *ℤ y j))) in
-    let p₃ = total-scale m (pos 2 *ℤ e) (λ j. l *ℤ (col j *ℤ y j)) in
-    let p₄ : pos 2 *ℤ e *ℤ total m (λ j. l *ℤ (col j *ℤ y j)) ≡ pos 2 *ℤ e *ℤ (l *ℤ total m (λ j. col j *ℤ y j)) = ap (λ (z : ℤ). pos 2 *ℤ e *ℤ z) (total-scale m l (λ j. col j *ℤ y j)) in
-    omega (arith, ints)) in
-    let squares : (j : ℕ) → j < m → pos 0 ≤ℤ q j = λ j lj. mul_nonneg (share j) (y j *ℤ y j) (let b = w.positive j lj in omega (arith, ints)) (square_nonneg (y j)) in
-    let apart : y j ≢ pos 0 = λ z. other (omega (arith, ints)) in
-    let more : pos 0 <ℤ q j = mul_positive (share j) (y j *ℤ y j) (w.positive j lt) (square_positive (y j) apart) in
-    let one : q j ≤ℤ total m q = term-le m q squares j lt in
-    let twice : pos 0 ≤ℤ (pos 2 *ℤ e *ℤ (l *ℤ total m (λ j. col j *ℤ y j))) =
-    mul_nonneg (pos 2 *ℤ e) (l *ℤ total m (λ j. col j *ℤ y j)) (mul_nonneg (pos 2) e (omega (arith, ints)) (let b = h.meets.positive in omega (arith, ints)))
-    (mul_nonneg l (total m (λ j. col j *ℤ y j)) w.not_negative (omega (arith, ints))) in
-    omega (arith, ints)
 
 equal_or : (p q : ℤ) → (p ≡ q) ⊎ (p ≢ q)
 equal_or p q = elim (zero_or (p -ℤ q)) [ inl z ↦ inl (omega (arith, ints)) | inr z ↦ inr (λ e. z (omega (arith, ints))) ]
@@ -173,15 +119,75 @@ pub least : (m r : ℕ) (a : ℕ → ℕ → ℤ) (bound : ℕ → ℤ) (d : ℤ
     → HasLeastSum m (λ e x. MeetsRows m r a bound e x × SumsToOrStands m r a d n first e x) d n
 least m r a bound d n first f e x among = least_sum m r a bound d n first e x (record { firsts = f; sums = among.1; meets = among.0 })
 
--- with second multipliers and shares too, every other such point of the same sum is farther from the target
-pub nearest : (m r : ℕ) (a : ℕ → ℕ → ℤ) (bound : ℕ → ℤ) (d : ℤ) (n first second target weight : ℕ → ℤ) (l : ℤ) (share : ℕ → ℤ)
-    → AreFirst m r a bound d n first → AreSecond m r a bound d n first second target weight → AreShares m l share weight
-    → IsNearestTo m share target (λ e x. MeetsRows m r a bound e x × SumsToOrStands m r a d n first e x) d n
-nearest m r a bound d n first second target weight l share f s w e x among same other =
-    elim (same_or m d n e x) [
-      | inl all ↦ absurd (other all)
-      | inr (j, lt, ne) ↦ farther m r a bound d n first second target weight l share e x (record { firsts = f; sums = among.1; meets = among.0 }) s w same j lt ne
-    ]
+-- a point with its multipliers
+module _ (m r : ℕ) (a : ℕ → ℕ → ℤ) (bound : ℕ → ℤ) (d : ℤ) (n first second target weight : ℕ → ℤ) where
+  second_term : (e : ℤ) (x : ℕ → ℤ)
+      → Compared m r a bound d n first e x → AreSecond m r a bound d n first second target weight → total m (gap_of d n e x) ≡ pos 0
+      → (i : ℕ) → i < r → pos 0 ≤ℤ (second i *ℤ dot m (a i) (gap_of d n e x))
+  second_term e x h s z i lt =
+      let y : ℕ → ℤ = gap_of d n e x in
+      let terms = first_term m r a bound d n first e x h.firsts h.meets in
+      let all : d *ℤ total m y ≡ total r (λ i. first i *ℤ dot m (a i) y) = first_sum m r a d n first e x h.sums in
+      let dz : d *ℤ total m y ≡ pos 0 = times_zero d (total m y) z in
+      let small : (first i *ℤ dot m (a i) y) ≤ℤ total r (λ i. first i *ℤ dot m (a i) y) = term-le r (λ i. first i *ℤ dot m (a i) y) terms i lt in
+      let big : pos 0 ≤ℤ (first i *ℤ dot m (a i) y) = terms i lt in
+      let none : first i *ℤ dot m (a i) y ≡ pos 0 = omega (arith, ints) in
+      elim (zero_or (first i)) [
+        | inl f ↦ elim (zero_or (second i)) [
+          | inl g ↦ none_negative (second i) (dot m (a i) y) (zero_times (second i) (dot m (a i) y) g)
+          | inr g ↦ mul_nonneg (second i) (dot m (a i) y) (s.sign i lt f)
+              (dot-tight m (a i) (bound i) d n e x h.firsts.positive (s.tight i lt g) (h.meets.above i lt))
+        ]
+        | inr f ↦ none_negative (second i) (dot m (a i) y) (times_zero (second i) (dot m (a i) y) (mul-zero_cases (first i) (dot m (a i) y) none f))
+      ]
+
+  -- a point of the same sum that isn't the same at coordinate j is farther from the target
+  pub farther : (l : ℤ) (share : ℕ → ℤ) (e : ℤ) (x : ℕ → ℤ)
+      → Compared m r a bound d n first e x → AreSecond m r a bound d n first second target weight → AreShares m l share weight
+      → d *ℤ total m x ≡ e *ℤ total m n → (j : ℕ) → j < m → d *ℤ x j ≢ e *ℤ n j
+      → (e *ℤ e *ℤ square_distance m share target d n) <ℤ (d *ℤ d *ℤ square_distance m share target e x)
+  farther l share e x h s w same j lt other =
+      let y : ℕ → ℤ = gap_of d n e x in
+      let q : ℕ → ℤ = λ j. share j *ℤ (y j *ℤ y j) in
+      let near : ℕ → ℤ = λ j. share j *ℤ ((n j -ℤ d *ℤ target j) *ℤ (n j -ℤ d *ℤ target j)) in
+      let col : ℕ → ℤ = sum_at r a second in
+      let zero_sum : total m y ≡ pos 0 = total-gap m d n e x ∙ omega (arith, ints) in
+      let rows : pos 0 ≤ℤ total r (λ i. second i *ℤ dot m (a i) y) = total-nonneg r (λ i. second i *ℤ dot m (a i) y) (second_term e x h s zero_sum) in
+      let by_rows : total m (λ j. col j *ℤ y j) ≡ total r (λ i. second i *ℤ dot m (a i) y) = dual m r a second y in
+      let cross : (j : ℕ) → j < m → share j *ℤ (n j -ℤ d *ℤ target j) ≡ l *ℤ col j =
+      λ j lj. ap (λ (z : ℤ). share j *ℤ z) (sym (s.sums j lj)) ∙ sym (mul_assoc (share j) (weight j) (col j)) ∙ ap (λ (z : ℤ). z *ℤ col j) (w.whole j lj) in
+      let left : d *ℤ d *ℤ square_distance m share target e x ≡ e *ℤ e *ℤ total m near +ℤ (total m q +ℤ pos 2 *ℤ e *ℤ (l *ℤ total m (λ j. col j *ℤ y j))) =
+      sym (total-scale m (d *ℤ d) (λ j. share j *ℤ ((x j -ℤ e *ℤ target j) *ℤ (x j -ℤ e *ℤ target j))))
+      ∙ total-same m (λ j. d *ℤ d *ℤ (share j *ℤ ((x j -ℤ e *ℤ target j) *ℤ (x j -ℤ e *ℤ target j))))
+      (λ j. e *ℤ e *ℤ near j +ℤ (q j +ℤ pos 2 *ℤ e *ℤ (l *ℤ (col j *ℤ y j))))
+      (λ j lj. square_step (share j) d e (x j) (n j) (target j)
+      ∙ ap (λ (z : ℤ). e *ℤ e *ℤ near j +ℤ (q j +ℤ pos 2 *ℤ e *ℤ z)) (ap (λ (z : ℤ). z *ℤ y j) (cross j lj) ∙ mul_assoc l (col j) (y j)))
+      ∙ total-add m (λ j. e *ℤ e *ℤ near j) (λ j. q j +ℤ pos 2 *ℤ e *ℤ (l *ℤ (col j *ℤ y j)))
+      ∙ (let p₁ = total-scale m (e *ℤ e) near in
+      let p₂ = total-add m q (λ j. pos 2 *ℤ e *ℤ (l *ℤ (col j *ℤ y j))) in
+      let p₃ = total-scale m (pos 2 *ℤ e) (λ j. l *ℤ (col j *ℤ y j)) in
+      let p₄ : pos 2 *ℤ e *ℤ total m (λ j. l *ℤ (col j *ℤ y j)) ≡ pos 2 *ℤ e *ℤ (l *ℤ total m (λ j. col j *ℤ y j)) =
+      ap (λ (z : ℤ). pos 2 *ℤ e *ℤ z) (total-scale m l (λ j. col j *ℤ y j)) in
+      omega (arith, ints)) in
+      let squares : (j : ℕ) → j < m → pos 0 ≤ℤ q j =
+      λ j lj. mul_nonneg (share j) (y j *ℤ y j) (let b = w.positive j lj in omega (arith, ints)) (square_nonneg (y j)) in
+      let apart : y j ≢ pos 0 = λ z. other (omega (arith, ints)) in
+      let more : pos 0 <ℤ q j = mul_positive (share j) (y j *ℤ y j) (w.positive j lt) (square_positive (y j) apart) in
+      let one : q j ≤ℤ total m q = term-le m q squares j lt in
+      let twice : pos 0 ≤ℤ (pos 2 *ℤ e *ℤ (l *ℤ total m (λ j. col j *ℤ y j))) =
+      mul_nonneg (pos 2 *ℤ e) (l *ℤ total m (λ j. col j *ℤ y j)) (mul_nonneg (pos 2) e (omega (arith, ints)) (let b = h.meets.positive in omega (arith, ints)))
+      (mul_nonneg l (total m (λ j. col j *ℤ y j)) w.not_negative (omega (arith, ints))) in
+      omega (arith, ints)
+
+  -- with second multipliers and shares too, every other such point of the same sum is farther from the target
+  pub nearest : (l : ℤ) (share : ℕ → ℤ)
+      → AreFirst m r a bound d n first → AreSecond m r a bound d n first second target weight → AreShares m l share weight
+      → IsNearestTo m share target (λ e x. MeetsRows m r a bound e x × SumsToOrStands m r a d n first e x) d n
+  nearest l share f s w e x among same other =
+      elim (same_or m d n e x) [
+        | inl all ↦ absurd (other all)
+        | inr (j, lt, ne) ↦ farther l share e x (record { firsts = f; sums = among.1; meets = among.0 }) s w same j lt ne
+      ]
 
 -- where the first multipliers come to d at each coordinate, any point that meets the rows will do
 pub at_each : (m r : ℕ) (a : ℕ → ℕ → ℤ) (d : ℤ) (n first : ℕ → ℤ) (e : ℤ) (x : ℕ → ℤ) → SumsTo m r a d first → SumsToOrStands m r a d n first e x

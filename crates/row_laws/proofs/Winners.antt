@@ -16,28 +16,37 @@ use Rattle.row_laws.proofs.Sums.{over-is}
 joined : (a b c d e : ℤ) → a ≡ c +ℤ d → d ≡ e → b ≡ c +ℤ e → a ≡ b
 joined a b c d e p q r = omega (arith, ints, p, q, r)
 
--- a sum over the winners of two lists is one over the bidders, if losers add 0
-pub zip-sum : (h : ℤ → ℤ → ℤ) → h (pos 0) (pos 0) ≡ pos 0 → (z : List ℕ) (xs vs : List ℤ)
-    → total (length z) (λ k. h (nth (for_bidders z xs) k) (nth (for_bidders z vs) k)) ≡ total (winners_in z) (λ i. h (nth xs i) (nth vs i))
-zip-sum h none [] xs vs = refl
-zip-sum h none (zero ∷ z) xs vs =
-    total-first (length z) (λ k. h (nth (for_bidders (zero ∷ z) xs) k) (nth (for_bidders (zero ∷ z) vs) k)) ∙ (let r = zip-sum h none z xs vs in omega (arith, ints, none))
-zip-sum h none (suc i ∷ z) [] [] = joined _ _ (h (nth [] 0) (nth [] 0)) _ _
-    (total-first (length z) (λ k. h (nth (for_bidders (suc i ∷ z) []) k) (nth (for_bidders (suc i ∷ z) []) k))) (zip-sum h none z [] []) (total-first (winners_in z) (λ j. h (nth [] j) (nth [] j)))
-zip-sum h none (suc i ∷ z) [] (v ∷ vs) = joined _ _ (h (nth [] 0) (nth (v ∷ vs) 0)) _ _
-    (total-first (length z) (λ k. h (nth (for_bidders (suc i ∷ z) []) k) (nth (for_bidders (suc i ∷ z) (v ∷ vs)) k))) (zip-sum h none z [] vs) (total-first (winners_in z) (λ j. h (nth [] j) (nth (v ∷ vs) j)))
-zip-sum h none (suc i ∷ z) (x ∷ xs) [] = joined _ _ (h (nth (x ∷ xs) 0) (nth [] 0)) _ _
-    (total-first (length z) (λ k. h (nth (for_bidders (suc i ∷ z) (x ∷ xs)) k) (nth (for_bidders (suc i ∷ z) []) k))) (zip-sum h none z xs []) (total-first (winners_in z) (λ j. h (nth (x ∷ xs) j) (nth [] j)))
-zip-sum h none (suc i ∷ z) (x ∷ xs) (v ∷ vs) = joined _ _ (h (nth (x ∷ xs) 0) (nth (v ∷ vs) 0)) _ _
-    (total-first (length z) (λ k. h (nth (for_bidders (suc i ∷ z) (x ∷ xs)) k) (nth (for_bidders (suc i ∷ z) (v ∷ vs)) k))) (zip-sum h none z xs vs) (total-first (winners_in z) (λ j. h (nth (x ∷ xs) j) (nth (v ∷ vs) j)))
+-- a function of two numbers that is 0 where both are
+module _ (h : ℤ → ℤ → ℤ) (none : h (pos 0) (pos 0) ≡ pos 0) where
+  -- a sum over the winners of two lists is one over the bidders, if losers add 0
+  pub zip-sum : (z : List ℕ) (xs vs : List ℤ)
+      → total (length z) (λ k. h (nth (for_bidders z xs) k) (nth (for_bidders z vs) k)) ≡ total (winners_in z) (λ i. h (nth xs i) (nth vs i))
+  zip-sum [] xs vs = refl
+  zip-sum (zero ∷ z) xs vs =
+      total-first (length z) (λ k. h (nth (for_bidders (zero ∷ z) xs) k) (nth (for_bidders (zero ∷ z) vs) k))
+      ∙ (let r = zip-sum z xs vs in omega (arith, ints, none))
+  zip-sum (suc i ∷ z) [] [] = joined _ _ (h (nth [] 0) (nth [] 0)) _ _
+      (total-first (length z) (λ k. h (nth (for_bidders (suc i ∷ z) []) k) (nth (for_bidders (suc i ∷ z) []) k))) (zip-sum z [] [])
+      (total-first (winners_in z) (λ j. h (nth [] j) (nth [] j)))
+  zip-sum (suc i ∷ z) [] (v ∷ vs) = joined _ _ (h (nth [] 0) (nth (v ∷ vs) 0)) _ _
+      (total-first (length z) (λ k. h (nth (for_bidders (suc i ∷ z) []) k) (nth (for_bidders (suc i ∷ z) (v ∷ vs)) k))) (zip-sum z [] vs)
+      (total-first (winners_in z) (λ j. h (nth [] j) (nth (v ∷ vs) j)))
+  zip-sum (suc i ∷ z) (x ∷ xs) [] = joined _ _ (h (nth (x ∷ xs) 0) (nth [] 0)) _ _
+      (total-first (length z) (λ k. h (nth (for_bidders (suc i ∷ z) (x ∷ xs)) k) (nth (for_bidders (suc i ∷ z) []) k))) (zip-sum z xs [])
+      (total-first (winners_in z) (λ j. h (nth (x ∷ xs) j) (nth [] j)))
+  zip-sum (suc i ∷ z) (x ∷ xs) (v ∷ vs) = joined _ _ (h (nth (x ∷ xs) 0) (nth (v ∷ vs) 0)) _ _
+      (total-first (length z) (λ k. h (nth (for_bidders (suc i ∷ z) (x ∷ xs)) k) (nth (for_bidders (suc i ∷ z) (v ∷ vs)) k))) (zip-sum z xs vs)
+      (total-first (winners_in z) (λ j. h (nth (x ∷ xs) j) (nth (v ∷ vs) j)))
 
--- a sum over all bidders of a function of their two numbers
-pub everyone-zip : (h : ℤ → ℤ → ℤ) → h (pos 0) (pos 0) ≡ pos 0 → (z : List ℕ) (xs vs : List ℤ)
-    → sum_over everyone (λ j. h (of_bidder (for_bidders z xs) j) (of_bidder (for_bidders z vs) j)) (length z) ≡ total (winners_in z) (λ i. h (nth xs i) (nth vs i))
-everyone-zip h none z xs vs =
-    over-is everyone (λ j. h (of_bidder (for_bidders z xs) j) (of_bidder (for_bidders z vs) j)) (length z)
-    ∙ total-same (length z) (λ k. h (of_bidder (for_bidders z xs) (suc k)) (of_bidder (for_bidders z vs) (suc k))) (λ k. h (nth (for_bidders z xs) k) (nth (for_bidders z vs) k)) (λ k lt. let e : suc k - 1 ≡ k = omega arith in rw e refl)
-    ∙ zip-sum h none z xs vs
+  -- a sum over all bidders of a function of their two numbers
+  pub everyone-zip : (z : List ℕ) (xs vs : List ℤ)
+      → sum_over everyone (λ j. h (of_bidder (for_bidders z xs) j) (of_bidder (for_bidders z vs) j)) (length z)
+      ≡ total (winners_in z) (λ i. h (nth xs i) (nth vs i))
+  everyone-zip z xs vs =
+      over-is everyone (λ j. h (of_bidder (for_bidders z xs) j) (of_bidder (for_bidders z vs) j)) (length z)
+      ∙ total-same (length z) (λ k. h (of_bidder (for_bidders z xs) (suc k)) (of_bidder (for_bidders z vs) (suc k)))
+      (λ k. h (nth (for_bidders z xs) k) (nth (for_bidders z vs) k)) (λ k lt. let e : suc k - 1 ≡ k = omega arith in rw e refl)
+      ∙ zip-sum z xs vs
 
 -- what all bidders pay is what the winners pay
 pub paid-zip : (z : List ℕ) (xs : List ℤ) → sum_over everyone (of_bidder (for_bidders z xs)) (length z) ≡ total (winners_in z) (nth xs)

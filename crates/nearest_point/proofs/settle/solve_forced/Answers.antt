@@ -71,11 +71,11 @@ returns-in-One c =
     record {
       independent = independent_of (length c.args.target.now) (length c.args.forced.now) (row_of c.args.rows.now c.args.forced.now) (weight_at c.args.weights.now) c.in_ok-matrix.matrix
           (far_at right) (near_at right) c.in-One.den values c.in_ok-den.field-0 square c.in_ok-den.ensures.answer c.in-One.is;
-      multipliers = multipliers_of c.args.target.now c.args.weights.now c.args.rows.now c.args.forced.now c.args.lowered.now low len c.in_ok-matrix.matrix right values c.in-One.den f c.in_ok-den.field-0
-          square
+      multipliers = multipliers_of c.args.target.now c.args.weights.now c.args.rows.now c.args.forced.now c.args.lowered.now low len
+          c.in_ok-matrix.matrix right values c.in-One.den f square
           (λ i lt. ap (λ (xs : List Far). far_at xs i) c.items.ensures ∙ c.in_ok-right.ensures.far i lt)
           (λ i lt. ap (λ (xs : List Far). near_at xs i) c.items.ensures ∙ c.in_ok-right.ensures.near i lt)
-          c.in_ok-den.ensures.answer c.in_ok-den.ensures.bounds
+          c.in_ok-den.field-0 c.in_ok-den.ensures.answer c.in_ok-den.ensures.bounds
           (λ ones. c.in_ok-den.ensures.smaller (first_system c.args.target.now c.args.weights.now c.args.rows.now c.args.lowered.now (length c.args.forced.now) c.in_ok-matrix.matrix right p low sides ones)) c.in-One.is
           (record {
             den_is = den_back c.in_ok-matrix.matrix (far_at right) (near_at right) c.in-One.den values c.in_ok-den.field-0 c.in_ok-den.ensures.answer c.in_ok-den.ensures.bounds c.in-One.is;
