@@ -16,16 +16,8 @@ use Rattle.choices.specs.auction_model.proofs.LineLaws.{IsLineUpTo, int_max-left
 use Rattle.choices.specs.auction_model.proofs.PlaceLaws.{states-positive, length-left_at, left_at-within, left_at-whole, left_at-less, place_of-left_at, place-less, place-less_below, place-below, within-within}
 use Rattle.choices.specs.auction_model.proofs.TableLaws.{fits_up_to, parts, from_parts}
 use Rattle.choices.specs.auction_model.proofs.TrimLaws.{trim-place, trim-within}
+use Rattle.choices.proofs.MoreLots.{less-more}
 use Rattle.value_table.specs.Growing.{Grows, HasCorners}
-
--- of more lots more is left
-less-more : (l m p : List ℕ) → length l ≡ length m → IsTrue (is_within l m) → IsTrue (is_within (less l p) (less m p))
-less-more [] m p same h = refl
-less-more (b ∷ l) [] p same h = absurd (omega (arith, same))
-less-more (b ∷ l) (c ∷ m) [] same h = h
-less-more (b ∷ l) (c ∷ m) (a ∷ p) same h =
-    let t = and_parts (nat_le b c) (is_within l m) h in
-    and_from (nat_le (b - a) (c - a)) (is_within (less l p) (less m p)) (le-leb (b - a) (c - a) (omega (arith, leb-true b c t.0))) (less-more l m p (omega (arith, same)) t.1)
 
 module _ (supply p : List ℕ) (s : ℕ) (low : s < states_of supply) where
   -- the place of a package that fits at s has no more than s

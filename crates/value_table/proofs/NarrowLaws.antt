@@ -18,7 +18,7 @@ pub sum-narrow : (a b : ℤ) → unsigned_abs a ≤ 2 ^ 61 → unsigned_abs b �
 sum-narrow a b h k = omega (arith, ints, h, k)
 
 -- no more bids count than the bidder has
-counted-fewer : (l : Lowering) (j : ℕ) → (counted_bids l).bids j ≤ length (bids_of l.book.now (seat l j))
+pub counted-fewer : (l : Lowering) (j : ℕ) → (counted_bids l).bids j ≤ length (bids_of l.book.now (seat l j))
 counted-fewer l j = cond_both (j == l.skip) 0 (length (bids_of l.book.now (seat l j))) (λ n. n ≤ length (bids_of l.book.now (seat l j))) (λ _. omega arith) (λ _. omega arith)
 
 module _ (l : Lowering) where

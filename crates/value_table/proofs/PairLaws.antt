@@ -26,7 +26,7 @@ left_at-other supply s h =
     ap (left_at supply) (sym place) ∙ same
 
 -- a package is within what the rest leaves
-within-twice : (p l : List ℕ) → IsTrue (is_within p l) → IsTrue (is_within p (less l (less l p)))
+pub within-twice : (p l : List ℕ) → IsTrue (is_within p l) → IsTrue (is_within p (less l (less l p)))
 within-twice [] l h = refl
 within-twice (a ∷ p) [] h = h
 within-twice (a ∷ p) (b ∷ l) h =

@@ -97,7 +97,6 @@ impl<'a> Lowering<'a> {
         ensures { IsTrue result → IsNeedless self.now j i }
     {
         self.book.kept();
-        let _bids = self.bids(j);
         if self.den >= 0 && self.book.better(self.bidder(j), i) != 0 {
             return true;
         }

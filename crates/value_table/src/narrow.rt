@@ -83,7 +83,7 @@ pub fn count_narrow(
         → slice_index_or line.now s (pos 0) ≡ slice_index_or below.now s (pos 0) +ℤ counted lowering.now j 0 }
     ensures { IfOk result (λ v. IsCountedLine lowering.now (j - 1) v.items) }
 {
-    let _states = lowering.book.supply().states();
+    lowering.book.kept();
     let below = narrowed(alloc, below)?;
     let mut line = narrowed(alloc, line)?;
     count_narrow_bids(lowering, j, &mut line, &below);

@@ -158,7 +158,6 @@ pub fn add_bid<A: Amount>(supply: &Supply, line: &mut [A], below: &[A], lots: &P
         ≡ raised supply.now (map A.number below.now) lots.now (A.number worth) s
         (slice_index_or (map A.number line.old) s (pos 0)) }
 {
-    let _states = supply.states();
     let radices = supply.counts();
     let counts = lots.counts();
     let used = used_categories(counts);

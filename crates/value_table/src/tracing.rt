@@ -68,7 +68,6 @@ fn place_left(lowering: &Lowering, j: u16, i: u16, place: usize) -> usize
         (less (left_at lowering.now.book.now.supply place) ((counted_bids lowering.now).lots j i)) }
     ensures below { result < states_of lowering.now.book.now.supply }
 {
-    let _bids = lowering.bids(j);
     place_after(lowering.book, lowering.bidder(j), i, place).unwrap()
 }
 

@@ -1,5 +1,4 @@
-use Rattle.choices.specs.auction_model.specs.Place.{states_of}
-use Rattle.std.proofs.Common.{◌≤◌, ap, ◌∙◌, inl, inr, sym, subst, arith, get_or, length, pos}
+use Rattle.std.proofs.Common.{◌≤◌, ◌∙◌, inl, inr, sym, subst, arith, get_or, length, pos}
 use Rattle.std.proofs.lemmas.Bool.{cases_lt}
 use Rattle.std.proofs.lemmas.List.{get_or_past}
 use Rattle.value_table.specs.Counted.{counted, IsCountedLine}
@@ -8,13 +7,13 @@ use Rattle.value_table.proofs.narrow.count_narrow.Goals as goal
 
 pub narrowed-requires : goal.narrowed-requires
 narrowed-requires c =
-    let few : length c.args.below.now ≤ 16384 = omega (arith, c.requires.places, c.requires.below.places, ap states_of c.supply.ensures.supply, c.states-states.ensures.states, c.states-states.ensures.most) in
+    let few : length c.args.below.now ≤ 16384 = omega (arith, c.requires.places, c.requires.below.places, c.kept.ensures.supply.states) in
     record { few = few; sizes = λ s. omega (arith, line-narrow c.args.lowering.now c.requires.narrow c.args.j c.args.below.now c.requires.below s) }
 
 pub narrowed-requires-2 : goal.narrowed-requires-2
 narrowed-requires-2 c =
     let l = c.args.lowering.now in
-    let few : length c.args.line.now ≤ 16384 = omega (arith, c.requires.places, c.requires.below.places, ap states_of c.supply.ensures.supply, c.states-states.ensures.states, c.states-states.ensures.most) in
+    let few : length c.args.line.now ≤ 16384 = omega (arith, c.requires.places, c.requires.below.places, c.kept.ensures.supply.states) in
     record {
       few = few;
       sizes = λ s.

@@ -30,3 +30,6 @@ raise_block-requires-clause-corners g c =
       line_grows = c.requires.line_grows;
       below_grows = c.requires.below_grows;
     }))
+
+pub raise_block-requires-clause-states : goal.raise_block-requires-clause-states
+raise_block-requires-clause-states g c = rw c.counts-radices.ensures.counts c.counts-radices.ensures.kept.states

@@ -3,10 +3,17 @@ use Rattle.std.proofs.lemmas.Int.{to_z-of_z, ints}
 use Rattle.choices.specs.auction_model.specs.Book.{bids_of}
 use Rattle.choices.specs.bid_book.specs.Better.{IsBetter}
 use Rattle.value_table.specs.Counted.{seat, counted}
+use Rattle.value_table.proofs.NarrowLaws.{counted-fewer}
 use Rattle.value_table.proofs.Needless.{needless-better, needless-idle}
 use mir.Val.{SFits}
 use mir.Syntax.{w128}
 use Rattle.value_table.proofs.lowering.Lowering.is_needless.Goals as goal
+
+pub better-requires-clause-bid : goal.better-requires-clause-bid
+better-requires-clause-bid c =
+    let l = c.args.self.now in
+    let known : c.args.i ≤ length (bids_of l.book.now (seat l c.args.j)) = omega (arith, c.requires.bid.1, counted-fewer l c.args.j) in
+    (c.requires.bid.0, rw c.bidder.ensures.bidder known)
 
 pub returns-then-better-ne0 : goal.returns-then-better-ne0
 returns-then-better-ne0 c = λ _.
@@ -15,7 +22,7 @@ returns-then-better-ne0 c = λ _.
     let test = simp to_z-of_z at c.if-self-ge0.true in
     let den : pos 0 ≤ℤ l.den = grind (arith, ints, test) in
     let some : 0 < c.better.result = omega (arith, c.if-better-ne0.true) in
-    let known : c.args.i ≤ length (bids_of l.book.now (seat l c.args.j)) = omega (arith, c.requires.bid.1, c.bids-bids.ensures.bids, c.bids-bids.ensures.most) in
+    let known : c.args.i ≤ length (bids_of l.book.now (seat l c.args.j)) = omega (arith, c.requires.bid.1, counted-fewer l c.args.j) in
     needless-better l c.args.j c.args.i c.better.result c.kept.ensures known some den (subst (λ (j : ℕ). IsBetter l.book.now j c.args.i c.better.result) c.bidder.ensures.bidder (c.better.ensures some))
 
 pub returns : goal.returns
