@@ -8,7 +8,7 @@ use Rattle.cert_facts.specs.cert_laws.specs.Tests.{bidders_of, lowered_net}
 use Rattle.cert_check.specs.LineTests.{worth_of}
 use Rattle.cert_check.specs.declared.tables.offers.Offers.{Offers}
 use Rattle.cert_facts.specs.cert_form.specs.Certificate.{CertValue}
-use Rattle.piece_check.specs.declared.finding.Finding.{Finding}
+use Rattle.piece_check.specs.declared.judging.finding.Finding.{Finding}
 use Rattle.piece_check.specs.declared.moment.Moment.{Moment}
 use Rattle.cert_pieces.specs.declared.due.Due.{Due}
 use Rattle.piece_check.specs.Totals.{AreTotals}

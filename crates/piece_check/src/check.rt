@@ -167,7 +167,7 @@ impl<'a> StreamCheck<'a> {
         ensures book { self.new.book.now ≡ self.old.book.now }
         ensures weights { self.new.weights.now ≡ self.old.weights.now }
     {
-        let _bidders = self.book.bidders();
+        self.book.kept();
         let due = self.reader.due;
         let count = self.reader.count();
         self.reader.end_line(room);

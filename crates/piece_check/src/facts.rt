@@ -54,7 +54,7 @@ fn singles_in(
     ensures { (c : CertValue) → HasAll book.now c room.now → c.choice ≡ choice.now
         → IfOk result (λ list. list ≡ map (single_of book.now c) c.withouts) }
 {
-    let _bidders = book.bidders();
+    book.kept();
     let mut singles = Singles::new(alloc);
     for k in 0..choice.len() {
         if choice[k] == 0 {

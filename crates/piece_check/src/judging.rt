@@ -3,12 +3,20 @@ ghost use Rattle.std.specs.Prelude.{◌≡◌};
 ghost use Rattle.piece_check.specs.Moments.{IsPossible, Shows};
 ghost use Rattle.piece_check.specs.Tests.{IsPlain};
 
-use crate::claims::claim_line;
-use crate::finding::Finding;
-use crate::heads::{choice_line, value_line};
+mod claims;
+mod finding;
+mod heads;
+mod parts;
+mod rows;
+mod rules;
+mod tables;
+
+use crate::judging::claims::claim_line;
+use crate::judging::finding::Finding;
+use crate::judging::heads::{choice_line, value_line};
+use crate::judging::parts::{part_choice, part_line};
+use crate::judging::tables::head_line;
 use crate::moment::Moment;
-use crate::parts::{part_choice, part_line};
-use crate::tables::head_line;
 use cert_pieces::{Due, Table};
 
 /// What a line shows.

@@ -88,7 +88,7 @@ pub(crate) fn put_members(at: &Moment, left: u16, to: &mut [u16]) -> usize
     ensures members { (c : CertValue) → IsAt at.now c → take result to.new ≡ (row_at c left).members }
     ensures to { length to.new ≡ length to.old }
 {
-    let _bidders = at.book.bidders();
+    at.book.kept();
     let in_room = numbers_in(at.book, Due::Members(left), at.room);
     let count = at.members.min(in_room.len());
     put_numbers(&in_room[..count], &mut to[..count]);

@@ -5,19 +5,12 @@
 #![tactic(auto)]
 
 mod check;
-mod claims;
 mod facts;
-mod finding;
-mod heads;
 mod judging;
 mod kept;
 mod moment;
-mod parts;
 mod room;
 mod row_totals;
-mod rows;
-mod rules;
-mod tables;
 
 pub use cert_check;
 pub use cert_facts;

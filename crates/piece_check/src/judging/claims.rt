@@ -1,0 +1,137 @@
+// Lines whose tests need the first three: the payments, the rows and the lowered table.
+ghost use Rattle.std.specs.Prelude.{◌≡◌, ◌≤◌, ◌<◌, ◌+◌, ◌*◌, ◌↔◌, ℕ, IsTrue};
+ghost use Rattle.cert_check.specs.auction_model.specs.Prices.{weight_of};
+ghost use Rattle.cert_facts.specs.cert_form.specs.Certificate.{CertValue};
+ghost use Rattle.cert_facts.specs.cert_laws.specs.Tests.{Asks, bidders_of, states};
+ghost use Rattle.cert_check.specs.Partway.{IsJudged, IsLate};
+ghost use Rattle.piece_check.specs.Moments.{AreLowered, IsAt, IsPossible, IsClaimOf, Shows};
+ghost use Rattle.piece_check.specs.Rules.{lines_tested};
+ghost use Rattle.piece_check.specs.Tests.{IsClaimed};
+
+use crate::judging::finding::Finding;
+use crate::judging::rows::{row_line, rows_line};
+use crate::judging::rules::rules_fault;
+use crate::judging::tables::{behind_entries, is_at_most};
+use crate::moment::Moment;
+use crate::room::{number_in, numbers_in, put_choice};
+use cert_check::{
+    BIDDER_ROOM, Claim, Failure, Offers, of_test, payments_test, put_gains, sum_paid, with_late,
+};
+use cert_pieces::{Due, Table};
+
+/// What a line shows whose tests need what the first three have shown.
+pub(crate) fn claim_line(at: &Moment) -> Finding
+    requires due { IsClaimed at.now.due }
+    requires some { IsPossible at.now }
+    ensures { Shows at.now result }
+{
+    let mut numbers = [0u16; BIDDER_ROOM];
+    let bidders = at.book.bidders();
+    put_choice(at.book, Due::Choice, at.room, &mut numbers);
+    let choice = &numbers[..bidders];
+    let claim = Claim {
+        book: at.book,
+        den: number_in(at.book, Due::Den, at.room),
+        value: number_in(at.book, Due::Value, at.room),
+        choice,
+    };
+    shown(at, &claim)
+}
+
+/// The same for the claim of the certificate.
+fn shown(at: &Moment, claim: &Claim) -> Finding
+    requires due { IsClaimed at.now.due }
+    requires some { IsPossible at.now }
+    requires claim { IsClaimOf at.now claim.now }
+    ensures { Shows at.now result }
+{
+    match at.due {
+        Due::Payments => payments_line(at, claim),
+        Due::Rows => rows_line(at, claim),
+        Due::RowChoice(left) => row_line(at, claim, left),
+        Due::Entries(_, k) => lowered_line(at, claim, k),
+        _ => Finding {
+            failed: None,
+            late: None,
+        },
+    }
+}
+
+/// What the payments show: the fifth test.
+fn payments_line(at: &Moment, claim: &Claim) -> Finding
+    requires due { at.now.due ≡ Due.Payments }
+    requires some { IsPossible at.now }
+    requires claim { IsClaimOf at.now claim.now }
+    ensures { Shows at.now result }
+{
+    let pay = numbers_in(at.book, Due::Payments, at.room);
+    Finding {
+        failed: of_test(5, payments_test(claim, pay)),
+        late: None,
+    }
+}
+
+/// What line `k` of the lowered table shows: the ninth test, as far as it is known then.
+fn lowered_line(at: &Moment, claim: &Claim, k: u16) -> Finding
+    requires due { at.now.due ≡ Due.Entries Table.Lowered k }
+    requires some { IsPossible at.now }
+    requires claim { IsClaimOf at.now claim.now }
+    ensures { Shows at.now result }
+{
+    at.book.kept();
+    let mut gains = [0i128; BIDDER_ROOM];
+    put_gains(
+        claim,
+        numbers_in(at.book, Due::Payments, at.room),
+        &mut gains,
+    );
+    let offers = Offers {
+        book: at.book,
+        skip: 0,
+        den: claim.den,
+        gains: &gains,
+    };
+    let failed = lowered_failure(at, &offers, k);
+    behind_entries(at.book, 9, k, failed, late_sum(at, k))
+}
+
+/// What fails first of the rules that line `k` of the lowered table makes known.
+fn lowered_failure(at: &Moment, offers: &Offers, k: u16) -> Option<Failure>
+    requires due { at.now.due ≡ Due.Entries Table.Lowered k }
+    requires some { IsPossible at.now }
+    requires offers { AreLowered at.now offers.now }
+    ensures { (c : CertValue) → IsAt at.now c
+        → IsJudged at.now.book.now (weight_of at.now.weights.now) c 9
+        (lines_tested (bidders_of at.now.book.now) k * states at.now.book.now) result }
+{
+    of_test(9, rules_fault(offers, Table::Lowered, k, at.room))
+}
+
+/// What is found early behind line `k` of the lowered table: line 0 has no more for the whole supply than the payments come to.
+fn late_sum(at: &Moment, k: u16) -> Option<u64>
+    requires due { at.now.due ≡ Due.Entries Table.Lowered k }
+    requires some { IsPossible at.now }
+    ensures { (c : CertValue) → IsAt at.now c
+        → IsLate at.now.book.now (weight_of at.now.weights.now) c 9
+        ((bidders_of at.now.book.now + 1) * states at.now.book.now) 1 result }
+{
+    if k != 0 {
+        return at.late;
+    }
+    with_late(at.late, 0, keeps_sum(at))
+}
+
+/// Whether line 0 of the lowered table has no more for the whole supply than the payments come to.
+fn keeps_sum(at: &Moment) -> bool
+    requires due { at.now.due ≡ Due.Entries Table.Lowered 0 }
+    requires some { IsPossible at.now }
+    ensures { (c : CertValue) → IsAt at.now c
+        → IsTrue result
+        ↔ Asks at.now.book.now (weight_of at.now.weights.now) c 9
+        ((bidders_of at.now.book.now + 1) * states at.now.book.now + 0) }
+{
+    at.book.kept();
+    let paid = sum_paid(numbers_in(at.book, Due::Payments, at.room));
+    let line = numbers_in(at.book, Due::Entries(Table::Lowered, 0), at.room);
+    is_at_most(line[at.book.supply().states() - 1], paid)
+}

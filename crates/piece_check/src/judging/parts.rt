@@ -1,0 +1,104 @@
+// The parts without a winner.
+ghost use Rattle.std.specs.Prelude.{◌≡◌, ◌≤◌, ◌<◌, ◌↔◌, ◌≤ℤ◌, ℕ, IsTrue, Some, None};
+ghost use Rattle.cert_check.specs.declared.failure.Failure.{Failure};
+ghost use Rattle.cert_check.specs.auction_model.specs.Book.{market_of};
+ghost use Rattle.cert_check.specs.auction_model.specs.Market.{value_of};
+ghost use Rattle.cert_check.specs.auction_model.specs.Table.{entry_at};
+ghost use Rattle.cert_facts.specs.cert_form.specs.Certificate.{CertValue, part_of};
+ghost use Rattle.cert_facts.specs.cert_laws.specs.Tests.{full};
+ghost use Rattle.piece_check.specs.Moments.{ArePlain, IsAt, IsPossible, Shows};
+
+use crate::judging::finding::Finding;
+use crate::judging::rules::rules_fault;
+use crate::judging::tables::is_at_most;
+use crate::moment::Moment;
+use crate::room::{numbers_in, put_choice};
+use cert_check::{BIDDER_ROOM, Failure, Offers, is_allowed_without};
+use cert_facts::choices::value_among;
+use cert_pieces::{Due, Table};
+
+/// What the choice without winner `j` shows: whether it is known, fits and uses that winner.
+pub(crate) fn part_choice(at: &Moment, j: u16) -> Finding
+    requires due { at.now.due ≡ Due.PartChoice j }
+    requires some { IsPossible at.now }
+    ensures { Shows at.now result }
+{
+    let mut numbers = [0u16; BIDDER_ROOM];
+    let bidders = at.book.bidders();
+    put_choice(at.book, Due::PartChoice(j), at.room, &mut numbers);
+    let choice = &numbers[..bidders];
+    part_found(j, is_allowed_without(at.book, choice, j))
+}
+
+/// A part whose line keeps what is asked, or doesn't.
+fn part_found(j: u16, holds: bool) -> Finding
+    ensures holds { IsTrue holds → (result.failed ≡ None) × (result.late ≡ None) }
+    ensures fails { (IsTrue holds → ⊥) → (f : Failure) × (result.failed ≡ Some f) × (f.test ≡ 4) × (f.place ≡ j) }
+{
+    if holds {
+        return Finding {
+            failed: None,
+            late: None,
+        };
+    }
+    Finding {
+        failed: Some(Failure {
+            test: 4,
+            place: j as u64,
+        }),
+        late: None,
+    }
+}
+
+/// What line `k` of the table without winner `j` shows: the rules, and that line 0 has no more than the choice for the whole supply.
+pub(crate) fn part_line(at: &Moment, j: u16, k: u16) -> Finding
+    requires due { at.now.due ≡ Due.Entries (Table.Part j) k }
+    requires some { IsPossible at.now }
+    ensures { Shows at.now result }
+{
+    at.book.kept();
+    let gains = [0i128; BIDDER_ROOM];
+    let offers = Offers {
+        book: at.book,
+        skip: j,
+        den: 1,
+        gains: &gains,
+    };
+    part_rules(at, &offers, j, k)
+}
+
+/// The same for these offers.
+fn part_rules(at: &Moment, offers: &Offers, j: u16, k: u16) -> Finding
+    requires due { at.now.due ≡ Due.Entries (Table.Part j) k }
+    requires some { IsPossible at.now }
+    requires offers { ArePlain at.now offers.now j }
+    ensures { Shows at.now result }
+{
+    if rules_fault(offers, Table::Part(j), k, at.room).is_some() {
+        return part_found(j, false);
+    }
+    part_found(j, keeps_top(at, j, k))
+}
+
+/// Whether line 0 has no more than the value of the choice for the whole supply. No other line is asked.
+fn keeps_top(at: &Moment, j: u16, k: u16) -> bool
+    requires due { at.now.due ≡ Due.Entries (Table.Part j) k }
+    requires some { IsPossible at.now }
+    ensures { (c : CertValue) → IsAt at.now c
+        → IsTrue result
+        ↔ (k ≡ 0 → entry_at (part_of c.withouts j).table 0 (full at.now.book.now)
+        ≤ℤ value_of (market_of at.now.book.now) (part_of c.withouts j).choice) }
+{
+    if k != 0 {
+        return true;
+    }
+    let mut numbers = [0u16; BIDDER_ROOM];
+    let bidders = at.book.bidders();
+    put_choice(at.book, Due::PartChoice(j), at.room, &mut numbers);
+    let choice = &numbers[..bidders];
+    let line = numbers_in(at.book, Due::Entries(Table::Part(j), k), at.room);
+    is_at_most(
+        line[at.book.supply().states() - 1],
+        value_among(at.book, choice),
+    )
+}

@@ -1,0 +1,164 @@
+// The rows.
+ghost use Rattle.std.specs.Prelude.{◌≡◌, ◌≤◌, ◌<◌, ◌+◌, ◌-◌, ◌↔◌, ℕ, IsTrue, length, take, pos};
+ghost use Rattle.cert_check.specs.auction_model.specs.Prices.{weight_of};
+ghost use Rattle.cert_facts.specs.cert_form.specs.Certificate.{CertValue};
+ghost use Rattle.cert_facts.specs.cert_laws.specs.Tests.{Asks, IsTightRow, bidders_of};
+ghost use Rattle.cert_check.specs.Places.{IsFirstFailing};
+ghost use Rattle.cert_check.specs.Fields.{AreValuesWithout, worth_without};
+ghost use Rattle.cert_check.specs.Partway.{HoldsTo, IsJudged};
+ghost use Rattle.cert_pieces.specs.LinesLeft.{row_at};
+ghost use Rattle.piece_check.specs.Moments.{HasAllRows, IsAt, IsPossible, IsClaimOf, Shows};
+ghost use Rattle.piece_check.specs.Totals.{AreTotals};
+
+use crate::judging::finding::Finding;
+use crate::kept::put_members;
+use crate::moment::Moment;
+use crate::room::{number_in, numbers_in, put_choice};
+use cert_check::{
+    BIDDER_ROOM, Claim, Column, Failure, first_test, of_test, row_holds, second_test,
+};
+use cert_facts::choices::value_among;
+use cert_pieces::Due;
+
+/// What the count of rows shows: where there is none, the tests of the multipliers.
+pub(crate) fn rows_line(at: &Moment, claim: &Claim) -> Finding
+    requires due { at.now.due ≡ Due.Rows }
+    requires some { IsPossible at.now }
+    requires claim { IsClaimOf at.now claim.now }
+    ensures { Shows at.now result }
+{
+    if !is_zero(number_in(at.book, Due::Rows, at.room)) {
+        return Finding {
+            failed: None,
+            late: None,
+        };
+    }
+    Finding {
+        failed: last_tests(at, claim),
+        late: None,
+    }
+}
+
+/// What the choice of a row shows, of which so many are to come with it: the sixth test of this row, and behind the last row the tests
+/// of the multipliers.
+pub(crate) fn row_line(at: &Moment, claim: &Claim, left: u16) -> Finding
+    requires due { at.now.due ≡ Due.RowChoice left }
+    requires some { IsPossible at.now }
+    requires claim { IsClaimOf at.now claim.now }
+    ensures { Shows at.now result }
+{
+    if !keeps_row(at, claim, left) {
+        return Finding {
+            failed: Some(Failure {
+                test: 6,
+                place: at.totals.count as u64,
+            }),
+            late: None,
+        };
+    }
+    if left != 1 {
+        return Finding {
+            failed: None,
+            late: None,
+        };
+    }
+    Finding {
+        failed: last_tests(at, claim),
+        late: None,
+    }
+}
+
+/// Whether the row that has come is one that the payments meet.
+fn keeps_row(at: &Moment, claim: &Claim, left: u16) -> bool
+    requires due { at.now.due ≡ Due.RowChoice left }
+    requires some { IsPossible at.now }
+    requires claim { IsClaimOf at.now claim.now }
+    ensures { (c : CertValue) → IsAt at.now c → IsTrue result ↔ IsTightRow at.now.book.now c (row_at c left) }
+{
+    let pay = numbers_in(at.book, Due::Payments, at.room);
+    let mut chosen = [0u16; BIDDER_ROOM];
+    let bidders = at.book.bidders();
+    put_choice(at.book, Due::RowChoice(left), at.room, &mut chosen);
+    let choice = &chosen[..bidders];
+    let mut numbers = [0u16; BIDDER_ROOM];
+    let count = put_members(at, left, &mut numbers);
+    let members = &numbers[..count];
+    row_holds(claim, pay, members, choice)
+}
+
+/// What fails first of the tests of the multipliers, the seventh and the eighth.
+fn last_tests(at: &Moment, claim: &Claim) -> Option<Failure>
+    requires some { IsPossible at.now }
+    requires claim { IsClaimOf at.now claim.now }
+    requires rows { HasAllRows at.now }
+    ensures { (c : CertValue) → IsAt at.now c → HoldsTo at.now.book.now (weight_of at.now.weights.now) c 7 0
+        → IsJudged at.now.book.now (weight_of at.now.weights.now) c 9 0 result }
+{
+    at.book.kept();
+    let first = Column {
+        numbers: &at.totals.firsts[..at.totals.count],
+        sums: &at.totals.first_sums,
+    };
+    match of_test(7, first_test(claim, &first)) {
+        Some(failure) => Some(failure),
+        None => of_test(8, nearest(at, claim)),
+    }
+}
+
+/// The first place at which the eighth test fails.
+fn nearest(at: &Moment, claim: &Claim) -> Option<u64>
+    requires some { IsPossible at.now }
+    requires claim { IsClaimOf at.now claim.now }
+    requires rows { HasAllRows at.now }
+    ensures { (c : CertValue) → IsAt at.now c
+        → IsFirstFailing (Asks at.now.book.now (weight_of at.now.weights.now) c 8) result }
+{
+    at.book.kept();
+    let mut values = [0i128; BIDDER_ROOM];
+    put_part_values(at, claim, &mut values);
+    let pay = numbers_in(at.book, Due::Payments, at.room);
+    let second = Column {
+        numbers: &at.totals.seconds[..at.totals.count],
+        sums: &at.totals.second_sums,
+    };
+    let firsts = &at.totals.firsts[..at.totals.count];
+    second_test(claim, pay, &values, firsts, &second, at.weights)
+}
+
+/// Writes the value of the choice without each winner, bidder by bidder from the first number on, and 0 for a loser.
+fn put_part_values(at: &Moment, claim: &Claim, values: &mut [i128])
+    requires some { IsPossible at.now }
+    requires claim { IsClaimOf at.now claim.now }
+    requires rows { HasAllRows at.now }
+    requires room { bidders_of at.now.book.now ≤ length values.old }
+    ensures room { length values.new ≡ length values.old }
+    ensures values { (c : CertValue) → IsAt at.now c → AreValuesWithout at.now.book.now c.choice c.withouts values.new }
+{
+    for k in 0..at.book.bidders() {
+        values[k] = part_value(at, claim, k as u16 + 1);
+    }
+}
+
+/// The value of the choice without bidder `j`, and 0 where it loses.
+fn part_value(at: &Moment, claim: &Claim, j: u16) -> i128
+    requires some { IsPossible at.now }
+    requires claim { IsClaimOf at.now claim.now }
+    requires rows { HasAllRows at.now }
+    requires bidder { (0 < j) × (j ≤ bidders_of at.now.book.now) }
+    ensures { (c : CertValue) → IsAt at.now c → result ≡ worth_without at.now.book.now c.choice c.withouts j }
+{
+    if claim.number(j) == 0 {
+        return 0;
+    }
+    let mut numbers = [0u16; BIDDER_ROOM];
+    let bidders = at.book.bidders();
+    put_choice(at.book, Due::PartChoice(j), at.room, &mut numbers);
+    let choice = &numbers[..bidders];
+    value_among(at.book, choice)
+}
+
+fn is_zero(number: i128) -> bool
+    ensures { IsTrue result ↔ (number ≡ pos 0) }
+{
+    number == 0
+}
