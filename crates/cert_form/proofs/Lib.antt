@@ -7,3 +7,4 @@ pub mod Ranges
 pub mod OneCertificate
 pub mod Laws
 pub mod WorkedCases
+pub mod LineSizes

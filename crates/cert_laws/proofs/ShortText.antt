@@ -20,7 +20,8 @@ use Rattle.cert_form.specs.Says.{cert_text}
 use Rattle.cert_laws.specs.BookSizes.{IsWithinSizes}
 use Rattle.cert_laws.specs.Priced.{IsPricedCert}
 use Rattle.cert_laws.specs.Tests.{bidders_of, states}
-use Rattle.cert_laws.proofs.TextSizes.{size, size-append, text-size, times-le, line-size, choice-size, AreShort, table-size, range-short, entries-short, below-from, short-from, AllParts, parts-all, HasShortTable, parts-size, rows-size, pay-size}
+use Rattle.cert_form.proofs.LineSizes.{size, size-append, text-size, times-le, line-size, choice-size, AreShort, table-size, range-short, pay-size}
+use Rattle.cert_laws.proofs.TextSizes.{entries-short, below-from, short-from, AllParts, parts-all, HasShortTable, parts-size, rows-size}
 
 -- the lines of either version
 version-size : (first : Bool) → size (version_of first) ≤ 130
@@ -80,7 +81,7 @@ module _ (book : Book) (w : ℕ → ℕ) (c : CertValue) (within : IsWithinSizes
       omega (arith, parts-size (bidders_of book) (states book) 1 c.choice c.withouts b-few (omega (arith, is.choice.0, b-few)) is.withouts all, times-le (winners_in c.choice) 6 4457200 few)
 
   lowered : size (table_lines c.lowered) ≤ 10862626
-  lowered = omega (arith, table-size 638976 c.lowered (range-short (states book) c.lowered s-few is.lowered.1), times-le (length c.lowered) 17 638978 (omega (arith, is.lowered.0, b-few)))
+  lowered = omega (arith, table-size 638976 c.lowered (range-short (states book) 16384 c.lowered s-few is.lowered.1), times-le (length c.lowered) 17 638978 (omega (arith, is.lowered.0, b-few)))
 
   rows : size (row_lines c.rows) ≤ 13500
   rows = omega (arith, rows-size (bidders_of book) c.rows b-few is.rows, times-le (length c.rows) 10 1350 is.few)

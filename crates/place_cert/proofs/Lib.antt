@@ -9,3 +9,4 @@ mod OneCertificate
 mod Sayings
 mod Written
 mod WorkedCases
+mod PlaceSizes

@@ -1,7 +1,8 @@
 // Laws of the text of placement certificates. No code stands here.
-ghost use Rattle.std.specs.Prelude.{◌≡◌, ℕ, ◌<◌, ◌^◌, List};
+ghost use Rattle.std.specs.Prelude.{◌≡◌, ℕ, ◌<◌, ◌≤◌, ◌^◌, List, length};
 ghost use Rattle.cert_text.specs.line_text.specs.LineText.{Said, stated};
 ghost use Rattle.cert_text.specs.cert_form.specs.PlaceCert.{PlaceCertValue};
+ghost use Rattle.cert_text.specs.limits.specs.declared.TheConstants.{CERT_BYTES, MOST_PLACED};
 ghost use Rattle.place_cert.specs.PlaceText.{IsPlaceCertificate};
 ghost use Rattle.place_cert.specs.PlaceSays.{place_text, PlaceCertSays};
 
@@ -16,4 +17,15 @@ pub fn one_place_cert()
 pub fn text_of_place_cert()
     ensures { (bidders : ℕ) (c : PlaceCertValue) → bidders < 2 ^ 100 → IsPlaceCertificate bidders c
         → PlaceCertSays bidders (place_text c) (stated c) }
+{}
+
+/// The text of each placement certificate of at most so many bidders as a band may have is within the limit of a certificate file: it
+/// has less than 50,000 bytes.
+///
+/// A table has one line of at most 64 entries of at most 37 digits, and a certificate has at most eight of them.
+pub fn short_place_text()
+    ensures short { (bidders : ℕ) (c : PlaceCertValue) → bidders ≤ MOST_PLACED → IsPlaceCertificate bidders c
+        → length (place_text c) < 50000 }
+    ensures within { (bidders : ℕ) (c : PlaceCertValue) → bidders ≤ MOST_PLACED → IsPlaceCertificate bidders c
+        → length (place_text c) ≤ CERT_BYTES }
 {}

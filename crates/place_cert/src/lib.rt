@@ -15,7 +15,7 @@ mod write;
 pub use cert_text;
 pub use cert_text::{CertStop, cert_form, line_text};
 pub use certificate::{PlaceCertificate, PlaceRow, PlaceWithout};
-pub use laws::{one_place_cert, text_of_place_cert};
+pub use laws::{one_place_cert, short_place_text, text_of_place_cert};
 pub use lists::{PlaceRows, PlaceWithouts};
 pub use read::read_places;
 pub use write::write_places;
