@@ -1,10 +1,10 @@
 -- The stages read the form of a book.
-use Rattle.std.proofs.Common.{inl, inr, ◌≡◌, ℕ, zero, suc, ◌+◌, ◌≤◌, ◌^◌, None, List, [], ◌∷◌, ◌++◌, length, replicate, take, refl, sym, ap, subst, ◌∙◌, arith, append_assoc, length-append}
+use Rattle.std.proofs.Common.{inl, inr, ◌≡◌, ℕ, zero, suc, ◌+◌, ◌≤◌, ◌^◌, None, List, [], ◌∷◌, ◌++◌, length, replicate, refl, sym, ap, subst, ◌∙◌, arith, append_assoc, length-append}
 use Rattle.std.specs.Prelude.{codes}
 use Rattle.std.specs.List.{AllByRecursion}
 use Rattle.std.proofs.lemmas.List.{append-nil, take_at, take_all, length-replicate}
 use Rattle.book_form.specs.line_text.specs.Reading.{Runs}
-use Rattle.book_form.specs.line_text.proofs.Runs.{Reads, StepsBehind, runs_append, runs_behind}
+use Rattle.book_form.specs.line_text.proofs.Runs.{FrontOf, Reads, StepsBehind, front_reached, runs_append}
 use Rattle.lots.specs.auction_model.specs.Book.{BookBid, Bidder, Book, bidder_with, with_bidders}
 use Rattle.book_form.specs.BookForm.{IsOffer, IsBid, AreBids, empty_package, IsBidder, AreBidders, IsBook}
 use Rattle.book_form.specs.BookLines.{Line, bidder_excess, bid_excess, bid_line, bid_lines, bidder_line, bidder_lines, supply_line, reserve_line, head_lines, lines}
@@ -71,18 +71,12 @@ free_book supply is = record { supply = is; reserves = record { count = length-r
 one_lot : IsOffer (1 ∷ [])
 one_lot = record { some = omega arith; each = ((omega arith, omega arith), tt) }
 
-pub record FrontOf (before : List Line) : Type 0 where
-  pub book : Book
-  pub count : ℕ
-  pub valid : IsBook book
-  pub same : take count (lines book) ≡ before
-
-front_of : (s : Stage) → IsSound s → FrontOf (behind s)
-front_of Start sound = record { book = opened (1 ∷ []) (empty_package (1 ∷ [])); count = 0; valid = free_book (1 ∷ []) one_lot; same = refl }
-front_of Headed sound = record { book = opened (1 ∷ []) (empty_package (1 ∷ [])); count = 1; valid = free_book (1 ∷ []) one_lot; same = refl }
-front_of (Supplied supply) sound = record { book = opened supply (empty_package supply); count = 2; valid = free_book supply sound; same = refl }
-front_of (Listing book) sound = record { book = book; count = length (listed book); valid = sound; same = take_at (listed book) ((codes "end", None) ∷ []) _ refl }
-front_of (Ended book) sound = record { book = book; count = length (lines book); valid = sound; same = take_all (length (lines book)) (lines book) (omega arith) }
+front_of : (s : Stage) → IsSound s → FrontOf IsBook lines (behind s)
+front_of Start sound = record { value = opened (1 ∷ []) (empty_package (1 ∷ [])); count = 0; valid = free_book (1 ∷ []) one_lot; same = refl }
+front_of Headed sound = record { value = opened (1 ∷ []) (empty_package (1 ∷ [])); count = 1; valid = free_book (1 ∷ []) one_lot; same = refl }
+front_of (Supplied supply) sound = record { value = opened supply (empty_package supply); count = 2; valid = free_book supply sound; same = refl }
+front_of (Listing book) sound = record { value = book; count = length (listed book); valid = sound; same = take_at (listed book) ((codes "end", None) ∷ []) _ refl }
+front_of (Ended book) sound = record { value = book; count = length (lines book); valid = sound; same = take_all (length (lines book)) (lines book) (omega arith) }
 
 -- the stages go over the lines of a book
 
@@ -187,10 +181,7 @@ one_value v w is = cc
 pub reads : Reads IsSound Step excess begin finish IsBook lines
 reads = record {
   complete = complete;
-  sound = λ ms s run.
-      let is = runs_behind IsSound Step excess behind step_behind ms begin s tt run in
-      let front = front_of s is.0 in
-      (front.book, front.count, front.valid, front.same ∙ is.1);
+  sound = front_reached IsSound Step excess behind IsBook lines step_behind front_of begin tt refl;
   begins = tt;
   keeps = λ s t l sound step. (step_behind s t l sound step).0;
   one_step = one_step;

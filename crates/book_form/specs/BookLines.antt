@@ -1,6 +1,5 @@
 -- The lines of a book, and beside a line the limit that it exceeds.
 use Rattle.std.specs.Prelude.{◌≡◌, ℕ, ◌+◌, Option, Some, None, List, [], ◌∷◌, ◌++◌, codes, length, sum, nat_le, nat_lt, if◌then◌else◌}
-use Rattle.std.specs.Fmt.{decimal}
 use Rattle.line_text.specs.LineText.{first_excess}
 use Rattle.auction_model.specs.Place.{states_of}
 use Rattle.auction_model.specs.Book.{BookBid, Bidder, Book}

@@ -9,7 +9,7 @@ use Rattle.review.specs.auction_model.specs.Book.{Book}
 use Rattle.review.specs.book_form.specs.BookLines.{Excess, Line}
 use Rattle.review.specs.limits.specs.declared.LimitKind.TheVariants.{Records}
 use Rattle.review.specs.line_text.specs.Reading.{Runs, SoFar, HaltsAt, ExceedsFirst}
-use Rattle.review.specs.line_text.proofs.Runs.{Reads, runs_append}
+use Rattle.review.specs.line_text.proofs.Runs.{FrontOf, Reads, front_reached, runs_append}
 use Rattle.review.specs.Edits.{edit_lots}
 use Rattle.review.specs.declared.edit.Edit.{Edit}
 use Rattle.edits_file.specs.EditsForm.{NamedEdit, add, raise, remove, AreNamedEdits, IsNamedEdit, edit_excess, edit_lines, edit_of, edit_text, edits_of, lines}
@@ -198,25 +198,10 @@ module _ (categories : ℕ) where
           move (behind (listing had)) (edit_text adds.edit) (listing (had ++ adds.edit ∷ [])) adds.spelled adds.next_is (each-push (IsNamedEdit categories) had adds.edit sound adds.valid, more had adds.edit)
       by_stage (ended had) sound step = absurd step
 
-  runs_behind : (ms : List Line) (s t : NamedStage) → IsSound categories s → Runs (NamedStep categories) named_excess s ms t → IsSound categories t × (behind t ≡ behind s ++ ms)
-  runs_behind [] s t sound run = (subst (IsSound categories) run sound, ap behind (sym run) ∙ sym (append-nil (behind s)))
-  runs_behind (m ∷ ms) s t sound run =
-      let first = step_behind s run.0 m.0 sound run.2 in
-      let rest = runs_behind ms run.0 t first.0 run.4 in
-      let beside : (m.0, named_excess run.0) ≡ m = λ i. (m.0, sym run.3 i) in
-      (rest.0, rest.1 ∙ ap (λ (r : List Line). r ++ ms) (first.1 ∙ ap (λ (x : Line). behind s ++ x ∷ []) beside) ∙ append_assoc (behind s) (m ∷ []) ms)
-
-  -- each stage has the front of a text behind it
-  pub record FrontOf (before : List Line) : Type 0 where
-    pub edits : List NamedEdit
-    pub count : ℕ
-    pub valid : AreNamedEdits categories edits
-    pub same : take count (lines edits) ≡ before
-
-  front_of : (s : NamedStage) → IsSound categories s → FrontOf (behind s)
-  front_of beginning sound = record { edits = []; count = 0; valid = tt; same = refl }
-  front_of (listing had) sound = record { edits = had; count = length (behind (listing had)); valid = sound; same = take_at (behind (listing had)) ((codes "end", None) ∷ []) _ refl }
-  front_of (ended had) sound = record { edits = had; count = length (lines had); valid = sound; same = take_all (length (lines had)) (lines had) (omega arith) }
+  front_of : (s : NamedStage) → IsSound categories s → FrontOf (AreNamedEdits categories) lines (behind s)
+  front_of beginning sound = record { value = []; count = 0; valid = tt; same = refl }
+  front_of (listing had) sound = record { value = had; count = length (behind (listing had)); valid = sound; same = take_at (behind (listing had)) ((codes "end", None) ∷ []) _ refl }
+  front_of (ended had) sound = record { value = had; count = length (lines had); valid = sound; same = take_all (length (lines had)) (lines had) (omega arith) }
 
   -- the stages go over the lines of edits
   edits_run : (had es : List NamedEdit) → AreNamedEdits categories es → Runs (NamedStep categories) named_excess (listing had) (edit_lines (length had) es) (listing (had ++ es))
@@ -263,10 +248,7 @@ module _ (categories : ℕ) where
   pub reads : Reads (IsSound categories) (NamedStep categories) named_excess begin finish (AreNamedEdits categories) lines
   reads = record {
     complete = complete;
-    sound = λ ms s run.
-        let is = runs_behind ms begin s tt run in
-        let front = front_of s is.0 in
-        (front.edits, front.count, front.valid, front.same ∙ is.1);
+    sound = front_reached (IsSound categories) (NamedStep categories) named_excess behind (AreNamedEdits categories) lines step_behind front_of begin tt refl;
     begins = tt;
     keeps = λ s t l sound step. (step_behind s t l sound step).0;
     one_step = one_step;

@@ -47,6 +47,21 @@ module _ {S O : Type 0} (Sound : S → Type 0) (Step : S → List ℕ → S → 
       let beside : (m.0, excess run.0) ≡ m = λ i. (m.0, sym run.3 i) in
       (rest.0, rest.1 ∙ ap (λ (r : List (List ℕ × Option O)). r ++ ms) (first.1 ∙ ap (λ (x : List ℕ × Option O). behind s ++ x ∷ []) beside) ∙ append_assoc (behind s) (m ∷ []) ms)
 
+-- a value whose text begins with these lines
+pub record FrontOf {V O : Type 0} (IsValid : V → Type 0) (lines : V → List (List ℕ × Option O)) (before : List (List ℕ × Option O)) : Type 0 where
+  pub value : V
+  pub count : ℕ
+  pub valid : IsValid value
+  pub same : take count (lines value) ≡ before
+
+module _ {S V O : Type 0} (Sound : S → Type 0) (Step : S → List ℕ → S → Type 0) (excess : S → Option O) (behind : S → List (List ℕ × Option O)) (IsValid : V → Type 0) (lines : V → List (List ℕ × Option O)) (steps : StepsBehind Sound Step excess behind) (front_of : (s : S) → Sound s → FrontOf IsValid lines (behind s)) where
+  -- where each sound stage has the front of a text behind it, the lines of a run are one
+  pub front_reached : (begin : S) → Sound begin → behind begin ≡ [] → (ms : List (List ℕ × Option O)) (s : S) → Runs Step excess begin ms s → (v : V) × (k : ℕ) × IsValid v × (take k (lines v) ≡ ms)
+  front_reached begin sound nothing ms s run =
+      let is = runs_behind Sound Step excess behind steps ms begin s sound run in
+      let front = front_of s is.0 in
+      (front.value, front.count, front.valid, front.same ∙ is.1 ∙ ap (λ (r : List (List ℕ × Option O)). r ++ ms) nothing)
+
 -- The reader reads this form: over the lines of a value it comes to the value's end, and where it has come from the
 -- beginning, the lines are the front of some text. From an end it goes no further.
 pub record Reads {S V O : Type 0} (Sound : S → Type 0) (Step : S → List ℕ → S → Type 0) (excess : S → Option O) (begin : S) (finish : V → S) (IsValid : V → Type 0) (lines : V → List (List ℕ × Option O)) : Type 0 where

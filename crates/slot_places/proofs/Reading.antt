@@ -4,7 +4,7 @@ use Rattle.std.specs.Prelude.{codes}
 use Rattle.std.specs.Fmt.{decimal}
 use Rattle.std.proofs.lemmas.List.{append-nil, take_at, take_all}
 use Rattle.choices.specs.line_text.specs.Reading.{Runs}
-use Rattle.choices.specs.line_text.proofs.Runs.{Reads, StepsBehind, runs_append, runs_behind}
+use Rattle.choices.specs.line_text.proofs.Runs.{FrontOf, Reads, StepsBehind, front_reached, runs_append}
 use Rattle.slot_places.specs.Slots.{SlotBid, SlotBidder, SlotList}
 use Rattle.choices.specs.book_form.specs.BookLines.{Line}
 use Rattle.slot_places.specs.SlotForm.{IsSlotBid, AreSlotBids, IsSlotBidder, AreSlotBidders, IsSlotText, bidder_excess, band_line, bidder_line, place_line, place_lines, bidder_lines, head_lines, slot_lines}
@@ -50,21 +50,14 @@ step_behind s t l = by_stage s
     by_stage (Listing slots) sound (inr step) = move (listed slots) l (Listing step.0) refl step.2 (adds_one slots step.0 l sound step.1)
     by_stage (Ended slots) sound step = absurd step
 
--- each stage has the front of a text behind it: slots with as much as is read, and nothing else
-pub record FrontOf (before : List Line) : Type 0 where
-  pub slots : SlotList
-  pub count : ℕ
-  pub valid : IsSlotText slots
-  pub same : take count (slot_lines slots) ≡ before
-
 one_slot : IsSlotText (opened 1)
 one_slot = record { band = (omega arith, omega arith); bidders = tt }
 
-front_of : (s : Stage) → IsSound s → FrontOf (behind s)
-front_of Start sound = record { slots = opened 1; count = 0; valid = one_slot; same = refl }
-front_of Headed sound = record { slots = opened 1; count = 1; valid = one_slot; same = refl }
-front_of (Listing slots) sound = record { slots = slots; count = length (listed slots); valid = sound; same = take_at (listed slots) ((codes "end", None) ∷ []) _ refl }
-front_of (Ended slots) sound = record { slots = slots; count = length (slot_lines slots); valid = sound; same = take_all (length (slot_lines slots)) (slot_lines slots) (omega arith) }
+front_of : (s : Stage) → IsSound s → FrontOf IsSlotText slot_lines (behind s)
+front_of Start sound = record { value = opened 1; count = 0; valid = one_slot; same = refl }
+front_of Headed sound = record { value = opened 1; count = 1; valid = one_slot; same = refl }
+front_of (Listing slots) sound = record { value = slots; count = length (listed slots); valid = sound; same = take_at (listed slots) ((codes "end", None) ∷ []) _ refl }
+front_of (Ended slots) sound = record { value = slots; count = length (slot_lines slots); valid = sound; same = take_all (length (slot_lines slots)) (slot_lines slots) (omega arith) }
 
 -- the stages go over the lines of slots
 
@@ -169,10 +162,7 @@ one_value v w is = cc
 pub reads : Reads IsSound Step excess begin finish IsSlotText slot_lines
 reads = record {
   complete = complete;
-  sound = λ ms s run.
-      let is = runs_behind IsSound Step excess behind step_behind ms begin s tt run in
-      let front = front_of s is.0 in
-      (front.slots, front.count, front.valid, front.same ∙ is.1);
+  sound = front_reached IsSound Step excess behind IsSlotText slot_lines step_behind front_of begin tt refl;
   begins = tt;
   keeps = λ s t l sound step. (step_behind s t l sound step).0;
   one_step = one_step;

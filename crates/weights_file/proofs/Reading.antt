@@ -4,7 +4,7 @@ use Rattle.std.specs.Prelude.{codes}
 use Rattle.std.specs.List.{AllByRecursion}
 use Rattle.std.proofs.lemmas.List.{append-nil, take_at, take_all, length-replicate}
 use Rattle.bid_book.specs.line_text.specs.Reading.{Runs}
-use Rattle.bid_book.specs.line_text.proofs.Runs.{Reads, runs_append}
+use Rattle.bid_book.specs.line_text.proofs.Runs.{FrontOf, Reads, front_reached, runs_append}
 use Rattle.bid_book.specs.auction_model.specs.Book.{Bidder, Book, bidder_of, no_bidder}
 use Rattle.bid_book.specs.auction_model.specs.Prices.{AreWeights}
 use Rattle.bid_book.specs.book_form.specs.BookForm.{IsBook, IsName}
@@ -97,43 +97,28 @@ module _ (book : Book) (rules : IsBook book) where
       by_stage (Listing given) sound (inr step) = move (behind (Listing given)) (codes "end") (Ended given) step.1 step.2 ((omega (arith, step.0, sound.0), sound.1), refl)
       by_stage (Ended given) sound step = absurd step
 
-  runs_behind : (ms : List Line) (s t : Stage) → IsSound s → Runs (Step book) excess s ms t → IsSound t × (behind t ≡ behind s ++ ms)
-  runs_behind [] s t sound run = (subst IsSound run sound, ap behind (sym run) ∙ sym (append-nil (behind s)))
-  runs_behind (m ∷ ms) s t sound run =
-      let first = step_behind s run.0 m.0 sound run.2 in
-      let rest = runs_behind ms run.0 t first.0 run.4 in
-      let beside : (m.0, None) ≡ m = λ i. (m.0, sym run.3 i) in
-      (rest.0, rest.1 ∙ ap (λ (r : List Line). r ++ ms) (first.1 ∙ ap (λ (x : Line). behind s ++ x ∷ []) beside) ∙ append_assoc (behind s) (m ∷ []) ms)
-
-  -- each stage has the front of a text behind it
-  pub record FrontOf (before : List Line) : Type 0 where
-    pub weights : List ℕ
-    pub count : ℕ
-    pub valid : AreWeights (length book.bidders) weights
-    pub same : take count (lines book weights) ≡ before
-
   all_one : AreWeights (length book.bidders) (replicate (length book.bidders) 1)
   all_one = are_weights _ _ (length-replicate {A = ℕ} (length book.bidders) 1) (all_ones (length book.bidders))
 
   abbrev filled : List ℕ → List ℕ
   filled given = given ++ replicate (length book.bidders - length given) 1
 
-  front_of : (s : Stage) → IsSound s → FrontOf (behind s)
-  front_of Start sound = record { weights = replicate (length book.bidders) 1; count = 0; valid = all_one; same = refl }
+  front_of : (s : Stage) → IsSound s → FrontOf (AreWeights (length book.bidders)) (lines book) (behind s)
+  front_of Start sound = record { value = replicate (length book.bidders) 1; count = 0; valid = all_one; same = refl }
   front_of (Listing given) sound =
       let more = lines_append book.bidders given (replicate (length book.bidders - length given) 1) sound.0 in
       let whole : lines book (filled given) ≡ behind (Listing given) ++ (more.0 ++ (codes "end", None) ∷ []) =
       ap (λ (r : List Line). (codes "weights 1", None) ∷ (r ++ (codes "end", None) ∷ [])) more.1
       ∙ ap (λ (r : List Line). (codes "weights 1", None) ∷ r) (append_assoc (weight_lines book.bidders given) more.0 ((codes "end", None) ∷ [])) in
       record {
-        weights = filled given;
+        value = filled given;
         count = length (behind (Listing given));
         valid = are_weights _ _ (length-append given (replicate (length book.bidders - length given) 1) ∙ omega (arith, sound.0, length-replicate {A = ℕ} (length book.bidders - length given) 1))
             (all_append given (replicate (length book.bidders - length given) 1) sound.1 (all_ones (length book.bidders - length given)));
         same = ap (take (length (behind (Listing given)))) whole ∙ take_at (behind (Listing given)) (more.0 ++ (codes "end", None) ∷ []) _ refl;
       }
   front_of (Ended given) sound = record {
-    weights = given;
+    value = given;
     count = length (lines book given);
     valid = are_weights _ _ sound.0 sound.1;
     same = take_all (length (lines book given)) (lines book given) (omega arith);
@@ -191,10 +176,7 @@ module _ (book : Book) (rules : IsBook book) where
   pub reads : Reads IsSound (Step book) excess begin finish (AreWeights (length book.bidders)) (lines book)
   reads = record {
     complete = complete;
-    sound = λ ms s run.
-        let is = runs_behind ms begin s tt run in
-        let front = front_of s is.0 in
-        (front.weights, front.count, front.valid, front.same ∙ is.1);
+    sound = front_reached IsSound (Step book) excess behind (AreWeights (length book.bidders)) (lines book) step_behind front_of begin tt refl;
     begins = tt;
     keeps = λ s t l sound step. (step_behind s t l sound step).0;
     one_step = one_step;

@@ -3,7 +3,7 @@ use Rattle.book_form.specs.line_text.specs.LineText.{FaultAt}
 use Rattle.book_form.specs.line_text.specs.declared.stop.TextStop.TheVariants.{Limit}
 use Rattle.book_form.specs.line_text.proofs.Runs.{text_read, fault_read, excess_read}
 use Rattle.book_form.specs.BookForm.{IsBook}
-use Rattle.book_form.specs.BookLines.{Excess, lines}
+use Rattle.book_form.specs.BookLines.{lines}
 use Rattle.bid_book.proofs.Reading.{reads}
 use Rattle.bid_book.proofs.read.read_book.Goals as goal
 
