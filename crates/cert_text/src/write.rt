@@ -18,11 +18,14 @@ use cert_form::wide_num::Text;
 use choices::{Choice, Grid};
 use std::alloc::{AllocError, Global};
 
+// So many bytes are enough for all lines but those of tables.
+const SHORT_LINES: usize = 16_384;
+
 /// The one text of a certificate. The only error is want of memory.
 pub fn write_cert(alloc: Global, cert: &Certificate) -> Result<Text, AllocError>
     ensures { IfOk result (λ text. text ≡ cert_text (cert_value cert.now)) }
 {
-    let mut text = Text::new(alloc);
+    let mut text = Text::with_capacity(alloc, room_for(cert))?;
     add_version(&mut text, cert.choice.numbers().len(), cert.table.width())?;
     add_head(&mut text, cert)?;
     add_table(&mut text, b"table", &cert.table)?;
@@ -32,6 +35,45 @@ pub fn write_cert(alloc: Global, cert: &Certificate) -> Result<Text, AllocError>
     add_table(&mut text, b"lowered", &cert.lowered)?;
     add_signed_line(&mut text, b"end", &[])?;
     Ok(text)
+}
+
+// About how many bytes the text has, and no fewer where no line of a table falls. Only room is taken by it, so that no text is
+// copied while it grows.
+fn room_for(cert: &Certificate) -> usize {
+    let mut room = table_room(&cert.table).saturating_add(table_room(&cert.lowered));
+    for part in cert.withouts.items() {
+        room = room.saturating_add(table_room(&part.table));
+    }
+    room.saturating_add(SHORT_LINES)
+}
+
+// The room of a table's lines.
+fn table_room(table: &Grid) -> usize {
+    let mut room: usize = 0;
+    for i in 0..table.lines() {
+        room = room.saturating_add(line_room(table.line(i)));
+    }
+    room
+}
+
+// The room of a line whose longest number is the first or the last one.
+fn line_room(line: &[i128]) -> usize {
+    let longest = match line {
+        [] => 0,
+        [only] => number_room(*only),
+        [first, .., last] => number_room(*first).max(number_room(*last)),
+    };
+    line.len().saturating_mul(longest).saturating_add(2)
+}
+
+// The room of a number behind a space.
+fn number_room(number: i128) -> usize {
+    let sign = if number < 0 { 1 } else { 0 };
+    let digits = match number.unsigned_abs().checked_ilog10() {
+        Some(power) => power as usize + 1,
+        None => 1,
+    };
+    1 + sign + digits
 }
 
 // The version, and in the second one the most bidders and states.

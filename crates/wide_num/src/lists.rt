@@ -1,4 +1,4 @@
-ghost use Rattle.std.specs.Prelude.{List, [], if◌then◌else◌, is_ok, ℕ, ℤ, ◌++◌, ◌∷◌, ◌≡◌};
+ghost use Rattle.std.specs.Prelude.{IfOk, List, [], if◌then◌else◌, is_ok, ℕ, ℤ, ◌++◌, ◌∷◌, ◌≡◌};
 
 use std::alloc::{AllocError, Global};
 use std::marker::Model;
@@ -23,6 +23,16 @@ impl Text {
         Text {
             bytes: Vec::new(alloc),
         }
+    }
+
+    /// The empty text, with room for so many bytes, so that it needn't grow before it has more. The only error is want of
+    /// memory.
+    pub fn with_capacity(alloc: Global, bytes: usize) -> Result<Self, AllocError>
+        ensures { IfOk result (λ text. text ≡ []) }
+    {
+        Ok(Text {
+            bytes: Vec::with_capacity(alloc, bytes)?,
+        })
     }
 
     /// Appends one byte. For want of memory the text stays as it is.

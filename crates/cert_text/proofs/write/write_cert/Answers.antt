@@ -26,7 +26,7 @@ returns c =
     whole_cert cert _ _ _ _ _ _ _ c.add_signed_line-2.new.text
     (
     c.in_ok-add_version.ensures
-    ∙ ap (λ (t : List ℕ). t ++ bytes_of (version_lines (length c.numbers.result.now) c.width.result)) c.new-text.ensures
+    ∙ ap (λ (t : List ℕ). t ++ bytes_of (version_lines (length c.numbers.result.now) c.width.result)) c.in_ok-text.ensures
     ∙ ap (λ (l : List ℕ). bytes_of (version_lines (length l) c.width.result)) c.numbers.ensures
     ∙ ap (λ (n : ℕ). bytes_of (version_lines (length cert.choice) n)) c.width.ensures
     )
