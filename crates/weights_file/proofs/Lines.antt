@@ -1,14 +1,14 @@
 -- The lines of weights: they have no line feed, and each says one weight.
-use Rattle.std.proofs.Common.{inl, inr, ◌≡◌, ◌≢◌, ℕ, zero, suc, ◌+◌, ◌-◌, ◌≤◌, ◌<◌, ◌^◌, None, List, [], ◌∷◌, ◌++◌, length, get_or, refl, sym, ap, ◌∙◌, arith}
+use Rattle.std.proofs.Common.{◌≡◌, ℕ, ◌+◌, ◌-◌, ◌<◌, List, [], ◌∷◌, ◌++◌, length, get_or, refl, ap, arith}
 use Rattle.std.specs.Prelude.{codes}
 use Rattle.std.specs.List.{AllByRecursion}
 use Rattle.std.specs.Fmt.{decimal}
 use Rattle.std.proofs.lemmas.List.{append_cancel_left}
-use Rattle.bid_book.specs.wide_num.proofs.Decimal.{decimal_one, numeral_decimal, AreDigits}
+use Rattle.bid_book.specs.wide_num.proofs.Decimal.{decimal_one, numeral_decimal}
 use Rattle.bid_book.specs.line_text.specs.LineText.{IsLine}
 use Rattle.bid_book.specs.line_text.proofs.Lines.{line_append}
 use Rattle.bid_book.specs.auction_model.specs.Book.{Bidder, Book, bidder_of, no_bidder}
-use Rattle.bid_book.specs.book_form.specs.BookForm.{AreBidders, IsName, IsNameByte}
+use Rattle.bid_book.specs.book_form.specs.BookForm.{AreBidders, IsName}
 use Rattle.bid_book.proofs.Spelled.{digits_line, name_line}
 use Rattle.weights_file.specs.WeightsForm.{IsWeight, Line, weight_line, weight_lines}
 

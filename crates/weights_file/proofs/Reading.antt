@@ -1,5 +1,5 @@
 -- The stages read the form of a file of weights.
-use Rattle.std.proofs.Common.{inl, inr, ◌⊎◌, ◌≡◌, ℕ, zero, suc, ◌+◌, ◌-◌, ◌≤◌, ◌<◌, None, Option, List, [], ◌∷◌, ◌++◌, length, get_or, replicate, take, refl, sym, ap, subst, ◌∙◌, arith, append_assoc, length-append}
+use Rattle.std.proofs.Common.{inl, inr, ◌≡◌, ℕ, zero, suc, ◌+◌, ◌-◌, ◌≤◌, ◌<◌, None, List, [], ◌∷◌, ◌++◌, length, get_or, replicate, take, refl, sym, ap, subst, ◌∙◌, arith, append_assoc, length-append}
 use Rattle.std.specs.Prelude.{codes}
 use Rattle.std.specs.List.{AllByRecursion}
 use Rattle.std.proofs.lemmas.List.{append-nil, take_at, take_all, length-replicate}
@@ -11,7 +11,7 @@ use Rattle.bid_book.specs.book_form.specs.BookForm.{IsBook, IsName}
 use Rattle.weights_file.specs.declared.read.Stage.{Stage}
 use Rattle.weights_file.specs.declared.read.Stage.TheVariants.{Start, Listing, Ended}
 use Rattle.weights_file.specs.WeightsForm.{IsWeight, Line, weight_line, weight_lines, lines}
-use Rattle.weights_file.specs.Stages.{Ends, Step, Weighs, excess}
+use Rattle.weights_file.specs.Stages.{Step, Weighs, excess}
 use Rattle.weights_file.proofs.Lines.{end_word, first_word, names, next_is, weight_feeds, weight_more, weight_one}
 
 abbrev pub begin : Stage
