@@ -5,10 +5,16 @@ use Rattle.std.specs.Fmt.{decimal}
 use Rattle.std.specs.List.{AllByRecursion}
 use Rattle.review.specs.auction_model.specs.Book.{Book}
 use Rattle.review.specs.book_form.specs.BookLines.{Excess}
+use Rattle.review.specs.limits.specs.declared.LimitKind.TheVariants.{Records}
+use Rattle.review.specs.limits.specs.declared.TheConstants.{MOST_EDITS}
 use Rattle.review.specs.declared.edit.Edit.{Edit}
 use Rattle.review.specs.line_text.specs.Decimals.{decimals_text}
 use Rattle.review.specs.line_text.specs.Fields.{FieldEnds}
 use Rattle.edits_file.specs.EditsForm.{NamedEdit, NamesPackage, IsNamedEdit, IsSpelledAmount, edit_excess, edit_of, edit_text, number_among}
+use Rattle.edits_file.specs.declared.EditStop.{EditStop}
+use Rattle.edits_file.specs.declared.EditStop.TheVariants as edits
+use Rattle.edits_file.specs.declared.stop.LineStop.{LineStop}
+use Rattle.edits_file.specs.declared.stop.LineStop.TheVariants.{Form, Full, Memory}
 use Rattle.edits_file.specs.declared.read.Stage.{Stage}
 use Rattle.edits_file.specs.declared.read.Stage.TheVariants.{Start, Listing, Ended}
 
@@ -71,3 +77,9 @@ abbrev pub excess : Stage → Option Excess
 excess Start = None
 excess (Listing had) = edit_excess (length had)
 excess (Ended had) = None
+
+-- the stop of the reader at the line that begins at this place
+abbrev pub edit_stop : LineStop → ℕ → EditStop
+edit_stop Form place = edits.Form place
+edit_stop Full place = edits.Limit Records (MOST_EDITS + 1)
+edit_stop Memory place = edits.Memory

@@ -5,9 +5,9 @@ ghost use Rattle.review.specs.book_form.specs.BookForm.{IsName};
 ghost use Rattle.edits_file.specs.EditsForm.{number_among};
 ghost use Rattle.edits_file.specs.Stages.{BeginsWithCounts, BeginsWithNumber, IsHead, StatesBid, StatesPackage};
 
-use crate::LimitKind;
-use review::bid_book::{BidBook, Excess, is_name};
-use review::line_text::{LineStop, field_len, read_at_most};
+use crate::stop::LineStop;
+use review::bid_book::{BidBook, is_name};
+use review::line_text::{field_len, read_at_most};
 use review::lots::Package;
 use std::alloc::{AllocError, Global};
 
@@ -22,11 +22,11 @@ pub fn read_bid(
     alloc: Global,
     book: &BidBook,
     fields: &[u8],
-) -> Result<(u16, Package, u64), LineStop<Excess>>
+) -> Result<(u16, Package, u64), LineStop>
     ensures ok { IfOk result (λ b. StatesBid book.now fields.now b.0 b.1 b.2) }
     ensures form { result ≡ Err LineStop.Form → (bidder : ℕ) (lots : List ℕ) (amount : ℕ)
         → StatesBid book.now fields.now bidder lots amount → ⊥ }
-    ensures no_limit { (kind : LimitKind) (count : ℕ) → result ≡ Err (LineStop.Limit (kind, count)) → ⊥ }
+    ensures not_full { result ≢ Err LineStop.Full }
 {
     let (bidder, package, rest) = read_head(alloc, book, fields)?;
     let Some(amount) = last_number(rest, MOST_STATED_AMOUNT) else {
@@ -40,11 +40,11 @@ pub fn read_package(
     alloc: Global,
     book: &BidBook,
     fields: &[u8],
-) -> Result<(u16, Package), LineStop<Excess>>
+) -> Result<(u16, Package), LineStop>
     ensures ok { IfOk result (λ p. StatesPackage book.now fields.now p.0 p.1) }
     ensures form { result ≡ Err LineStop.Form → (bidder : ℕ) (lots : List ℕ)
         → StatesPackage book.now fields.now bidder lots → ⊥ }
-    ensures no_limit { (kind : LimitKind) (count : ℕ) → result ≡ Err (LineStop.Limit (kind, count)) → ⊥ }
+    ensures not_full { result ≢ Err LineStop.Full }
 {
     let (bidder, package, rest) = read_head(alloc, book, fields)?;
     if !rest.is_empty() {
@@ -58,11 +58,11 @@ fn read_head<'a>(
     alloc: Global,
     book: &BidBook,
     fields: &'a [u8],
-) -> Result<(u16, Package, &'a [u8]), LineStop<Excess>>
+) -> Result<(u16, Package, &'a [u8]), LineStop>
     ensures ok { IfOk result (λ h. IsHead book.now fields.now h.0 h.1 h.2.now) }
     ensures form { result ≡ Err LineStop.Form → (bidder : ℕ) (lots rest : List ℕ)
         → IsHead book.now fields.now bidder lots rest → ⊥ }
-    ensures no_limit { (kind : LimitKind) (count : ℕ) → result ≡ Err (LineStop.Limit (kind, count)) → ⊥ }
+    ensures not_full { result ≢ Err LineStop.Full }
 {
     let Some((bidder, behind)) = read_bidder(book, fields) else {
         return Err(LineStop::Form);
@@ -103,12 +103,12 @@ fn read_counts<'a>(
     alloc: Global,
     text: &'a [u8],
     categories: usize,
-) -> Result<(Vec<u16>, &'a [u8]), LineStop<Excess>>
+) -> Result<(Vec<u16>, &'a [u8]), LineStop>
     requires { FieldEnds text.now }
     ensures ok { IfOk result (λ p. BeginsWithCounts categories text.now p.0.items p.1.now) }
     ensures form { result ≡ Err LineStop.Form → (lots rest : List ℕ) → BeginsWithCounts categories text.now lots rest
         → ⊥ }
-    ensures no_limit { (kind : LimitKind) (count : ℕ) → result ≡ Err (LineStop.Limit (kind, count)) → ⊥ }
+    ensures not_full { result ≢ Err LineStop.Full }
 {
     let mut counts = Vec::with_capacity(alloc, categories)?;
     let mut rest = text;
