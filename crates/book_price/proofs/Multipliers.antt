@@ -12,7 +12,7 @@ use Rattle.cert_text.specs.choices.specs.declared.chooser.Single.{Single}
 use Rattle.core_price.specs.Kept.{firsts, rows_in, seconds}
 use Rattle.cert_laws.specs.auction_model.specs.Prices.{weight_of}
 use Rattle.core_price.specs.Rows.{prices_of}
-use Rattle.core_price.specs.Weights.{weights_in}
+use Rattle.cert_laws.specs.row_laws.specs.Weights.{weights_in}
 use Rattle.core_price.specs.declared.priced.PricedRow.{PricedRow}
 use Rattle.cert_laws.specs.far_num.specs.Members.{holds}
 use Rattle.cert_laws.specs.far_num.specs.declared.Row.{Row}

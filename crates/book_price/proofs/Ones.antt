@@ -3,7 +3,7 @@ use Rattle.std.specs.Prelude.{◌≡◌, ℕ, zero, suc, ◌-◌, ◌<◌, ◌�
 use Rattle.std.proofs.Common.{inl, inr, arith}
 use Rattle.std.proofs.lemmas.List.{get_or-replicate, length-replicate}
 use Rattle.cert_laws.specs.auction_model.specs.Prices.{AreWeights, weight_of}
-use Rattle.core_price.specs.Weights.{FewWin, ManyWin, WeighAlike, weights_in}
+use Rattle.cert_laws.specs.row_laws.specs.Weights.{FewWin, ManyWin, WeighAlike, weights_in}
 use Rattle.cert_laws.specs.row_laws.specs.Winners.{winners_in}
 
 -- each bidder weighs 1

@@ -12,7 +12,7 @@ use Rattle.cert_laws.specs.far_num.specs.Members.{holds}
 use Rattle.cert_laws.specs.row_laws.specs.Winners.{for_bidders, has_bit, winners_in}
 use Rattle.cert_laws.specs.row_laws.proofs.Bits.{holds-front, holds-rest}
 use Rattle.cert_laws.specs.wide_num.specs.Sums.{nth}
-use Rattle.core_price.specs.Weights.{weights_in}
+use Rattle.cert_laws.specs.row_laws.specs.Weights.{weights_in}
 use Rattle.book_price.specs.Made.{parts_from}
 
 -- the single at a place

@@ -8,7 +8,7 @@ use Rattle.cert_laws.specs.cert_form.specs.Certificate.{CertValue}
 use Rattle.cert_laws.specs.Tests.{bidders_of}
 use Rattle.cert_text.specs.choices.specs.Singles.{AreSingles, winners_after}
 use Rattle.core_price.specs.Priced.{IsPriced}
-use Rattle.core_price.specs.Weights.{FewWin}
+use Rattle.cert_laws.specs.row_laws.specs.Weights.{FewWin}
 use Rattle.core_price.specs.declared.priced.Priced.{Priced}
 use Rattle.cert_laws.specs.row_laws.specs.Surplus.{surpluses_of}
 use Rattle.cert_laws.specs.row_laws.specs.Winners.{for_bidders}

@@ -4,7 +4,7 @@ use Rattle.cert_laws.specs.auction_model.specs.Book.{Book, market_of}
 use Rattle.cert_laws.specs.auction_model.specs.Greatest.{IsWinning}
 use Rattle.core_price.specs.declared.priced.PriceStop.{PriceStop}
 use Rattle.core_price.specs.declared.priced.PriceStop.TheVariants.{Winners, Memory}
-use Rattle.core_price.specs.Weights.{ManyWin}
+use Rattle.cert_laws.specs.row_laws.specs.Weights.{ManyWin}
 use Rattle.cert_laws.specs.row_laws.specs.Winners.{winners_in}
 
 -- the winning choice has more winners than can be priced with the weights, so many; want of memory says nothing of the book

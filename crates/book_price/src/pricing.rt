@@ -10,7 +10,7 @@ ghost use Rattle.cert_laws.specs.Tests.{bidders_of, states};
 ghost use Rattle.cert_text.specs.CertValues.{cert_value, IsFor};
 ghost use Rattle.cert_laws.specs.auction_model.specs.Prices.{AreWeights, weight_of};
 ghost use Rattle.core_price.specs.Turns.{IsPointOfTurn, turns_of};
-ghost use Rattle.core_price.specs.Weights.{FewWin};
+ghost use Rattle.cert_laws.specs.row_laws.specs.Weights.{FewWin};
 ghost use Rattle.cert_laws.specs.row_laws.specs.Turns.{IsLastPoint};
 ghost use Rattle.vickrey.specs.value_table.specs.TableValue.{IsPlain, IsTableOf};
 ghost use Rattle.book_price.specs.Reduced.{IsReduced};

@@ -21,7 +21,7 @@ use Rattle.outcome.specs.print_form.specs.Json.{IsOutcomeJson}
 use Rattle.outcome.specs.print_form.specs.Prices.{IsPriceText}
 use Rattle.outcome.specs.print_form.specs.Turns.{AreTurnLines}
 use Rattle.big_auction.specs.row_laws.specs.Winners.{winners_in}
-use Rattle.outcome.specs.core_price.specs.Weights.{FewWin}
+use Rattle.big_auction.specs.row_laws.specs.Weights.{FewWin}
 use Rattle.std.specs.Prelude.{Result, Ok, Err, reverse}
 use Rattle.big_auction.specs.award_file.specs.Award.{IsAward}
 use Rattle.big_auction.specs.log_file.specs.LogReading.{AreLog, log_records}

@@ -3,7 +3,7 @@ use Rattle.std.specs.Prelude.{◌≡◌, ◌⊎◌, ◌<◌, ◌≤◌, List, le
 use Rattle.std.proofs.Common.{inl, inr, arith}
 use Rattle.outcome.specs.auction_model.specs.Book.{Book}
 use Rattle.place_price.specs.cert_laws.specs.Tests.{bidders_of}
-use Rattle.outcome.specs.core_price.specs.Weights.{FewWin, ManyWin, WeighAlike}
+use Rattle.big_auction.specs.row_laws.specs.Weights.{FewWin, ManyWin, WeighAlike}
 use Rattle.big_auction.specs.row_laws.specs.Winners.{winners_in}
 use Rattle.place_price.specs.book_price.proofs.Ones.{winners-ones}
 use Rattle.cca_run.specs.Gives.{ones}

@@ -16,7 +16,7 @@ use Rattle.place_price.specs.cert_laws.specs.Tests.{Holds, bidders_of, states}
 use Rattle.cca_inputs.specs.cert_text.specs.CertValues.{cert_value, IsFor}
 use Rattle.cca_inputs.specs.cert_text.specs.declared.certificate.Certificate.{Certificate}
 use Rattle.outcome.specs.auction_model.specs.Prices.{weight_of}
-use Rattle.outcome.specs.core_price.specs.Weights.{FewWin}
+use Rattle.big_auction.specs.row_laws.specs.Weights.{FewWin}
 use Rattle.outcome.specs.core_price.specs.Turns.{IsPointOfTurn, turns_of}
 use Rattle.outcome.specs.core_price.specs.declared.priced.Turn.{Turn}
 use Rattle.outcome.specs.Payments.{ArePayments}

@@ -24,7 +24,7 @@ use Rattle.cca_inputs.specs.cert_form.specs.Says.{cert_text}
 use Rattle.place_price.specs.cert_laws.specs.Priced.{IsPricedCert}
 use Rattle.place_price.specs.cert_laws.specs.Sound.{IsSound, cert_point, cert_prices}
 use Rattle.place_price.specs.cert_laws.specs.Tests.{FailsFirst, Holds, bidders_of, states}
-use Rattle.outcome.specs.core_price.specs.Weights.{FewWin, ManyWin}
+use Rattle.big_auction.specs.row_laws.specs.Weights.{FewWin, ManyWin}
 use Rattle.cca_inputs.specs.limits.specs.declared.LimitKind.TheVariants.{Rounds, Price, Winners}
 use Rattle.cca_inputs.specs.limits.specs.declared.TheConstants.{AWARD_BYTES, LOG_BYTES, BOOK_BYTES, CERT_BYTES, EDITS_BYTES, SLOTS_BYTES, WEIGHTS_BYTES}
 use Rattle.outcome.specs.print_form.specs.Json.{IsOutcomeJson}

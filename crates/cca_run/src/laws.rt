@@ -2,7 +2,7 @@
 ghost use Rattle.std.specs.Prelude.{◌≡◌, ◌<◌, ◌≤◌, ◌++◌, ◌∷◌, ℕ, false, List, [], Option, codes, length};
 ghost use Rattle.outcome.specs.auction_model.specs.Book.{Book};
 ghost use Rattle.place_price.specs.cert_laws.specs.Tests.{bidders_of};
-ghost use Rattle.outcome.specs.core_price.specs.Weights.{FewWin, ManyWin};
+ghost use Rattle.big_auction.specs.row_laws.specs.Weights.{FewWin, ManyWin};
 ghost use Rattle.cca_inputs.specs.limits.specs.declared.TheConstants.{MOST_WINNERS};
 ghost use Rattle.big_auction.specs.auction_rules.specs.Terms.{Terms};
 ghost use Rattle.big_auction.specs.auction_rules.specs.declared.Event.{Event};

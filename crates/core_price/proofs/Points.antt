@@ -21,7 +21,7 @@ use Rattle.blocking.specs.row_laws.proofs.Winners.{there_and_back, paid-zip, los
 use Rattle.nearest_point.specs.wide_num.specs.Sums.{nth, total}
 use Rattle.core_price.specs.Answers.{IsAnswer}
 use Rattle.core_price.specs.Turns.{point_of}
-use Rattle.core_price.specs.Weights.{CanWeigh, weights_in}
+use Rattle.blocking.specs.row_laws.specs.Weights.{CanWeigh, weights_in}
 use Rattle.core_price.proofs.Spots.{spot, spot-inside, spot-number}
 use Rattle.core_price.proofs.WeightLaws.{sum-spots, weight-is, weights-at}
 use Rattle.std.proofs.Math.IntN.{*ℤ-zero}

@@ -14,7 +14,7 @@ use Rattle.nearest_point.specs.wide_num.specs.Sums.{nth}
 use Rattle.core_price.specs.Kept.{AreAmong, IsKept, firsts, is_used, rows_in, seconds}
 use Rattle.core_price.specs.Lowest.{IsLowest}
 use Rattle.core_price.specs.SoFar.{CanTurn, HasEnded}
-use Rattle.core_price.specs.Weights.{weights_in}
+use Rattle.blocking.specs.row_laws.specs.Weights.{weights_in}
 use Rattle.core_price.specs.declared.priced.PricedRow.{PricedRow}
 use Rattle.core_price.specs.declared.priced.Turn.{Turn}
 use Rattle.core_price.proofs.KeptCount.{kept-count, kept-seconds_below}

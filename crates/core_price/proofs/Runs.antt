@@ -15,7 +15,7 @@ use Rattle.blocking.specs.row_laws.specs.Winners.{for_bidders, for_winners, winn
 use Rattle.blocking.specs.row_laws.proofs.Blocks.{meets-winners, meets-bidders}
 use Rattle.core_price.specs.Answers.{IsAnswer}
 use Rattle.core_price.specs.Turns.{point_of}
-use Rattle.core_price.specs.Weights.{CanWeigh, weights_in}
+use Rattle.blocking.specs.row_laws.specs.Weights.{CanWeigh, weights_in}
 use Rattle.core_price.proofs.Points.{MeetsBits, asks-winners, back-of, least-of, meets, nearest-of}
 
 -- what each row of bits asks, as a list of rows of bidders

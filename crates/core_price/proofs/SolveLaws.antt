@@ -2,7 +2,8 @@
 use Rattle.std.specs.Prelude.{◌≡◌, ℕ, ◌^◌, ◌≤◌, List, length, ℤ, pos, ◌≤ℤ◌, ◌<ℤ◌}
 use Rattle.blocking.specs.far_num.specs.declared.Row.{Row}
 use Rattle.nearest_point.specs.Numbers.{AreBelow, pairs_used}
-use Rattle.nearest_point.specs.Problem.{AreOnes, bounds, coefficients, weight_at}
+use Rattle.nearest_point.specs.auction_model.specs.Ones.{AreOnes}
+use Rattle.nearest_point.specs.Problem.{bounds, coefficients, weight_at}
 use Rattle.nearest_point.specs.point_laws.specs.Multipliers.{AreFirst, AreSecond, SumsTo}
 use Rattle.nearest_point.specs.point_laws.specs.Points.{MeetsRows}
 use Rattle.nearest_point.specs.wide_num.specs.Sums.{nth}

@@ -26,7 +26,7 @@ use Rattle.blocking.specs.row_laws.proofs.Winners.{loser-zero, paid-zip}
 use Rattle.nearest_point.specs.wide_num.specs.Sums.{nth, total}
 use Rattle.core_price.specs.Rows.{prices_of, single_bits}
 use Rattle.core_price.specs.SoFar.{CanTurn, IsSoFar, choice_at}
-use Rattle.core_price.specs.Weights.{CanWeigh, FewWin}
+use Rattle.blocking.specs.row_laws.specs.Weights.{CanWeigh, FewWin}
 use Rattle.core_price.proofs.Points.{at-bidder}
 use Rattle.core_price.proofs.SameRows.{AreSame, IsSame, go-same, same-by_place}
 use Rattle.core_price.proofs.Spots.{single-at, singles-count, spot, spot-bit, spot-inside, spot-number, spot-of, spot-winner, spot-wins, winners-count}

@@ -2,7 +2,7 @@
 use Rattle.std.specs.Prelude.{◌≡◌, ℕ, List, Result, Ok, Err, IfErr, IsErrAnd}
 use Rattle.std.proofs.Common.{subst, sym}
 use Rattle.core_price.specs.Stops.{IsStop}
-use Rattle.core_price.specs.Weights.{FewWin}
+use Rattle.blocking.specs.row_laws.specs.Weights.{FewWin}
 use Rattle.core_price.specs.declared.priced.PriceStop.{PriceStop}
 use Rattle.core_price.specs.declared.priced.PriceStop.TheVariants.{Memory}
 

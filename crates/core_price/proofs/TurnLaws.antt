@@ -15,6 +15,7 @@ use Rattle.nearest_point.specs.auction_model.specs.Market.{Market, value_of, wor
 use Rattle.nearest_point.specs.auction_model.specs.Greatest.{IsWinning}
 use Rattle.nearest_point.specs.auction_model.specs.Lawful.{IsMarket}
 use Rattle.nearest_point.specs.auction_model.specs.Lowered.{of_bidder}
+use Rattle.nearest_point.specs.auction_model.specs.Ones.{AreOnes}
 use Rattle.nearest_point.specs.auction_model.specs.Prices.{AreVickreyPrices, IsUnblocked, weight_of}
 use Rattle.nearest_point.specs.auction_model.specs.Blocks.{IsGreatestExcess}
 use Rattle.nearest_point.specs.auction_model.specs.PricingRun.{GoOn, Turn as BidderTurn, single_rows}
@@ -23,7 +24,7 @@ use Rattle.blocking.specs.Look.{IsBlock}
 use Rattle.blocking.specs.far_num.specs.Members.{holds}
 use Rattle.blocking.specs.far_num.specs.declared.Row.{Row}
 use Rattle.nearest_point.specs.auction_model.specs.Prices.{AreWeights}
-use Rattle.nearest_point.specs.Problem.{AreOnes, IsNarrow, bounds, coefficients, row_at}
+use Rattle.nearest_point.specs.Problem.{IsNarrow, bounds, coefficients, row_at}
 use Rattle.nearest_point.proofs.Bits.{dot_single, holds_nonneg}
 use Rattle.nearest_point.proofs.Places.{lt_or}
 use Rattle.nearest_point.specs.point_laws.proofs.Order.{mul_nonneg, cancel_nonneg}
@@ -38,7 +39,7 @@ use Rattle.core_price.specs.Answers.{CanSolve, IsAnswer}
 use Rattle.core_price.specs.Lowest.{IsLowest}
 use Rattle.core_price.specs.SoFar.{CanTurn, HasEnded, IsSoFar, choice_at}
 use Rattle.core_price.specs.Turns.{IsPointOfTurn, last_turn, point_of, turn_of, turns_of}
-use Rattle.core_price.specs.Weights.{WeighAlike, weights_in}
+use Rattle.blocking.specs.row_laws.specs.Weights.{WeighAlike, weights_in}
 use Rattle.core_price.specs.declared.priced.Turn.{Turn}
 use Rattle.core_price.proofs.LookLaws.{small-product}
 use Rattle.core_price.proofs.Points.{meets}

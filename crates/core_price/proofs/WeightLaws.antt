@@ -8,7 +8,7 @@ use Rattle.nearest_point.specs.auction_model.specs.Prices.{AreWeights, weight_of
 use Rattle.blocking.specs.row_laws.specs.Winners.{winners_in}
 use Rattle.nearest_point.specs.wide_num.specs.Sums.{total}
 use Rattle.nearest_point.specs.wide_num.proofs.Sums.{total-first}
-use Rattle.core_price.specs.Weights.{CanWeigh, WeighAlike, weights_in}
+use Rattle.blocking.specs.row_laws.specs.Weights.{CanWeigh, WeighAlike, weights_in}
 use Rattle.core_price.proofs.Spots.{spot, spot-inside, spot-of, spot-wins}
 
 -- there is one weight for each winner

@@ -3,8 +3,9 @@ use Rattle.std.specs.Prelude.{◌≡◌, ◌⊎◌, ℕ, ◌^◌, ◌≤◌, Lis
 use Rattle.blocking.specs.far_num.specs.declared.Row.{Row}
 use Rattle.blocking.specs.limits.specs.declared.TheConstants.{MOST_WINNERS}
 use Rattle.nearest_point.specs.Numbers.{AreBelow, pairs_used}
+use Rattle.nearest_point.specs.auction_model.specs.Ones.{AreOnes}
 use Rattle.nearest_point.specs.auction_model.specs.Prices.{AreWeights}
-use Rattle.nearest_point.specs.Problem.{AreBounds, AreOnes, AreTargets, HasMembers, HasSingles, IsNarrow, bounds, coefficients, weight_at}
+use Rattle.nearest_point.specs.Problem.{AreBounds, AreTargets, HasMembers, HasSingles, IsNarrow, bounds, coefficients, weight_at}
 use Rattle.nearest_point.specs.point_laws.specs.Multipliers.{AreFirst, AreSecond, SumsTo}
 use Rattle.nearest_point.specs.point_laws.specs.Points.{MeetsRows}
 use Rattle.nearest_point.specs.wide_num.specs.Sums.{nth}

@@ -6,7 +6,6 @@ pub mod Rows
 pub mod SoFar
 pub mod Stops
 pub mod Turns
-pub mod Weights
 pub use Rattle.nearest_point.specs.auction_model
 pub use Rattle.blocking
 pub use Rattle.nearest_point

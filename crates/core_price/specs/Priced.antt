@@ -16,7 +16,7 @@ use Rattle.core_price.specs.Kept.{AreAmong, IsKept, firsts, rows_in, seconds}
 use Rattle.core_price.specs.Lowest.{IsLowest}
 use Rattle.core_price.specs.Rows.{asked_choices, asked_rows, prices_of}
 use Rattle.core_price.specs.Turns.{EndsWith, IsPointOfTurn, last_turn, point_of, turns_of}
-use Rattle.core_price.specs.Weights.{weights_in}
+use Rattle.blocking.specs.row_laws.specs.Weights.{weights_in}
 use Rattle.core_price.specs.declared.priced.Priced.{Priced}
 use Rattle.core_price.specs.declared.priced.PricedRow.{PricedRow}
 use Rattle.core_price.specs.declared.priced.Turn.{Turn}

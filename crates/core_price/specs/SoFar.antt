@@ -14,7 +14,7 @@ use Rattle.nearest_point.specs.wide_num.specs.Sums.{nth, total}
 use Rattle.core_price.specs.Answers.{IsAnswer}
 use Rattle.core_price.specs.Lowest.{IsLowest}
 use Rattle.core_price.specs.Turns.{EndsWith, IsPointOfTurn, last_turn, point_of, turns_of}
-use Rattle.core_price.specs.Weights.{CanWeigh, FewWin, weights_in}
+use Rattle.blocking.specs.row_laws.specs.Weights.{CanWeigh, FewWin, weights_in}
 use Rattle.core_price.specs.declared.priced.Turn.{Turn}
 
 -- the conditions of the turns: few bidders and winners, a weight for each bidder, small worths, and the Vickrey prices of the

@@ -1,6 +1,6 @@
 -- Why there are no prices.
 use Rattle.std.specs.Prelude.{◌≡◌, ℕ, List}
-use Rattle.core_price.specs.Weights.{FewWin, ManyWin}
+use Rattle.blocking.specs.row_laws.specs.Weights.{FewWin, ManyWin}
 use Rattle.blocking.specs.row_laws.specs.Winners.{winners_in}
 use Rattle.core_price.specs.declared.priced.PriceStop.{PriceStop}
 use Rattle.core_price.specs.declared.priced.PriceStop.TheVariants.{Winners, Memory}

@@ -8,7 +8,7 @@ use Rattle.blocking.specs.Look.{block_of}
 use Rattle.nearest_point.specs.Numbers.{AreBelow}
 use Rattle.blocking.specs.row_laws.specs.Winners.{for_bidders, winners_in}
 use Rattle.nearest_point.specs.wide_num.specs.Sums.{nth}
-use Rattle.core_price.specs.Weights.{WeighAlike}
+use Rattle.blocking.specs.row_laws.specs.Weights.{WeighAlike}
 use Rattle.core_price.specs.declared.priced.Turn.{Turn}
 
 -- the payments of the winners, in order, as payments of all bidders

@@ -6,7 +6,7 @@ ghost use Rattle.nearest_point.specs.auction_model.specs.Prices.{AreWeights};
 ghost use Rattle.blocking.specs.choices.specs.Singles.{AreSingles};
 ghost use Rattle.core_price.specs.Priced.{IsPriced};
 ghost use Rattle.core_price.specs.Stops.{IsStop};
-ghost use Rattle.core_price.specs.Weights.{FewWin};
+ghost use Rattle.blocking.specs.row_laws.specs.Weights.{FewWin};
 ghost use Rattle.blocking.specs.limits.specs.declared.TheConstants.{MOST_AMOUNT};
 ghost use Rattle.blocking.specs.row_laws.specs.Surplus.{surpluses_of};
 ghost use Rattle.blocking.specs.row_laws.specs.Winners.{for_bidders, winners_in};

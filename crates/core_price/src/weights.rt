@@ -1,5 +1,5 @@
 // The weights of the winners.
-ghost use Rattle.core_price.specs.Weights.{FewWin, ManyWin, WeighAlike, weights_in};
+ghost use Rattle.blocking.specs.row_laws.specs.Weights.{FewWin, ManyWin, WeighAlike, weights_in};
 ghost use Rattle.blocking.specs.row_laws.specs.Winners.{winners_in};
 ghost use Rattle.std.specs.Prelude.{IfOk, IsTrue, length, not, ◌≡◌};
 

@@ -18,7 +18,8 @@ use Rattle.point_laws.proofs.Ring.{var, add, mul, ring}
 use Rattle.nearest_point.specs.declared.settle.Held.{Held}
 use Rattle.nearest_point.specs.declared.settle.Multipliers.{Multipliers}
 use Rattle.nearest_point.specs.Numbers.{AreBelow, at_t, large, place}
-use Rattle.nearest_point.specs.Problem.{AreOnes, bounds, coefficients, weight_at}
+use Rattle.auction_model.specs.Ones.{AreOnes}
+use Rattle.nearest_point.specs.Problem.{bounds, coefficients, weight_at}
 use Rattle.nearest_point.specs.Search.{ByParts, Independent, Solved, gram}
 use Rattle.nearest_point.specs.Found.{AreMultipliers, AreWithin, HasParts, IsLowered, IsNear, IsPart, Solves, common, row_of}
 use Rattle.nearest_point.proofs.Parts.{dot-at_t, settled, solved-at_t}

@@ -8,7 +8,8 @@ use Rattle.lin_solve.specs.far_num.specs.declared.Row.{Row}
 use Rattle.lin_solve.specs.Matrix.{row}
 use Rattle.lin_solve.specs.Solved.{IsSmallSystem}
 use Rattle.nearest_point.specs.Found.{IsBelowBy, IsEdge, IsLowered}
-use Rattle.nearest_point.specs.Problem.{AreOnes, IsNarrow, IsProblem}
+use Rattle.auction_model.specs.Ones.{AreOnes}
+use Rattle.nearest_point.specs.Problem.{IsNarrow, IsProblem}
 
 -- what is known of the matrix and the right side by each bound on weights and targets
 pub record AreSides (target : List ℤ) (rows : List Row) (lowered : List ℤ) (n : ℕ) (matrix : List (List ℤ)) (right : List Far) : Type 0 where

@@ -1,7 +1,8 @@
 -- What the search holds: a point and its multipliers by parts, the rows that made it, and their sizes.
 use Rattle.lin_solve.specs.far_num.specs.declared.Row.{Row}
 use Rattle.nearest_point.specs.Numbers.{AreBelow, at_t, large, place}
-use Rattle.nearest_point.specs.Problem.{AreOnes, bounds, coefficients, weight_at}
+use Rattle.auction_model.specs.Ones.{AreOnes}
+use Rattle.nearest_point.specs.Problem.{bounds, coefficients, weight_at}
 use Rattle.nearest_point.specs.Search.{ByParts, Independent, Near, Owed, gram}
 use Rattle.nearest_point.specs.declared.settle.Held.{Held}
 use Rattle.nearest_point.specs.declared.settle.Multipliers.{Multipliers}

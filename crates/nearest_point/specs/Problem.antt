@@ -1,4 +1,5 @@
 -- What the search for the nearest point is given: targets, weights, and rows as sets of bits with bounds.
+use Rattle.auction_model.specs.Ones.{AreOnes}
 use Rattle.auction_model.specs.Prices.{AreWeights, share}
 use Rattle.lin_solve.specs.far_num.specs.Members.{holds}
 use Rattle.lin_solve.specs.far_num.specs.declared.Row.{Row}
@@ -19,10 +20,6 @@ coefficients rows i = holds (row_at rows i).members
 
 abbrev pub bounds : List Row → ℕ → ℤ
 bounds rows i = (row_at rows i).bound
-
--- the weight of each coordinate is 1
-abbrev pub AreOnes : ℕ → List ℕ → Type 0
-AreOnes m weights = (j : ℕ) → j < m → slice_index_or weights j 0 ≡ 1
 
 -- how often the square at a coordinate counts
 abbrev pub share_at : List ℕ → ℕ → ℤ

@@ -8,8 +8,9 @@
 //! comes first, and a search only where it finds none.
 #![tactic(auto)]
 
+ghost use Rattle.auction_model.specs.Ones.{AreOnes};
 ghost use Rattle.auction_model.specs.Prices.{AreWeights};
-ghost use Rattle.nearest_point.specs.Problem.{AreBounds, AreOnes, AreTargets, HasMembers, HasSingles, IsNarrow, bounds, coefficients, share_at, weight_at};
+ghost use Rattle.nearest_point.specs.Problem.{AreBounds, AreTargets, HasMembers, HasSingles, IsNarrow, bounds, coefficients, share_at, weight_at};
 ghost use Rattle.nearest_point.specs.Found.{HasParts, IsNear};
 ghost use Rattle.nearest_point.specs.Numbers.{AreBelow, pairs_used};
 ghost use Rattle.point_laws.specs.Multipliers.{AreFirst, AreSecond, SumsTo};

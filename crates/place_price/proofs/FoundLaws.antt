@@ -11,7 +11,7 @@ use Rattle.book_price.specs.choices.specs.declared.chooser.Single.{Single}
 use Rattle.book_price.specs.core_price.specs.Priced.{IsPriced}
 use Rattle.book_price.specs.core_price.specs.Stops.{IsStop}
 use Rattle.book_price.specs.core_price.specs.Turns.{turns_of}
-use Rattle.book_price.specs.core_price.specs.Weights.{ManyWin}
+use Rattle.book_price.specs.row_laws.specs.Weights.{ManyWin}
 use Rattle.book_price.specs.core_price.specs.declared.priced.PriceStop.{PriceStop}
 use Rattle.book_price.specs.core_price.specs.declared.priced.PriceStop.TheVariants.{Winners, Memory}
 use Rattle.book_price.specs.core_price.specs.declared.priced.Priced.{Priced}

@@ -2,7 +2,7 @@
 use Rattle.std.proofs.Common.{◌∙◌, ap, length, sym}
 use Rattle.std.proofs.lemmas.Bool.{not_from_false}
 use Rattle.blocking.specs.row_laws.specs.Winners.{winners_in}
-use Rattle.core_price.specs.Weights.{FewWin}
+use Rattle.blocking.specs.row_laws.specs.Weights.{FewWin}
 use Rattle.core_price.proofs.StartLaws.{count}
 use Rattle.core_price.proofs.StopLaws.{memory-stop}
 use Rattle.core_price.proofs.price.Goals as goal

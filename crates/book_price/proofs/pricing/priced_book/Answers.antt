@@ -5,7 +5,7 @@ use Rattle.cert_laws.specs.auction_model.specs.Prices.{weight_of}
 use Rattle.cert_laws.specs.auction_model.specs.PricingRun.{IsPricingRun}
 use Rattle.cert_laws.specs.cert_form.specs.Certificate.{CertValue}
 use Rattle.core_price.specs.Turns.{IsPointOfTurn, turns_of}
-use Rattle.core_price.specs.Weights.{FewWin}
+use Rattle.cert_laws.specs.row_laws.specs.Weights.{FewWin}
 use Rattle.book_price.specs.Found.{cert_found}
 use Rattle.book_price.specs.Reduced.{IsReduced}
 use Rattle.book_price.proofs.FoundLaws.{found-by}

@@ -10,7 +10,7 @@ use Rattle.blocking.specs.row_laws.specs.Winners.{for_bidders, winners_in}
 use Rattle.core_price.specs.Answers.{IsAnswer}
 use Rattle.core_price.specs.SoFar.{IsSoFar}
 use Rattle.core_price.specs.Turns.{point_of}
-use Rattle.core_price.specs.Weights.{weights_in}
+use Rattle.blocking.specs.row_laws.specs.Weights.{weights_in}
 use Rattle.core_price.specs.declared.priced.Turn.{Turn}
 use Rattle.core_price.proofs.AskedLaws.{choices-block, choices-last, rows-block, rows-last}
 use Rattle.core_price.proofs.LookLaws.{can-look}
