@@ -8,8 +8,8 @@ use Rattle.auction_rules.specs.Terms.{Terms, entrant}
 use Rattle.auction_rules.specs.Caps.{clock_bid, greatest}
 use Rattle.auction_rules.specs.Lines.{in_order, priced}
 use Rattle.auction_rules.specs.Replies.{Standing, admitted, standing}
-use Rattle.auction_rules.specs.State.{state_after, state_of, standing_in}
-use Rattle.auction_rules.specs.BookOfLog.{bid_lots, best_bids, book_bids, bids_in_book, book_bidder, book_of_log, book_in}
+use Rattle.auction_rules.specs.State.{book_in, state_after, state_of, standing_in}
+use Rattle.auction_rules.specs.BookOfLog.{bid_lots, best_bids, book_bids, bids_in_book, book_bidder, book_of_log}
 use Rattle.auction_rules.proofs.Drafts.{InOrder-in_order}
 use Rattle.auction_rules.proofs.States.{length-listing, at-bidder, listing-same, standing_in-state_after}
 

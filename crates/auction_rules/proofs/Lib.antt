@@ -13,5 +13,6 @@ pub mod LawfulBids
 pub mod BookPairs
 pub mod KeptStandings
 pub mod Stands
+pub mod Telling
 pub mod Constraining
 pub mod WorkedCases

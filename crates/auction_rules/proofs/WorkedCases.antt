@@ -6,7 +6,7 @@ use Rattle.auction_rules.specs.declared.Reply.TheVariants as reply
 use Rattle.auction_rules.specs.Terms.{Terms}
 use Rattle.auction_rules.specs.Step.{ticks_of, stepped}
 use Rattle.lots.specs.auction_model.specs.Book.{BookBid}
-use Rattle.auction_rules.specs.Replies.{reply_to, admitted, price_top, drafts_full, close_reply}
+use Rattle.auction_rules.specs.Replies.{reply_to, admitted, price_top, drafts_full, close_reply, log_stage}
 use Rattle.auction_rules.specs.BookOfLog.{bids_in_book, book_of_log, is_complete}
 use Rattle.auction_rules.specs.Rounds.{OwnRound, raised_prices}
 use Rattle.auction_rules.specs.Caps.{list_fault}
@@ -150,11 +150,11 @@ unfolding book_of_log
 keeps_a_bidder_without_bids_in_the_book = refl
 
 calls_a_log_complete_after_the_last_close : is_complete sample complete ≡ true
-unfolding state_of ticks_of
+unfolding log_stage ticks_of
 calls_a_log_complete_after_the_last_close = refl
 
 calls_no_log_complete_before_it : is_complete sample with_drafts ≡ false
-unfolding state_of ticks_of
+unfolding log_stage ticks_of
 calls_no_log_complete_before_it = refl
 
 abbrev a_draft : BookBid

@@ -9,8 +9,7 @@ use Rattle.auction_rules.specs.Terms.{Terms, entrant}
 use Rattle.auction_rules.specs.Rounds.{listing}
 use Rattle.auction_rules.specs.Caps.{clock_bid, greatest}
 use Rattle.auction_rules.specs.Lines.{in_order, priced}
-use Rattle.auction_rules.specs.Replies.{Standing, is_closed, admitted, standing}
-use Rattle.auction_rules.specs.State.{DeskState, state_of, standing_in}
+use Rattle.auction_rules.specs.Replies.{Standing, is_closed, admitted, log_stage, standing}
 
 abbrev pub bid_lots : BookBid → List ℕ
 bid_lots b = b.lots
@@ -48,10 +47,6 @@ book_by terms bids = record { supply = terms.supply; reserves = terms.reserves; 
 unfoldable pub book_of_log : Terms → List Event → Book
 book_of_log terms log = book_by terms (bids_in_book terms log)
 
--- the book that a desk makes of its state
-abbrev pub book_in : DeskState → Book
-book_in st = book_by st.terms (λ j. book_bids (standing_in st j))
-
--- a log is complete when the desk, having taken all its lines, is closed
+-- a log is complete when the sealed round is closed after it
 abbrev pub is_complete : Terms → List Event → Bool
-is_complete terms log = is_closed (state_of terms log).stage
+is_complete terms log = is_closed (log_stage terms log)

@@ -188,3 +188,14 @@ admitted terms (e ∷ log) = with_line terms (admitted terms log) e
 -- the reply to a line after a log
 unfoldable pub reply_to : Terms → List Event → Event → Reply
 reply_to terms log e = reply_after terms (admitted terms log) e
+
+-- How far the auction is after a log, and the number of the round and the prices that are posted then. Once the clock has stopped these are
+-- those of the final round.
+unfoldable pub log_stage : Terms → List Event → Stage
+log_stage terms log = let lines = admitted terms log in stage_after terms (held_in terms lines) (closes lines)
+
+unfoldable pub log_round : Terms → List Event → ℕ
+log_round terms log = let lines = admitted terms log in round_after terms (held_in terms lines) (closes lines)
+
+unfoldable pub log_prices : Terms → List Event → List ℕ
+log_prices terms log = let lines = admitted terms log in prices_after terms (held_in terms lines) (round_after terms (held_in terms lines) (closes lines) - 1)

@@ -4,10 +4,11 @@ use Rattle.auction_rules.specs.declared.Event.{Event}
 use Rattle.auction_rules.specs.declared.Event.TheVariants.{Bid, Draft, Drop, Submit, Close}
 use Rattle.auction_rules.specs.declared.Reply.{Reply}
 use Rattle.auction_rules.specs.declared.Stage.{Stage}
-use Rattle.lots.specs.auction_model.specs.Book.{BookBid}
+use Rattle.lots.specs.auction_model.specs.Book.{BookBid, Book}
 use Rattle.auction_rules.specs.declared.Stage.TheVariants.{Clock, Sealed, Closed}
 use Rattle.lots.specs.auction_model.specs.Package.{is_within, cost_of}
 use Rattle.auction_rules.specs.Terms.{Terms, no_lots}
+use Rattle.auction_rules.specs.BookOfLog.{book_bids, book_by}
 use Rattle.auction_rules.specs.Rounds.{OwnRound, listing, sum_of, raised_prices, prices_after, eligibility_after, stage_after, round_after, closed_after}
 use Rattle.auction_rules.specs.Lines.{is_close, line_bidder, closes, held_in, draft_list, submitted_list}
 use Rattle.lots.specs.auction_model.specs.Entries.{with_entry, without_entry}
@@ -72,6 +73,14 @@ standing_in st j = record {
   drafts = slice_index_or st.drafts (j - 1) [];
   submitted = slice_index_or st.submitted (j - 1) [];
 }
+
+-- the number of the posted round, and of the final one once the clock has stopped
+abbrev pub round_in : DeskState → ℕ
+round_in st = if is_clock st.stage then suc (length st.rounds) else length st.rounds
+
+-- the book that a desk makes of its state
+abbrev pub book_in : DeskState → Book
+book_in st = book_by st.terms (λ j. book_bids (standing_in st j))
 
 -- what is asked for together of a supply
 abbrev pub asked_of : List ℕ → List (List ℕ) → List ℕ

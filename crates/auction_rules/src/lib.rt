@@ -20,11 +20,11 @@ ghost use Rattle.auction_rules.specs.Terms.{Terms, entrant, final_cap};
 ghost use Rattle.auction_rules.specs.Step.{AreRisingFrom, IsRaise, IsReachedShare, permille_at, ticks_of};
 ghost use Rattle.auction_rules.specs.Rounds.{OwnRound, prices_after};
 ghost use Rattle.auction_rules.specs.Caps.{IsLastEnough, list_fault, constraining, constraining_number, round_at};
-ghost use Rattle.auction_rules.specs.Replies.{is_clock, is_of, reply_to, has_entry, admitted, standing};
-ghost use Rattle.auction_rules.specs.State.{state_of, reply_in, state_with};
+ghost use Rattle.auction_rules.specs.Replies.{is_clock, is_of, log_prices, log_round, log_stage, reply_to, has_entry, admitted, standing};
+ghost use Rattle.auction_rules.specs.State.{book_in, round_in, state_of, reply_in, state_with};
 ghost use Rattle.auction_rules.specs.View.{view, own_replies};
 ghost use Rattle.auction_rules.specs.Lawful.{AreDrafts, AreLimited, HasCategories, IsLawfulBid, NeverRises};
-ghost use Rattle.auction_rules.specs.BookOfLog.{IsGreatestFor, bid_lots, bids_in_book, book_bidder, book_of_log, book_in, pairs_of};
+ghost use Rattle.auction_rules.specs.BookOfLog.{IsGreatestFor, bid_lots, bids_in_book, book_bidder, book_of_log, pairs_of};
 
 pub use lots;
 use lots::Package;
@@ -204,6 +204,14 @@ pub fn desk_step()
         → reply_in (state_of terms log) line ≡ reply_to terms log line }
     ensures state { (terms : Terms) (log : List Event) (line : Event)
         → state_with (state_of terms log) line ≡ state_of terms (line ∷ log) }
+{}
+
+/// What the state after a log tells is what the whole log says: how far the auction is, the number of the posted round, and its
+/// prices.
+pub fn desk_tells()
+    ensures stage { (terms : Terms) (log : List Event) → (state_of terms log).stage ≡ log_stage terms log }
+    ensures round { (terms : Terms) (log : List Event) → round_in (state_of terms log) ≡ log_round terms log }
+    ensures prices { (terms : Terms) (log : List Event) → (state_of terms log).prices ≡ log_prices terms log }
 {}
 
 /// The state after a log is enough for the book of the log.

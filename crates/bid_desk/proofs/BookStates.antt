@@ -7,13 +7,13 @@ use Rattle.relative_cap.specs.auction_model.specs.Book.{BookBid, Book}
 use Rattle.relative_cap.specs.book_form.specs.BookLines.{IsBookWithinLimits}
 use Rattle.relative_cap.specs.auction_rules.specs.declared.Event.{Event}
 use Rattle.relative_cap.specs.auction_rules.specs.declared.Stage.TheVariants.{Closed}
-use Rattle.relative_cap.specs.auction_rules.specs.BookOfLog.{book_by, book_in, book_of_log}
+use Rattle.relative_cap.specs.auction_rules.specs.BookOfLog.{book_by, book_of_log}
 use Rattle.relative_cap.specs.auction_rules.specs.Lawful.{HasCategories, IsDraft}
 use Rattle.relative_cap.specs.auction_rules.specs.Lines.{closes, held_in}
 use Rattle.relative_cap.specs.auction_model.specs.PackageTests.{is_empty}
 use Rattle.relative_cap.specs.auction_rules.specs.Replies.{admitted, is_clock}
 use Rattle.relative_cap.specs.auction_rules.specs.Rounds.{closed_after, own_round}
-use Rattle.relative_cap.specs.auction_rules.specs.State.{DeskState, Round, round_of, state_of}
+use Rattle.relative_cap.specs.auction_rules.specs.State.{DeskState, Round, book_in, round_of, state_of}
 use Rattle.relative_cap.specs.auction_rules.specs.Terms.{Terms}
 use Rattle.relative_cap.specs.auction_rules.proofs.KeptStandings.{rounds-some}
 use Rattle.relative_cap.specs.auction_rules.proofs.LawfulBids.{each-weaker}

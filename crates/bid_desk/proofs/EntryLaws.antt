@@ -162,17 +162,12 @@ free-by categories list lots place kept gap = record {
   same = gap-same (map bid_value list) lots place kept.order gap;
 }
 
--- another package stands at its place
-pub slot-other : (categories : ℕ) (list : List Bid) (lots : List ℕ) (place : ℕ) → IsKept categories (map bid_value list) → IsPlace list lots place
-    → is_same (lots_at list place) lots ≡ false → IsFreeAt (map bid_value list) lots place
-slot-other categories list lots place kept is apart =
+-- another package stands at its place, or its place is the end of the list
+pub slot-free : (categories : ℕ) (list : List Bid) (lots : List ℕ) (place : ℕ) → IsKept categories (map bid_value list) → IsPlace list lots place
+    → (place < length list → is_same (lots_at list place) lots ≡ false) → IsFreeAt (map bid_value list) lots place
+slot-free categories list lots place kept is apart =
     free-by categories list lots place kept
-    (gap-from list lots place is.before is.last (λ inside. is_before-total (lots_at list place) lots apart (is.behind place (omega arith) inside)))
-
--- its place is the end of the list
-pub slot-end : (categories : ℕ) (list : List Bid) (lots : List ℕ) (place : ℕ) → IsKept categories (map bid_value list) → IsPlace list lots place
-    → length list ≤ place → IsFreeAt (map bid_value list) lots place
-slot-end categories list lots place kept is past = free-by categories list lots place kept (gap-from list lots place is.before is.last (λ inside. absurd (omega arith)))
+    (gap-from list lots place is.before is.last (λ inside. is_before-total (lots_at list place) lots (apart inside) (is.behind place (omega arith) inside)))
 
 -- ---- values of a changed list
 

@@ -1,9 +1,8 @@
 -- The state that the fields of a desk hold.
-use Rattle.std.specs.Prelude.{ℕ, suc, Bool, List, length, map, if◌then◌else◌}
+use Rattle.std.specs.Prelude.{Bool, List, map, if◌then◌else◌}
 use Rattle.relative_cap.specs.auction_rules.specs.declared.Stage.{Stage}
 use Rattle.relative_cap.specs.auction_rules.specs.declared.Stage.TheVariants.{Clock, Sealed, Closed}
 use Rattle.relative_cap.specs.auction_rules.specs.Terms.{Terms}
-use Rattle.relative_cap.specs.auction_rules.specs.Replies.{is_clock}
 use Rattle.relative_cap.specs.auction_rules.specs.State.{DeskState}
 use Rattle.relative_cap.specs.clock_stage.specs.ClockState.{ClockState}
 use Rattle.bid_desk.specs.Lists.{Lists}
@@ -23,7 +22,3 @@ desk_value terms clock closed bidders = record {
   drafts = map (λ l. l.drafts) bidders;
   submitted = map (λ l. l.submitted) bidders;
 }
-
--- the number of the posted round, and of the final one once the clock has stopped
-abbrev pub round_in : DeskState → ℕ
-round_in state = if is_clock state.stage then suc (length state.rounds) else length state.rounds

@@ -125,7 +125,7 @@ fn bidders_of(
         (λ b. b ≡ listing (book_bidder award.now (bids_by history.now (map submitted_in lists.now)))
         (length award.now.bidders)) }
 {
-    let _most = award.bidders();
+    award.kept();
     let mut bidders = Bidders::new(alloc);
     for (place, own) in lists.iter().enumerate() {
         let bidder = bidder_of(alloc, award, history, place as u16 + 1, own.submitted())?;

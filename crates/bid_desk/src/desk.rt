@@ -5,12 +5,12 @@ ghost use Rattle.relative_cap.specs.auction_model.specs.Package.{cost_of};
 ghost use Rattle.relative_cap.specs.auction_rules.specs.declared.Event.{Event};
 ghost use Rattle.relative_cap.specs.auction_rules.specs.declared.Reply.{Reply};
 ghost use Rattle.relative_cap.specs.auction_rules.specs.declared.Stage.{Stage};
-ghost use Rattle.relative_cap.specs.auction_rules.specs.BookOfLog.{book_in, book_of_log};
+ghost use Rattle.relative_cap.specs.auction_rules.specs.BookOfLog.{book_of_log};
 ghost use Rattle.relative_cap.specs.auction_rules.specs.Caps.{clock_bid, greatest};
 ghost use Rattle.relative_cap.specs.auction_rules.specs.Lawful.{HasCategories};
 ghost use Rattle.relative_cap.specs.auction_model.specs.PackageTests.{is_empty};
 ghost use Rattle.relative_cap.specs.auction_rules.specs.Replies.{has_entry, is_of, is_sealed, reply_to};
-ghost use Rattle.relative_cap.specs.auction_rules.specs.State.{drafts_of, reply_in, state_of, state_with};
+ghost use Rattle.relative_cap.specs.auction_rules.specs.State.{book_in, drafts_of, reply_in, round_in, state_of, state_with};
 ghost use Rattle.relative_cap.specs.auction_rules.specs.View.{view};
 ghost use Rattle.relative_cap.specs.award_file.specs.Award.{IsAward};
 ghost use Rattle.relative_cap.specs.clock_stage.specs.ClockState.{clock_of};
@@ -19,7 +19,6 @@ ghost use Rattle.relative_cap.specs.Answer.{excess_value};
 ghost use Rattle.relative_cap.specs.OwnRounds.{bid_value, rounds_of};
 ghost use Rattle.bid_desk.specs.BookClaims.{AreCapped, AreOwn};
 ghost use Rattle.bid_desk.specs.Closes.{reply_value};
-ghost use Rattle.bid_desk.specs.DeskValue.{round_in};
 ghost use Rattle.bid_desk.specs.Lists.{lists_with};
 ghost use Rattle.bid_desk.specs.Known.{IsKnown, amount_reply, fault_in, submitted_of};
 ghost use Rattle.bid_desk.specs.Reached.{IsBidOrDrop, IsTaken, IsTakenOrMemory, StandsNext, Takes};
@@ -231,7 +230,7 @@ impl Desk {
     {
         desk_book();
         book_of_award();
-        let _kept = self.award.supply();
+        self.award.kept();
         let book = book_of(alloc, &self.award, self.clock.history(), &self.bidders)?;
         Ok(book)
     }

@@ -11,8 +11,8 @@ use Rattle.row_laws.specs.auction_model.specs.PackageTests.{is_empty}
 use Rattle.clock_stage.specs.auction_rules.specs.Rounds.{OwnRound, listing}
 use Rattle.clock_stage.specs.auction_rules.specs.Caps.{clock_bid, greatest}
 use Rattle.clock_stage.specs.auction_rules.specs.Lines.{in_order}
-use Rattle.clock_stage.specs.auction_rules.specs.BookOfLog.{bid_lots, best_bids, pairs_of, book_bids, book_bidder, book_of_log, book_in}
-use Rattle.clock_stage.specs.auction_rules.specs.State.{Round, DeskState, round_of, own_of, standing_in}
+use Rattle.clock_stage.specs.auction_rules.specs.BookOfLog.{bid_lots, best_bids, pairs_of, book_bids, book_bidder, book_of_log}
+use Rattle.clock_stage.specs.auction_rules.specs.State.{Round, DeskState, book_in, round_of, own_of, standing_in}
 use Rattle.clock_stage.specs.auction_rules.proofs.LawfulBids.{each-in_order, each-priced}
 use Rattle.clock_stage.specs.auction_rules.proofs.BookLaws.{book_in-state_of}
 use Rattle.clock_stage.specs.auction_rules.proofs.States.{get_or-listing, length-listing}

@@ -10,6 +10,7 @@ use Rattle.clock_stage.specs.auction_rules.specs.Rounds.{listing, prices_after}
 use Rattle.clock_stage.specs.auction_rules.specs.Replies.{is_closed}
 use Rattle.clock_stage.specs.auction_rules.specs.BookOfLog.{is_complete}
 use Rattle.clock_stage.specs.auction_rules.specs.State.{DeskState, state_of}
+use Rattle.clock_stage.specs.auction_rules.proofs.Telling.{stage-state_of}
 use Rattle.big_auction.specs.Answered.{AreAnsweredOk}
 use Rattle.big_auction.specs.Draws.{behind, first_state}
 use Rattle.big_auction.specs.MadeAward.{made_terms}
@@ -85,7 +86,8 @@ log-answered number = (log-stands number).answered
 -- the made log is complete
 pub log-complete : (number : ℕ) → is_complete made_terms (reverse (made_log number)) ≡ true
 log-complete number =
-    ap (λ (s : DeskState). is_closed s.stage) (log-stands number).state ∙ ap is_closed (log-goes number).to.closed
+    ap is_closed (sym (stage-state_of made_terms (reverse (made_log number))))
+    ∙ ap (λ (s : DeskState). is_closed s.stage) (log-stands number).state ∙ ap is_closed (log-goes number).to.closed
 
 -- its state is the one that its lines lead to, taken one by one
 pub log-state : (number : ℕ) → state_of made_terms (reverse (made_log number)) ≡ end_state number

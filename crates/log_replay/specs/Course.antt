@@ -1,12 +1,17 @@
 -- How far a replay is.
 use Rattle.std.specs.Prelude.{◌≡◌, ℕ, suc, List, ◌∷◌, length}
 use Rattle.log_file.specs.auction_rules.specs.Replies.{reply_to}
-use Rattle.log_file.specs.auction_rules.specs.State.{DeskState, state_of}
+use Rattle.log_file.specs.auction_rules.specs.State.{DeskState, round_in, state_of}
 use Rattle.log_file.specs.auction_rules.specs.Terms.{Terms}
 use Rattle.log_file.specs.auction_rules.specs.declared.Event.{Event}
 use Rattle.log_file.specs.auction_rules.specs.declared.Reply.{Reply}
-use Rattle.log_replay.specs.ReplyLines.{first_refusal, reply_lines}
+use Rattle.log_file.specs.ReplyText.{reply_line}
+use Rattle.log_replay.specs.ReplyLines.{done_by, first_refusal, reply_lines}
 use Rattle.log_replay.specs.declared.lines.Course.{Course}
+
+-- the line that is printed of a line that got this reply and led to this desk
+abbrev pub line_at : ℕ → Event → Reply → DeskState → List ℕ
+line_at number line answer desk = reply_line number answer (done_by line answer desk.stage (round_in desk)) desk.prices
 
 -- these lines of a log were replayed
 pub record IsCourse (terms : Terms) (log : List Event) (course : Course) : Type 0 where

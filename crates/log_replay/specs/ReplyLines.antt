@@ -4,8 +4,7 @@ use Rattle.std.specs.Option.{option_or}
 use Rattle.log_file.specs.limits.specs.declared.TheConstants.{MOST_ROUNDS}
 use Rattle.log_file.specs.auction_model.specs.Book.{Book}
 use Rattle.log_file.specs.auction_rules.specs.BookOfLog.{book_of_log, is_complete}
-use Rattle.log_file.specs.auction_rules.specs.Replies.{reply_to}
-use Rattle.log_file.specs.auction_rules.specs.State.{DeskState, state_of}
+use Rattle.log_file.specs.auction_rules.specs.Replies.{log_prices, log_round, log_stage, reply_to}
 use Rattle.log_file.specs.auction_rules.specs.Terms.{Terms}
 use Rattle.log_file.specs.auction_rules.specs.declared.Event.{Event}
 use Rattle.log_file.specs.auction_rules.specs.declared.Event.TheVariants.{Close}
@@ -13,7 +12,6 @@ use Rattle.log_file.specs.auction_rules.specs.declared.Reply.{Reply}
 use Rattle.log_file.specs.auction_rules.specs.declared.Reply.TheVariants as reply
 use Rattle.log_file.specs.auction_rules.specs.declared.Stage.{Stage}
 use Rattle.log_file.specs.auction_rules.specs.declared.Stage.TheVariants as stage
-use Rattle.bid_desk.specs.DeskValue.{round_in}
 use Rattle.log_file.specs.ReplyText.{reply_line}
 use Rattle.log_file.specs.declared.CloseDone.{CloseDone}
 use Rattle.log_file.specs.declared.CloseDone.TheVariants as done
@@ -26,23 +24,23 @@ done_at stage.Clock round = done.Round round
 done_at stage.Sealed round = done.Sealed
 done_at stage.Closed round = done.Closed
 
--- the same by the state behind it
-abbrev pub done_in : DeskState → CloseDone
-done_in after = done_at after.stage (round_in after)
+-- what a line did that got this reply, by the stage and the posted round behind it: something is told of an admitted close alone
+abbrev pub done_by : Event → Reply → Stage → ℕ → Option CloseDone
+done_by Close reply.Ok stage round = Some (done_at stage round)
+done_by line answer stage round = None
 
--- what a line did that got this reply and led to this state: something is told of an admitted close alone
-abbrev pub done_by : Event → Reply → DeskState → Option CloseDone
-done_by Close reply.Ok after = Some (done_in after)
-done_by line answer after = None
+-- what the newest line of a log did
+abbrev pub done_of : Terms → Event → List Event → Option CloseDone
+done_of terms line log = done_by line (reply_to terms log line) (log_stage terms (line ∷ log)) (log_round terms (line ∷ log))
 
--- the line that is printed of the line of this number with this reply, which led to this state
-abbrev pub line_of : ℕ → Event → Reply → DeskState → List ℕ
-line_of number line answer after = reply_line number answer (done_by line answer after) after.prices
+-- the line that is printed of it
+abbrev pub line_of : Terms → Event → List Event → List ℕ
+line_of terms line log = reply_line (suc (length log)) (reply_to terms log line) (done_of terms line log) (log_prices terms (line ∷ log))
 
 -- the reply lines of a log, in the order of its lines, which are numbered from 1
 abbrev pub reply_lines : Terms → List Event → List ℕ
 reply_lines terms [] = []
-reply_lines terms (line ∷ log) = reply_lines terms log ++ line_of (suc (length log)) line (reply_to terms log line) (state_of terms (line ∷ log))
+reply_lines terms (line ∷ log) = reply_lines terms log ++ line_of terms line log
 
 -- The limit for which a close is refused: rounds, of which there would be one more than there may be, or a price, with what it would be
 -- raised to. A draft that is refused for a full list meets no limit of the auction.

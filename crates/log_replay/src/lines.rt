@@ -2,8 +2,9 @@
 ghost use Rattle.std.specs.Prelude.{◌≡◌, [], IfOk, OnOk};
 ghost use Rattle.std.specs.Option.{option_or};
 ghost use Rattle.log_file.specs.auction_rules.specs.Lawful.{HasCategories};
-ghost use Rattle.log_replay.specs.Course.{Answers, IsCourse, TakesLine};
-ghost use Rattle.log_replay.specs.ReplyLines.{done_by, done_in, line_of, refusal_of};
+ghost use Rattle.log_file.specs.auction_rules.specs.State.{round_in};
+ghost use Rattle.log_replay.specs.Course.{Answers, IsCourse, TakesLine, line_at};
+ghost use Rattle.log_replay.specs.ReplyLines.{done_at, done_by, refusal_of};
 
 use crate::ReplayStop;
 use bid_desk::Desk;
@@ -70,7 +71,7 @@ fn text_of(
     line: &Event,
     reply: Reply,
 ) -> Result<Text, AllocError>
-    ensures { IfOk result (λ text. text ≡ line_of number line.now reply desk.now) }
+    ensures { IfOk result (λ text. text ≡ line_at number line.now reply desk.now) }
 {
     let text = reply_line(
         alloc,
@@ -84,7 +85,7 @@ fn text_of(
 
 /// What the line did that led to this desk, where it is an admitted close.
 fn done_by(desk: &Desk, line: &Event, reply: Reply) -> Option<CloseDone>
-    ensures { result ≡ done_by line.now reply desk.now }
+    ensures { result ≡ done_by line.now reply desk.now.stage (round_in desk.now) }
 {
     match (line, reply) {
         (Event::Close, Reply::Ok) => Some(done_in(desk)),
@@ -94,7 +95,7 @@ fn done_by(desk: &Desk, line: &Event, reply: Reply) -> Option<CloseDone>
 
 /// What the close did that led to this desk.
 fn done_in(desk: &Desk) -> CloseDone
-    ensures { result ≡ done_in desk.now }
+    ensures { result ≡ done_at desk.now.stage (round_in desk.now) }
 {
     match desk.stage() {
         Stage::Clock => CloseDone::Round(desk.round()),

@@ -2,7 +2,7 @@
 use Rattle.std.proofs.Common.{ℕ, List, length, sym, ap, ◌∙◌, arith}
 use Rattle.relative_cap.specs.auction_model.specs.PackageTests.{is_same}
 use Rattle.relative_cap.proofs.PlaceLaws.{lots-read}
-use Rattle.bid_desk.proofs.EntryLaws.{kept-entries, kept-order, slot-taken, slot-other, slot-end}
+use Rattle.bid_desk.proofs.EntryLaws.{kept-entries, kept-order, slot-taken, slot-free}
 use Rattle.bid_desk.proofs.slots.slot_of.Goals as goal
 use Rattle.bid_desk.proofs.slots.slot_of.Goals.{else-place-list-via-then-place-list+else-is_same, else-place-list-via-else-place-list}
 
@@ -26,9 +26,11 @@ pub returns-else-place-list : goal.returns-else-place-list
 returns-else-place-list c =
     elim c.else-place-list.branch [
       | else-place-list-via-then-place-list+else-is_same w ↦
-          slot-other (length c.args.«package».now) c.args.list.now c.args.«package».now c.place_of-place.result c.requires c.place_of-place.ensures
-          (ap (λ (p : List ℕ). is_same p c.args.«package».now) (lots-read c.args.list.now c.place_of-place.result w.index-list-place.result w.if-place-list.true)
+          slot-free (length c.args.«package».now) c.args.list.now c.args.«package».now c.place_of-place.result c.requires c.place_of-place.ensures
+          (λ inside. ap (λ (p : List ℕ). is_same p c.args.«package».now)
+          (lots-read c.args.list.now c.place_of-place.result w.index-list-place.result w.if-place-list.true)
           ∙ sym w.is_same.ensures ∙ w.if-is_same.false)
       | else-place-list-via-else-place-list w ↦
-          slot-end (length c.args.«package».now) c.args.list.now c.args.«package».now c.place_of-place.result c.requires c.place_of-place.ensures (omega (arith, w.if-place-list.false))
+          slot-free (length c.args.«package».now) c.args.list.now c.args.«package».now c.place_of-place.result c.requires c.place_of-place.ensures
+          (λ inside. absurd (omega (arith, inside, w.if-place-list.false)))
     ]
