@@ -10,7 +10,6 @@ use Rattle.auction_rules.specs.Replies.{reply_to, admitted, price_top, drafts_fu
 use Rattle.auction_rules.specs.BookOfLog.{bids_in_book, book_of_log, is_complete}
 use Rattle.auction_rules.specs.Rounds.{OwnRound, raised_prices}
 use Rattle.auction_rules.specs.Caps.{list_fault}
-use Rattle.auction_rules.specs.State.{state_of}
 
 -- two bidders, three lots of one category, and a step of a fifth
 abbrev sample : Terms
