@@ -1,86 +1,51 @@
-// Lists of the parts of a certificate.
-ghost use Rattle.cert_text.specs.declared.certificate.CertRow.{CertRow};
-ghost use Rattle.cert_text.specs.declared.certificate.WithoutPart.{WithoutPart};
+// Lists of the parts and the rows of a certificate.
 ghost use Rattle.std.specs.Prelude.{List, OnErr, OnOk, [], ◌++◌, ◌∷◌, ◌≡◌};
 
 use crate::{CertRow, WithoutPart};
 use std::alloc::{AllocError, Global};
 use std::marker::Model;
 
-/// A list of parts without a winner.
+/// A list of parts or of rows.
 #[derive(Drop)]
-pub struct WithoutList {
-    parts: Vec<WithoutPart>,
+pub struct PartList<T> {
+    items: Vec<T>,
 }
 
-impl Model for WithoutList {
-    ghost Value = { List WithoutPart };
-
-    ghost view = { λ list. list.parts.items };
-}
-
-impl WithoutList {
-    /// The empty list. It takes no memory.
-    pub fn new(alloc: Global) -> WithoutList
-        ensures { result ≡ [] }
-    {
-        WithoutList {
-            parts: Vec::new(alloc),
-        }
-    }
-
-    /// Appends one part. For want of memory the list stays as it is.
-    pub fn push(&mut self, part: WithoutPart) -> Result<(), AllocError>
-        ensures pushed { OnOk result (self.new ≡ self.old ++ part ∷ []) }
-        ensures unchanged { OnErr result (self.new ≡ self.old) }
-    {
-        self.parts.push(part)?;
-        Ok(())
-    }
-
-    /// The parts in order.
-    pub fn items(&self) -> &[WithoutPart]
-        ensures { result.now ≡ self.now }
-    {
-        self.parts.as_slice()
-    }
-}
+/// A list of parts without a winner.
+pub type WithoutList = PartList<WithoutPart>;
 
 /// A list of rows.
-#[derive(Drop)]
-pub struct CertRows {
-    rows: Vec<CertRow>,
+pub type CertRows = PartList<CertRow>;
+
+impl<T> Model for PartList<T> {
+    ghost Value = { List T };
+
+    ghost view = { λ list. list.items.items };
 }
 
-impl Model for CertRows {
-    ghost Value = { List CertRow };
-
-    ghost view = { λ list. list.rows.items };
-}
-
-impl CertRows {
+impl<T: Drop> PartList<T> {
     /// The empty list. It takes no memory.
-    pub fn new(alloc: Global) -> CertRows
+    pub fn new(alloc: Global) -> PartList<T>
         ensures { result ≡ [] }
     {
-        CertRows {
-            rows: Vec::new(alloc),
+        PartList {
+            items: Vec::new(alloc),
         }
     }
 
-    /// Appends one row. For want of memory the list stays as it is.
-    pub fn push(&mut self, row: CertRow) -> Result<(), AllocError>
-        ensures pushed { OnOk result (self.new ≡ self.old ++ row ∷ []) }
+    /// Appends one item. For want of memory the list stays as it is.
+    pub fn push(&mut self, item: T) -> Result<(), AllocError>
+        ensures pushed { OnOk result (self.new ≡ self.old ++ item ∷ []) }
         ensures unchanged { OnErr result (self.new ≡ self.old) }
     {
-        self.rows.push(row)?;
+        self.items.push(item)?;
         Ok(())
     }
 
-    /// The rows in order.
-    pub fn items(&self) -> &[CertRow]
+    /// The items in order.
+    pub fn items(&self) -> &[T]
         ensures { result.now ≡ self.now }
     {
-        self.rows.as_slice()
+        self.items.as_slice()
     }
 }

@@ -4,7 +4,7 @@ ghost use Rattle.place_cert.specs.OneProof.{IsPlaceCertificate-prop};
 ghost use Rattle.place_cert.specs.Parts.{place_cert_from};
 ghost use Rattle.place_cert.specs.PlaceText.{IsPlaceCertificate};
 
-use crate::{PlaceRows, PlaceWithouts};
+use cert_text::PartList;
 use cert_text::choices::{Choice, Grid, Numbers};
 use cert_text::wide_num::NumList;
 
@@ -21,6 +21,9 @@ pub struct PlaceWithout {
     pub table: Grid,
 }
 
+/// A list of parts without a winner.
+pub type PlaceWithouts = PartList<PlaceWithout>;
+
 /// A set of winners that have to pay a sum together, and its multipliers.
 #[derive(Drop)]
 pub struct PlaceRow {
@@ -35,6 +38,9 @@ pub struct PlaceRow {
     /// An order that allows the choice: one number of at most 65,535 for each bidder.
     pub order: Numbers,
 }
+
+/// A list of rows.
+pub type PlaceRows = PartList<PlaceRow>;
 
 /// A certificate of the prices of slots in a band. All its numbers are strictly between -2^120 and 2^120. It has a part without
 /// each bidder that the choice uses, in order, and at most ten rows.

@@ -8,14 +8,12 @@
 
 mod certificate;
 mod laws;
-mod lists;
 mod read;
 mod write;
 
 pub use cert_text;
 pub use cert_text::{CertStop, cert_form, line_text};
-pub use certificate::{PlaceCertificate, PlaceRow, PlaceWithout};
+pub use certificate::{PlaceCertificate, PlaceRow, PlaceRows, PlaceWithout, PlaceWithouts};
 pub use laws::{one_place_cert, short_place_text, text_of_place_cert};
-pub use lists::{PlaceRows, PlaceWithouts};
 pub use read::read_places;
 pub use write::write_places;
