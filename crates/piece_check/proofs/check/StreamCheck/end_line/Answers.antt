@@ -22,7 +22,7 @@ judged-found-requires c =
     let (set, ends, known) = c.requires.ends.2 in
     let on : c.end_line.new.self.stop ≡ None = search rules in
     let none : c.args.self.now.failed ≡ None = search rules in
-    (the-step c.args.self.now set c.end_line.new.self c.args.room.now text items c.count-count.result (omega (arith, c.bidders-bidders.ensures.bidders, c.bidders-bidders.ensures.most)) c.count-count.ensures none on c.end_line.ensures.shape ends known
+    (the-step c.args.self.now set c.end_line.new.self c.args.room.now text items c.count-count.result (omega (arith, c.kept.ensures.bidders)) c.count-count.ensures none on c.end_line.ensures.shape ends known
     (c.end_line.ensures.beyond on) (c.end_line.ensures.next on) (c.end_line.ensures.order on) (c.end_line.ensures.stands text items ends)).possible
 
 pub totals_behind-totals-requires : goal.totals_behind-totals-requires
@@ -32,14 +32,14 @@ totals_behind-totals-requires c =
     let (set, ends, known) = c.requires.ends.2 in
     let on : c.end_line.new.self.stop ≡ None = search rules in
     let none : c.args.self.now.failed ≡ None = search rules in
-    (the-step c.args.self.now set c.end_line.new.self c.args.room.now text items c.count-count.result (omega (arith, c.bidders-bidders.ensures.bidders, c.bidders-bidders.ensures.most)) c.count-count.ensures none on c.end_line.ensures.shape ends known
+    (the-step c.args.self.now set c.end_line.new.self c.args.room.now text items c.count-count.result (omega (arith, c.kept.ensures.bidders)) c.count-count.ensures none on c.end_line.ensures.shape ends known
     (c.end_line.ensures.beyond on) (c.end_line.ensures.next on) (c.end_line.ensures.order on) (c.end_line.ensures.stands text items ends)).possible
 
 pub returns-clause-stands : goal.returns-clause-stands
 returns-clause-stands c = λ text items (set, ends, known).
     let on : c.end_line.new.self.stop ≡ None = search rules in
     let none : c.args.self.now.failed ≡ None = search rules in
-    stands-next c.args.self.now set c.end_line.new.self c.args.room.now text items c.count-count.result (omega (arith, c.bidders-bidders.ensures.bidders, c.bidders-bidders.ensures.most)) c.count-count.ensures none on c.end_line.ensures.shape ends known
+    stands-next c.args.self.now set c.end_line.new.self c.args.room.now text items c.count-count.result (omega (arith, c.kept.ensures.bidders)) c.count-count.ensures none on c.end_line.ensures.shape ends known
     (c.end_line.ensures.beyond on) (c.end_line.ensures.next on) (c.end_line.ensures.order on) (c.end_line.ensures.stands text items ends)
     c.judged-found.result.failed c.judged-found.result.late c.members_behind-members.result c.totals_behind-totals.result
     (λ cert at next. (c.judged-found.ensures cert c.end_line.new.self.due at next, c.members_behind-members.ensures cert c.end_line.new.self.due at next, c.totals_behind-totals.ensures cert c.end_line.new.self.due at next))

@@ -23,7 +23,7 @@ put_gains-requires-clause-pay c =
     )
 
 pub put_gains-requires-clause-room : goal.put_gains-requires-clause-room
-put_gains-requires-clause-room c = subst (λ (b : Book). bidders_of b ≤ 16) (sym c.requires.claim.book) (omega (arith, c.bidders-bidders.ensures.bidders, c.bidders-bidders.ensures.most))
+put_gains-requires-clause-room c = subst (λ (b : Book). bidders_of b ≤ 16) (sym c.requires.claim.book) (omega (arith, c.kept.ensures.bidders))
 
 pub invariant_of-offers : goal.invariant_of-offers
 invariant_of-offers c =

@@ -8,7 +8,7 @@ use Rattle.piece_check.proofs.TableCome.{line-inside, late-small, head-late, hea
 use Rattle.piece_check.proofs.judging.tables.head_line.Goals as goal
 
 pub invariant_of-offers : goal.invariant_of-offers
-invariant_of-offers c = record { sizes = plain-small c.args.at.now.book.now (replicate 16 (pos 0)) 16 c.bidders-bidders.ensures.kept refl (omega (arith, c.bidders-bidders.ensures.bidders, c.bidders-bidders.ensures.most)) }
+invariant_of-offers c = record { sizes = plain-small c.args.at.now.book.now (replicate 16 (pos 0)) 16 c.kept.ensures refl (omega (arith, c.kept.ensures.bidders)) }
 
 pub returns : goal.returns
 returns c = λ cert next is follows.
@@ -28,4 +28,4 @@ behind_entries-requires-clause-late c =
     let cert = c.requires.some.0 in
     let is = c.requires.some.1 in
     let early = c.with_late-late.ensures at.book.now (weight_of at.weights.now) cert 3 ((bidders_of at.book.now + 1) * states at.book.now) (head-late c.args.at.now cert is c.args.k c.requires.due) (λ none. c.keeps_value.ensures cert is) in
-    late-small at.book.now (weight_of at.weights.now) cert 3 ((bidders_of at.book.now + 1) * states at.book.now) (c.args.k + 1) c.with_late-late.result (omega (arith, line-inside c.args.at.now cert is Head c.args.k c.requires.due, c.bidders-bidders.ensures.bidders, c.bidders-bidders.ensures.most)) early
+    late-small at.book.now (weight_of at.weights.now) cert 3 ((bidders_of at.book.now + 1) * states at.book.now) (c.args.k + 1) c.with_late-late.result (omega (arith, line-inside c.args.at.now cert is Head c.args.k c.requires.due, c.kept.ensures.bidders)) early
