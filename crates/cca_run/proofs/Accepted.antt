@@ -24,7 +24,7 @@ use Rattle.cca_work.specs.place_price.specs.cert_laws.specs.BookSizes.{IsWithinS
 use Rattle.cca_work.specs.place_price.specs.cert_laws.specs.Priced.{IsPricedCert}
 use Rattle.cca_work.specs.place_price.specs.cert_laws.specs.Sound.{cert_point, cert_prices}
 use Rattle.cca_work.specs.place_price.specs.cert_laws.specs.Tests.{FailsFirst, Holds, bidders_of, states}
-use Rattle.cca_work.specs.cca_inputs.specs.limits.specs.declared.TheConstants.{AWARD_BYTES, BOOK_BYTES, CERT_BYTES, LOG_BYTES, MOST_WINNERS, WEIGHTS_BYTES}
+use Rattle.cca_work.specs.cca_inputs.specs.limits.specs.declared.TheConstants.{AWARD_BYTES, BOOK_BYTES, CERT_BYTES, LOG_BYTES, MOST_WINNERS, WEIGHTS_BYTES, PRICED_CERT_BYTES}
 use Rattle.cca_work.specs.outcome.specs.print_form.specs.Prices.{IsPriceText}
 use Rattle.cca_work.specs.big_auction.specs.row_laws.specs.Winners.{winners_in}
 use Rattle.cca_work.specs.outcome.specs.value_table.proofs.Plain.{net-small}
@@ -116,7 +116,7 @@ two-ends records (Err stop) follows others o p R none on x y = absurd (none (rep
 -- what the laws of the crates below say
 module _ (one_cert : (bidders number : ℕ) (bytes : List ℕ) (x y : Said CertValue ℕ) → CertSays bidders number bytes x → CertSays bidders number bytes y → x ≡ y)
     (text_of_cert : (bidders number : ℕ) (c : CertValue) → bidders < 2 ^ 100 → IsCertificate bidders number c → CertSays bidders number (cert_text c) (stated c))
-    (short_text : (book : Book) (w : ℕ → ℕ) (c : CertValue) → IsWithinSizes book → IsCertificate (bidders_of book) (states book) c → IsPricedCert book w c → winners_in c.choice ≤ MOST_WINNERS → length (cert_text c) < 57000000)
+    (short_text : (book : Book) (w : ℕ → ℕ) (c : CertValue) → IsWithinSizes book → IsCertificate (bidders_of book) (states book) c → IsPricedCert book w c → winners_in c.choice ≤ MOST_WINNERS → length (cert_text c) < PRICED_CERT_BYTES)
     (not_both : (book : Book) (w : ℕ → ℕ) (c : CertValue) (t p : ℕ) → Holds book w c → FailsFirst book w c t p → ⊥)
     (one_prices : (book : Book) (z : List ℕ) (v w : ℕ → ℤ) (p q : Point) (t u : List ℕ) → length z ≡ (market_of book).bidders → pos 1 ≤ℤ p.den → pos 1 ≤ℤ q.den
     → SamePoint (market_of book) p q → ((j : ℕ) → 0 < j → j ≤ (market_of book).bidders → v j ≡ w j) → IsPriceText book z v p t → IsPriceText book z w q u → t ≡ u) where

@@ -26,7 +26,7 @@ use Rattle.cca_work.specs.place_price.specs.cert_laws.specs.BookSizes.{IsWithinS
 use Rattle.cca_work.specs.place_price.specs.cert_laws.specs.Priced.{IsPricedCert}
 use Rattle.cca_work.specs.place_price.specs.cert_laws.specs.Sound.{cert_point, cert_prices}
 use Rattle.cca_work.specs.place_price.specs.cert_laws.specs.Tests.{bidders_of, states}
-use Rattle.cca_work.specs.cca_inputs.specs.limits.specs.declared.TheConstants.{AWARD_BYTES, LOG_BYTES, CERT_BYTES, MOST_WINNERS}
+use Rattle.cca_work.specs.cca_inputs.specs.limits.specs.declared.TheConstants.{AWARD_BYTES, LOG_BYTES, CERT_BYTES, MOST_WINNERS, PRICED_CERT_BYTES}
 use Rattle.cca_work.specs.cca_inputs.specs.Answers.{AwardAnswers, CertAnswers, LogAnswers, award_answer, cert_answer}
 use Rattle.cca_work.specs.cca_inputs.specs.Command.{award, audit}
 use Rattle.cca_work.specs.cca_inputs.specs.Outcome.{Answer, FileAnswers, AnswerGives, InputGives, Outcome, stops, value}
@@ -176,7 +176,7 @@ module _ (plain : (m : Market) (w : ℕ → ℕ) (z : List ℕ) (p : Point) → 
           )
 
   -- what was written, by what is known of each file
-  module _ (short_text : (book : Book) (w : ℕ → ℕ) (c : CertValue) → IsWithinSizes book → IsCertificate (bidders_of book) (states book) c → IsPricedCert book w c → winners_in c.choice ≤ MOST_WINNERS → length (cert_text c) < 57000000)
+  module _ (short_text : (book : Book) (w : ℕ → ℕ) (c : CertValue) → IsWithinSizes book → IsCertificate (bidders_of book) (states book) c → IsPricedCert book w c → winners_in c.choice ≤ MOST_WINNERS → length (cert_text c) < PRICED_CERT_BYTES)
       (rules_log : (terms : Terms) (rows : List (List (List ℕ))) (events : List Event) (book : Book) → IsAward terms → AreLog terms rows events → end_of terms (reverse events) ≡ Ok book → IsBidBook book) where
     -- where `award` is done, its files state an auction, of whose outcome a certificate was appended
     pub awarded : (file : List ℕ → Option (List ℕ)) (terms log cert : List ℕ) (form : PriceForm) (o : Outcome) → FilesGive (award terms log cert form) file o → o.status ≡ Done

@@ -18,7 +18,7 @@ use Rattle.cca_work.specs.place_price.specs.cert_laws.specs.Sound.{cert_point, c
 use Rattle.cca_work.specs.place_price.specs.cert_laws.specs.Tests as tests
 use Rattle.cca_work.specs.cca_inputs.specs.line_text.specs.LineText.{stated}
 use Rattle.cca_work.specs.outcome.specs.auction_model.specs.Prices.{AreVickreyPrices, weight_of}
-use Rattle.cca_work.specs.cca_inputs.specs.limits.specs.declared.TheConstants.{AWARD_BYTES, LOG_BYTES, MOST_WINNERS}
+use Rattle.cca_work.specs.cca_inputs.specs.limits.specs.declared.TheConstants.{AWARD_BYTES, LOG_BYTES, MOST_WINNERS, PRICED_CERT_BYTES}
 use Rattle.cca_work.specs.log_replay.specs.ReplyLines.{first_refusal}
 use Rattle.cca_work.specs.big_auction.specs.row_laws.specs.Winners.{winners_in}
 use Rattle.cca_work.specs.cca_inputs.specs.declared.status.Status.{Status}
@@ -76,7 +76,7 @@ pub record IsAwarded (file : List ℕ → Option (List ℕ)) (award log text : L
   pub priced : IsPricedCert (book_of terms lines) (weight_of (ones (book_of terms lines))) certificate
   pub outcome : IsAuctionOutcome (market_of (book_of terms lines)) certificate.choice (cert_point certificate)
   pub whole : text ≡ cert_text certificate
-  pub short : length text < 57000000
+  pub short : length text < PRICED_CERT_BYTES
 
 -- An auction within the limits: the award and the log state an auction, neither file is too long, no close is refused for a limit, and no
 -- more win than can be priced.

@@ -1,8 +1,8 @@
--- The text of a priced certificate has less than 57,000,000 bytes.
+-- The text of a priced certificate has less bytes than it may have.
 use Rattle.std.proofs.Common.{◌≡◌, ℕ, suc, zero, ◌+◌, ◌≤◌, ◌<◌, Bool, true, false, cond, ◌==◌, IsTrue, List, [], ◌∷◌, ◌++◌, length, codes, get_or, refl, ap, subst, arith, unsigned_abs}
 use Rattle.std.specs.Prelude.{ℤ, pos}
 use Rattle.std.proofs.lemmas.Bool.{ne_eqb, not_from_false}
-use Rattle.cert_form.specs.limits.specs.declared.TheConstants.{MOST_AMOUNT}
+use Rattle.cert_form.specs.limits.specs.declared.TheConstants.{MOST_AMOUNT, PRICED_CERT_BYTES}
 use Rattle.row_laws.specs.auction_model.specs.Book.{Book, net_of, menu_of}
 use Rattle.row_laws.specs.auction_model.specs.Lowered.{sum_to}
 use Rattle.row_laws.specs.auction_model.specs.Market.{number_of, uses}
@@ -114,8 +114,8 @@ module _ (book : Book) (w : ℕ → ℕ) (c : CertValue) (within : IsWithinSizes
         rest-size,
       )
 
-  -- its text has less than 57,000,000 bytes
-  pub short : length (cert_text c) < 57000000
+  -- its text is short
+  pub short : length (cert_text c) < PRICED_CERT_BYTES
   short =
       let version = version_lines (length c.choice) (length (get_or c.table 0 [])) in
       omega (arith, text-size 0 (cert_lines c), size-append version (body_lines c), version-size (is_first_version (length c.choice) (length (get_or c.table 0 []))), body-size)

@@ -18,7 +18,7 @@ ghost use Rattle.cert_form.specs.Certificate.{CertValue};
 ghost use Rattle.cert_form.specs.CertText.{IsCertificate};
 ghost use Rattle.cert_form.specs.Says.{cert_text};
 ghost use Rattle.row_laws.specs.Winners.{winners_in};
-ghost use Rattle.cert_form.specs.limits.specs.declared.TheConstants.{MOST_WINNERS};
+ghost use Rattle.cert_form.specs.limits.specs.declared.TheConstants.{MOST_WINNERS, PRICED_CERT_BYTES};
 ghost use Rattle.cert_laws.specs.BookSizes.{IsWithinSizes};
 ghost use Rattle.cert_laws.specs.Priced.{IsPricedCert};
 ghost use Rattle.cert_laws.specs.Sound.{IsSound};
@@ -65,7 +65,7 @@ pub fn exact_tables()
         → Obeys (menu_of book) (lowered_net book c) book.supply table }
 {}
 
-/// The text of a certificate that pricing writes has less than 57,000,000 bytes, where the book is within the limits and at most
+/// The text of a certificate that pricing writes has less than `PRICED_CERT_BYTES` bytes, where the book is within the limits and at most
 /// six bidders win: so it is never above the limit of a certificate file.
 ///
 /// A table of net amounts has at most 17 lines of 16,384 entries, each of at most 14 digits, and a certificate has at most seven
@@ -73,5 +73,5 @@ pub fn exact_tables()
 pub fn short_text()
     ensures { (book : Book) (w : ℕ → ℕ) (c : CertValue) → IsWithinSizes book
         → IsCertificate (bidders_of book) (states book) c → IsPricedCert book w c → winners_in c.choice ≤ MOST_WINNERS
-        → length (cert_text c) < 57000000 }
+        → length (cert_text c) < PRICED_CERT_BYTES }
 {}
