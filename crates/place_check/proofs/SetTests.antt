@@ -106,33 +106,33 @@ pub bids-same : (slots : SlotList) (j : ℕ) → 0 < j → (board_without slots 
 bids-same slots j some = cond-false (eqb j 0) 0 (length (bids_of slots j)) (ne_eqb j 0 (omega (arith, some)))
 
 -- where nobody is left out, all bids are there
-pub whole-set : (slots : SlotList) (f : ℕ → ℕ → ℤ) (table : List (List ℤ)) (bits : ℕ) → ObeysSet (board_without slots 0) f table bits → ObeysSet (board_of slots) f table bits
-whole-set slots f table bits o = record {
-  last = o.last;
-  none = o.none;
-  bid = λ j i some low new positive known may. o.bid j i some low new positive (let e = bids-same slots j some in omega (arith, e, known)) may;
-}
+whole-set : (slots : SlotList) (f : ℕ → ℕ → ℤ) (table : List (List ℤ)) (bits : ℕ)
+    → ObeysSet (board_without slots 0) f table bits ↔ ObeysSet (board_of slots) f table bits
+whole-set slots f table bits = (
+  λ o. record {
+    last = o.last;
+    none = o.none;
+    bid = λ j i some low new positive known may. o.bid j i some low new positive (let e = bids-same slots j some in omega (arith, e, known)) may;
+  },
+  λ o. record {
+    last = o.last;
+    none = o.none;
+    bid = λ j i some low new positive known may. o.bid j i some low new positive (let e = bids-same slots j some in omega (arith, e, known)) may;
+  },
+)
 
--- a set that obeys the rules for all bids obeys them where nobody is left out
-pub none-left : (slots : SlotList) (f : ℕ → ℕ → ℤ) (table : List (List ℤ)) (bits : ℕ) → ObeysSet (board_of slots) f table bits → ObeysSet (board_without slots 0) f table bits
-none-left slots f table bits o = record {
-  last = o.last;
-  none = o.none;
-  bid = λ j i some low new positive known may. o.bid j i some low new positive (let e = bids-same slots j some in omega (arith, e, known)) may;
-}
-
--- a whole table with equal worths and the same most
-pub whole-table : (slots : SlotList) (f g : ℕ → ℕ → ℤ) (table : List (List ℤ)) (most top : ℤ) (place : ℕ) → ((j i : ℕ) → 0 < j → j ≤ length slots.bidders → f j i ≡ g j i) → most ≡ top
-    → SetTableAt (board_without slots 0) f table most place → SetTableAt (board_of slots) g table top place
-whole-table slots f g table most top place same is t = record {
-  rules = λ low. set-same (board_of slots) f g table place same (whole-set slots f table place (t.rules low));
-  top = λ e. let own = t.top e in omega (arith, ints, own, is);
-}
-
--- the same the other way round
-pub table-whole : (slots : SlotList) (f g : ℕ → ℕ → ℤ) (table : List (List ℤ)) (most top : ℤ) (place : ℕ) → ((j i : ℕ) → 0 < j → j ≤ length slots.bidders → f j i ≡ g j i) → most ≡ top
-    → SetTableAt (board_of slots) g table top place → SetTableAt (board_without slots 0) f table most place
-table-whole slots f g table most top place same is t = record {
-  rules = λ low. none-left slots f table place (set-same (board_of slots) g f table place (λ j i some in_slots. sym (same j i some in_slots)) (t.rules low));
-  top = λ e. let own = t.top e in omega (arith, ints, own, is);
-}
+-- a place of a table where nobody is left out, with equal worths and the same most
+pub whole-table : (slots : SlotList) (f g : ℕ → ℕ → ℤ) (table : List (List ℤ)) (most top : ℤ) (place : ℕ)
+    → ((j i : ℕ) → 0 < j → j ≤ length slots.bidders → f j i ≡ g j i) → most ≡ top
+    → SetTableAt (board_without slots 0) f table most place ↔ SetTableAt (board_of slots) g table top place
+whole-table slots f g table most top place same is =
+    let whole = whole-set slots f table place in (
+      λ t. record {
+        rules = λ low. set-same (board_of slots) f g table place same (whole.0 (t.rules low));
+        top = λ e. let own = t.top e in omega (arith, ints, own, is);
+      },
+      λ t. record {
+        rules = λ low. whole.1 (set-same (board_of slots) g f table place (λ j i some low. sym (same j i some low)) (t.rules low));
+        top = λ e. let own = t.top e in omega (arith, ints, own, is);
+      },
+    )

@@ -14,7 +14,7 @@ pub(crate) fn amount(slots: &Slots, j: u16, i: u16) -> i128
     ensures least { pos 0 ≤ℤ result }
     ensures most { result ≤ℤ pos MOST_AMOUNT }
 {
-    let _bidders = slots.bidders();
+    slots.kept();
     if i == 0 {
         return 0;
     }

@@ -86,7 +86,7 @@ fn pays_just(slots: &Slots, cert: &PlaceCertificate, row: &PlaceRow) -> bool
         (length slots.now.bidders))) }
 {
     let members = row.members.items();
-    let _bidders = slots.bidders();
+    slots.kept();
     let rest = worth(slots, row.choice.numbers()) - won_beside(slots, &cert.choice, members);
     is_product(paid_by(cert.pay.items(), members), cert.den, rest)
 }

@@ -11,10 +11,10 @@ ghost use Rattle.place_check.specs.Shown.{gain_in, CanLower, HasSmallProducts, I
 use crate::amounts::worth;
 use crate::figures::is_one_of;
 use crate::offers::Offers;
-use crate::sums::{total_of, won};
+use crate::sums::won;
 use crate::tables::table_holds;
-use cert_check::is_small;
 use cert_check::sums::amounts::is_equal;
+use cert_check::{is_small, sum_paid};
 use place_cert::PlaceCertificate;
 use place_laws::slot_places::{MOST_PLACED, Slots};
 
@@ -54,7 +54,7 @@ pub(crate) fn amounts_hold(slots: &Slots, cert: &PlaceCertificate, place: usize)
     requires shape { IsFor slots.now cert.now }
     ensures { IsTrue result ↔ P3 slots.now (place_cert_value cert.now) place }
 {
-    let _bidders = slots.bidders();
+    slots.kept();
     let gains = [0i128; MOST_PLACED];
     let offers = Offers {
         slots,
@@ -71,7 +71,7 @@ pub(crate) fn lowered_holds(slots: &Slots, cert: &PlaceCertificate, place: usize
     requires lower { CanLower slots.now (place_cert_value cert.now) }
     ensures { IsTrue result ↔ P9 slots.now (place_cert_value cert.now) place }
 {
-    let _bidders = slots.bidders();
+    slots.kept();
     let mut gains = [0i128; MOST_PLACED];
     put_gains(slots, cert, &mut gains);
     let offers = Offers {
@@ -80,7 +80,7 @@ pub(crate) fn lowered_holds(slots: &Slots, cert: &PlaceCertificate, place: usize
         den: cert.den,
         gains: &gains,
     };
-    table_holds(&offers, &cert.lowered, total_of(cert.pay.items()), place)
+    table_holds(&offers, &cert.lowered, sum_paid(cert.pay.items()), place)
 }
 
 /// Writes what each bidder gains at the payments, times the denominator.

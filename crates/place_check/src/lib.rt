@@ -1,4 +1,16 @@
 //! The checker of the certificates of placements in a band. It takes no memory.
+//!
+//! The nine tests, in their order, and who makes each at a place:
+//!
+//! - P1: the denominator and the value are of the right size: `heads::sizes_hold`;
+//! - P2: each number names a bid, the order allows the choice, and its worth is the value: `heads::choice_holds`;
+//! - P3: the table shows that no choice is worth more: `heads::amounts_hold`;
+//! - P4: each winner's part shows a best choice without it: `parts::part_holds`;
+//! - P5: a winner pays no more than it bids, and a loser nothing: `claims::payment_holds`;
+//! - P6: the members of a row win, and pay just what they have to pay together: `claims::row_holds`;
+//! - P7: the first multipliers of the rows show that no core payments come to less: `claims::least_holds`;
+//! - P8: the second ones show that of those of the least sum these are nearest to the Vickrey prices: `claims::nearest_holds`;
+//! - P9: the lowered table shows that no set of bidders blocks the payments: `heads::lowered_holds`.
 #![tactic(auto)]
 
 mod amounts;
@@ -11,10 +23,9 @@ mod parts;
 mod sums;
 mod tables;
 
-pub use cert_check::Verdict;
+pub use cert_check::{Verdict, sum_paid};
 pub use checking::check_places;
 pub use claims::vickrey;
 pub use place_cert;
 pub use place_laws;
 pub use place_laws::slot_places;
-pub use sums::total_of;

@@ -39,7 +39,7 @@ impl<'a> Offers<'a> {
         ensures worth { result ≡ worth_with self.now.slots.now self.now.den self.now.gains.now j i }
         ensures size { unsigned_abs result < 2 ^ 121 }
     {
-        let _bidders = self.slots.bidders();
+        self.slots.kept();
         lowered(
             self.den,
             amount(self.slots, j, i),

@@ -73,7 +73,7 @@ fn obeys_without(slots: &Slots, part: &PlaceWithout, j: u16) -> bool
     requires table { HasSets (length slots.now.bidders) part.now.table }
     ensures { IsTrue result ↔ ObeysSets (board_without slots.now j) (amount_of slots.now) part.now.table }
 {
-    let _bidders = slots.bidders();
+    slots.kept();
     let gains = [0i128; MOST_PLACED];
     let offers = Offers {
         slots,

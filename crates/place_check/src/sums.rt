@@ -1,10 +1,8 @@
 // Sums over bidders and over rows.
 ghost use Rattle.std.specs.Prelude.{length, map, not, pos, unsigned_abs, ℕ, ◌*◌, ◌<◌, ◌^◌, ◌≡◌, ◌≤ℤ◌, ◌≤◌};
-ghost use Rattle.cert_check.specs.auction_model.specs.Lowered.{of_bidder};
 ghost use Rattle.cert_check.specs.auction_model.specs.Market.{worth_in};
-ghost use Rattle.cert_check.specs.auction_model.specs.Prices.{sum_over, everyone};
+ghost use Rattle.cert_check.specs.auction_model.specs.Prices.{sum_over};
 ghost use Rattle.cert_check.specs.Multipliers.{multiplier_of};
-ghost use Rattle.cert_check.specs.cert_form.specs.CertText.{AllInRange};
 ghost use Rattle.cert_check.specs.cert_form.specs.Certificate.{is_member};
 ghost use Rattle.cert_check.specs.cert_laws.specs.MarketTests.{sum_holding};
 ghost use Rattle.cert_check.specs.limits.specs.declared.TheConstants.{MOST_AMOUNT, MOST_PLACED};
@@ -13,21 +11,11 @@ ghost use Rattle.place_laws.specs.slot_places.specs.Board.{market_of};
 
 use crate::amounts::amount;
 use cert_check::choices::Choice;
-use cert_check::sum_paid;
 use cert_check::sums::Multiplier;
 use cert_check::sums::amounts::counted;
 use cert_check::sums::members::is_among;
 use place_cert::PlaceRow;
 use place_laws::slot_places::Slots;
-
-/// What all pay together, times the denominator.
-pub fn total_of(payments: &[i128]) -> i128
-    requires count { length payments.now ≤ MOST_PLACED }
-    requires range { AllInRange payments.now }
-    ensures { result ≡ sum_over everyone (of_bidder payments.now) (length payments.now) }
-{
-    sum_paid(payments)
-}
 
 /// What the bid that the choice gives to bidder `j` is worth, and 0 for a loser.
 pub(crate) fn won(slots: &Slots, choice: &Choice, j: u16) -> i128

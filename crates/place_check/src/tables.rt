@@ -93,7 +93,7 @@ fn keeps_bidder(offers: &Offers, table: &Grid, set: usize, j: u16) -> bool
         (worth_with offers.now.slots.now offers.now.den offers.now.gains.now) table.now set j
         ((board_without offers.now.slots.now offers.now.skip).bids j) }
 {
-    let _bidders = offers.slots.bidders();
+    offers.slots.kept();
     if is_in(set, j) {
         return true;
     }
@@ -119,7 +119,7 @@ fn keeps_bid(offers: &Offers, table: &Grid, set: usize, j: u16, i: u16) -> bool
         ↔ KeepsBid (board_without offers.now.slots.now offers.now.skip)
         (worth_with offers.now.slots.now offers.now.den offers.now.gains.now) table.now set j i }
 {
-    let _bidders = offers.slots.bidders();
+    offers.slots.kept();
     if !starts_behind(offers, set, j, i) {
         return true;
     }

@@ -133,7 +133,7 @@ fn payment(slots: &Slots, cert: &PlaceCertificate, j: u16) -> Fraction
     requires bidder { IsBidder slots.now j }
     ensures { IsFractionOf (of_bidder cert.now.pay j) cert.now.den result }
 {
-    let _bidders = slots.bidders();
+    slots.kept();
     let paid = cert.pay.items()[j as usize - 1];
     Fraction::new(paid, cert.den)
 }

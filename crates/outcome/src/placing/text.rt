@@ -16,7 +16,7 @@ use crate::wide_num::Text;
 use crate::{Fraction, add_fraction};
 use place_check::place_cert::PlaceCertificate;
 use place_check::slot_places::Slots;
-use place_check::total_of;
+use place_check::sum_paid;
 use std::alloc::{AllocError, Global};
 
 /// The text of the placement and of the prices that a certificate shows for which all nine tests hold: a line for each bidder in the order
@@ -44,7 +44,7 @@ fn printed(alloc: Global, slots: &Slots, cert: &PlaceCertificate) -> Result<Text
         (cert_point (place_cert_value cert.now).cert) text) }
 {
     let mut text = Text::new(alloc);
-    let _bidders = slots.bidders();
+    slots.kept();
     add_placed(&mut text, slots, 1, cert.order.items())?;
     add_winners(&mut text, slots, cert, 0, cert.choice.numbers())?;
     add_value(&mut text, cert.value)?;
@@ -66,8 +66,8 @@ fn add_revenue(text: &mut Text, slots: &Slots, cert: &PlaceCertificate) -> Resul
     requires { CanPrint slots.now cert.now }
     ensures { OnOk result ((revenue : List ℕ) × IsFractionText (paid (market_of slots.now) (cert_point (place_cert_value cert.now).cert)) cert.now.den revenue × (text.new ≡ text.old ++ codes "revenue " ++ revenue ++ codes "\n")) }
 {
-    let _bidders = slots.bidders();
-    let revenue = Fraction::new(total_of(cert.pay.items()), cert.den);
+    slots.kept();
+    let revenue = Fraction::new(sum_paid(cert.pay.items()), cert.den);
     text.add(b"revenue ")?;
     add_fraction(text, revenue)?;
     text.push(b'\n')?;

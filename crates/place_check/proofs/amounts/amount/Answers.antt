@@ -8,5 +8,5 @@ returns-then-i-places-clause-amount c = sym (amount-past c.args.slots.now c.args
 
 pub returns-clause-most : goal.returns-clause-most
 returns-clause-most c =
-    let most = amount-most c.args.slots.now c.bidders-bidders.ensures.kept c.args.j c.args.i c.requires.0 c.requires.1 in
+    let most = amount-most c.args.slots.now c.kept.ensures c.args.j c.args.i c.requires.0 c.requires.1 in
     omega (arith, ints, most, c.place-place.ensures.amount)

@@ -7,7 +7,7 @@ use Rattle.place_check.proofs.Small.{plain-small, plain-worth}
 use Rattle.place_check.proofs.parts.obeys_without.Goals as goal
 
 pub invariant_of-offers : goal.invariant_of-offers
-invariant_of-offers c = record { sizes = plain-small c.args.slots.now c.args.j 6 c.bidders-bidders.ensures.kept (omega (arith, c.bidders-bidders.ensures.bidders, c.bidders-bidders.ensures.most)) }
+invariant_of-offers c = record { sizes = plain-small c.args.slots.now c.args.j 6 c.kept.ensures (omega (arith, c.kept.ensures.few)) }
 
 pub returns : goal.returns
 returns c =
