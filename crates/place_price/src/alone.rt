@@ -63,7 +63,7 @@ fn without_winner(
     ensures single { IfOk result (λ o. IsSingle (market_of chooser.now.slots.now) chooser.now.winners o.single) }
     ensures part { IfOk result (λ o. IsPartOf chooser.now.slots.now o.single o.part) }
 {
-    let _bidders = chooser.slots.bidders();
+    chooser.slots.kept();
     let found = chooser.best_without(alloc, j)?;
     let order = placement(alloc, chooser.slots, &found.choice)?;
     let choice = found.choice.copied(alloc)?;

@@ -32,7 +32,7 @@ pub(crate) fn certificate(
     ensures cert { IfOk result (λ p. IsPricedPlaceCert slots.now (place_cert_value p.cert)) }
     ensures turns { IfOk result (λ p. p.turns ≡ priced.turns) }
 {
-    let _bidders = slots.bidders();
+    slots.kept();
     let Found { choice, sum, table } = whole;
     let Priced {
         den,

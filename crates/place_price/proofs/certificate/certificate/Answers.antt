@@ -15,7 +15,7 @@ placement-requires c = c.requires.1.winning.passed
 
 pub all_rows-requires-clause-winners : goal.all_rows-requires-clause-winners
 all_rows-requires-clause-winners c =
-    let kept = c.bidders-bidders.ensures.kept in
+    let kept = c.kept.ensures in
     let l = long c.args.slots.now kept c.args.whole c.requires.0 c.args.parts c.args.priced c.requires.1 in
     let f = kept.few in
     omega (arith, l, f)
@@ -32,7 +32,7 @@ invariant_of-cert c =
     let d : to_z w128 (of_z w128 c.args.priced.den) ≡ c.args.priced.den = to_z-of_z w128 c.args.priced.den (search rules) in
     let v : to_z w128 (of_z w128 c.args.whole.sum) ≡ c.args.whole.sum = to_z-of_z w128 c.args.whole.sum (search rules) in
     record {
-      rules = made_shape c.args.slots.now c.bidders-bidders.ensures.kept c.args.whole c.requires.0 c.args.parts c.args.priced found c.in_ok-order.order c.in_ok-order.ensures c.in_ok-rows.rows
+      rules = made_shape c.args.slots.now c.kept.ensures c.args.whole c.requires.0 c.args.parts c.args.priced found c.in_ok-order.order c.in_ok-order.ensures c.in_ok-rows.rows
           (c.in_ok-rows.ensures.rows ∙ ap (λ (rows : List PricedRow). map (row_from z) rows) c.items-kept.ensures) c.in_ok-rows.ensures.placed
           _ _ z c.args.whole.table c.from_vec-pay.result c.args.priced.last.table d (v ∙ found.value) refl refl
           (c.from_vec-pay.ensures ∙ c.in_ok-for_bidders.ensures ∙ ap (for_bidders z) c.items-paid.ensures) refl;
@@ -48,7 +48,7 @@ returns-clause-point c =
 pub returns-clause-cert : goal.returns-clause-cert
 returns-clause-cert c =
     let slots = c.args.slots.now in
-    let kept = c.bidders-bidders.ensures.kept in
+    let kept = c.kept.ensures in
     let z = c.args.whole.choice in
     let found = c.requires.1 in
     let d : to_z w128 (of_z w128 c.args.priced.den) ≡ c.args.priced.den = to_z-of_z w128 c.args.priced.den (search rules) in
