@@ -41,7 +41,7 @@ fn first_holds(claim: &Claim, first: &Column, place: u16) -> bool
         → AreFirstSums (bidders_of claim.now.book.now) rows first.now.sums.now
         → IsTrue result ↔ C7 claim.now.book.now (cert_with claim.now [] [] rows) place }
 {
-    let _bidders = claim.book.bidders();
+    claim.book.kept();
     let count = first.numbers.len() as u16;
     if place <= count {
         return is_first(first.numbers[place as usize - 1]);
@@ -124,7 +124,7 @@ fn second_holds(
         → IsTrue result
         ↔ C8 claim.now.book.now (weight_of weights.now) (cert_with claim.now withouts pay.now rows) place }
 {
-    let _bidders = claim.book.bidders();
+    claim.book.kept();
     let count = firsts.len() as u16;
     if place <= count {
         let r = place as usize - 1;

@@ -27,7 +27,7 @@ fn shows_best(book: &BidBook, whole: &Grid, part: &WithoutPart, j: u16) -> bool
     requires rules { Obeys (menu_of book.now) (net_of book.now) book.now.supply whole.now }
     ensures { IsTrue result ↔ IsPart book.now j (without_value part.now) }
 {
-    let _bidders = book.bidders();
+    book.kept();
     let choice = part.choice.numbers();
     if !is_allowed_without(book, choice, j) {
         return false;

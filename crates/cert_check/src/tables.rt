@@ -76,7 +76,7 @@ pub(crate) fn lowered_test(claim: &Claim, pay: &[i128], table: &Grid) -> Option<
     ensures { (c : CertValue) → IsOf claim.now c → c.pay ≡ pay.now → c.lowered ≡ table.now
         → IsFirstFailing (C9 claim.now.book.now c) result }
 {
-    let _bidders = claim.book.bidders();
+    claim.book.kept();
     let paid = sum_paid(pay);
     let mut gains = [0i128; BIDDER_ROOM];
     put_gains(claim, pay, &mut gains);

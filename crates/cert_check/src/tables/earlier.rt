@@ -25,7 +25,7 @@ fn stays_below(book: &BidBook, j: u16, line: &[i128], rest: usize, bound: i128, 
     requires sizes { (s : ℕ) → unsigned_abs (slice_index_or line.now s (pos 0)) < 2 ^ 120 }
     ensures { IsTrue result ↔ StaysBelow book.now j line.now rest bound i }
 {
-    let _bidders = book.bidders();
+    book.kept();
     match place_after(book, j, i, rest) {
         Some(place) => is_below(book.net(j, i), line[place], bound),
         None => true,

@@ -263,7 +263,7 @@ pub fn two_lines_fault(offers: &Offers, k: u16, line: &[i128], below: &[i128]) -
         → slice_index_or table k [] ≡ line.now → slice_index_or table (suc k) [] ≡ below.now
         → FirstFault (ObeysIn offers.now table k) (states offers.now.book.now) result }
 {
-    let _bidders = offers.book.bidders();
+    offers.book.kept();
     line_fault(offers, k + 1, line, below)
 }
 

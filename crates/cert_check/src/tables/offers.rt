@@ -37,7 +37,7 @@ impl<'a> Offers<'a> {
         ensures worth { result ≡ worth_of self.now j i }
         ensures size { unsigned_abs result < 2 ^ 122 }
     {
-        let _bidders = self.book.bidders();
+        self.book.kept();
         scaled_less(self.den, self.book.net(j, i), self.gains[j as usize - 1])
     }
 

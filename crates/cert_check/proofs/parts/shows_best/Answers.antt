@@ -27,7 +27,7 @@ returns-then-not-is_allowed_without c = (
 )
 
 pub invariant_of-offers : goal.invariant_of-offers
-invariant_of-offers c = record { sizes = plain-small c.args.book.now (replicate 16 (pos 0)) 16 c.bidders-bidders.ensures.kept refl (omega (arith, c.bidders-bidders.ensures.bidders, c.bidders-bidders.ensures.most)) }
+invariant_of-offers c = record { sizes = plain-small c.args.book.now (replicate 16 (pos 0)) 16 c.kept.ensures refl (omega (arith, c.kept.ensures.bidders)) }
 
 pub returns : goal.returns
 returns c =
