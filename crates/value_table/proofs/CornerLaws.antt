@@ -1,10 +1,9 @@
 -- Lines that never fall, and the blocks of them that a bid leaves as they are.
-use Rattle.std.specs.Prelude.{◌≡◌, ℕ, suc, ◌+◌, ◌-◌, ◌*◌, ◌≤◌, ◌<◌, nat_le, IsTrue, List, [], ◌∷◌, length, get_or, map, take, drop, ℤ, pos, ◌+ℤ◌, ◌≤ℤ◌, refl}
+use Rattle.std.specs.Prelude.{◌≡◌, ℕ, suc, ◌+◌, ◌-◌, ◌*◌, ◌≤◌, ◌<◌, nat_le, IsTrue, List, [], ◌∷◌, length, get_or, take, drop, ℤ, pos, ◌+ℤ◌, ◌≤ℤ◌}
 use Rattle.std.specs.Int.{int_max}
 use Rattle.std.proofs.Common.{inl, inr, sym, ◌∙◌, ap, subst, arith}
-use Rattle.std.proofs.lemmas.Bool.{false≢true, cases_Bool, cond-true, cond-false, and_parts, and_from, leb-true, le-leb}
+use Rattle.std.proofs.lemmas.Bool.{false≢true, cases_Bool, cond-true, cond-false, and_parts, and_from, le-leb}
 use Rattle.std.proofs.lemmas.Int.{ints}
-use Rattle.std.proofs.lemmas.List.{map-id}
 use Rattle.std.proofs.lemmas.Nat.{div-mul-add, mod-mul-add, mul-add-lt}
 use Rattle.choices.specs.auction_model.specs.Menu.{Menu}
 use Rattle.choices.specs.auction_model.specs.Package.{is_within, less, IsNothingFrom}
@@ -122,10 +121,6 @@ module _ (m : Menu) (counts : ℕ → ℕ → ℤ) (supply : List ℕ) (k : ℕ)
       let same : length (left_at supply s) ≡ length (left_at supply t) = length-left_at supply s ∙ sym (length-left_at supply t) in
       let most = (e.exact t t_low).bound own.0 (more i (left_at supply s) (left_at supply t) own.0 same within own.1) in
       subst (λ (z : ℤ). z ≤ℤ get_or line t (pos 0)) own.2 most
-
--- the same where each number is the whole number itself
-pub plain-grows : (supply : List ℕ) (line : List ℤ) → Grows supply line → Grows supply (map (λ z. z) line)
-plain-grows supply line grows = subst (Grows supply) (sym (map-id line)) grows
 
 -- so a bid without its empty end has the same corners
 pub trim-corners : (n : ℕ) (supply p : List ℕ) (first : ℕ) (line below : List ℤ) → IsNothingFrom n p → HasCorners supply p first line below → HasCorners supply (take n p) first line below

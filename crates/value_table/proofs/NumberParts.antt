@@ -2,7 +2,6 @@
 use Rattle.std.proofs.Common.{◌≡◌, ◌∙◌, ◌<◌, ◌≤◌, ◌+◌, ℕ, ap, ◌++◌, List, map, get_or, take, drop, ℤ, pos, ◌+ℤ◌, sym, unsigned_abs}
 use Rattle.std.specs.Int.{int_max}
 use Rattle.std.proofs.lemmas.List.{map-append, map-id, get_or-take, take-map, drop-map}
-use Rattle.choices.specs.auction_model.specs.Steps.{raised}
 use Rattle.choices.specs.auction_model.proofs.PartReads.{read-part}
 use Rattle.choices.specs.auction_model.proofs.RunLaws.{small-part}
 use borrow.Rule.Slice.PartMut.{put_mid, post_of}
@@ -18,19 +17,6 @@ plain-run line below old worth s h =
     read-plain line s ∙ h
     ∙ ap (λ z. int_max z (worth +ℤ get_or below s (pos 0))) (sym (read-plain old s))
     ∙ ap (λ z. int_max (get_or (map (λ z. z) old) s (pos 0)) (worth +ℤ z)) (sym (read-plain below s))
-
--- the same of sizes
-pub plain-small : (xs : List ℤ) (most : ℕ) → ((s : ℕ) → unsigned_abs (get_or xs s (pos 0)) ≤ most) → (s : ℕ) → unsigned_abs (get_or (map (λ z. z) xs) s (pos 0)) ≤ most
-plain-small xs most small s = rw (read-plain xs s) (small s)
-
--- a line of whole numbers after one more bid
-pub plain-raised : (supply lots : List ℕ) (line below old : List ℤ) (worth : ℤ) (s : ℕ)
-    → get_or (map (λ z. z) line) s (pos 0) ≡ raised supply (map (λ z. z) below) lots worth s (get_or (map (λ z. z) old) s (pos 0))
-    → get_or line s (pos 0) ≡ raised supply below lots worth s (get_or old s (pos 0))
-plain-raised supply lots line below old worth s h =
-    sym (read-plain line s) ∙ h
-    ∙ ap (λ l. raised supply l lots worth s (get_or (map (λ z. z) old) s (pos 0))) (map-id below)
-    ∙ ap (raised supply below lots worth s) (read-plain old s)
 
 module _ {A : Type 0} (f : A → ℤ) where
   -- a part of a line

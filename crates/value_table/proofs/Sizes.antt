@@ -4,24 +4,48 @@ use Rattle.std.proofs.Common.{arith}
 use Rattle.choices.specs.auction_model.specs.Lowered.{lowered, of_bidder}
 use Rattle.choices.specs.auction_model.proofs.BoundLaws.{caps_of, lowered-capped, parts-capped, cap-in_sum, line-sizes, AreCapped}
 use Rattle.value_table.specs.declared.lowering.Lowering.{Lowering}
-use Rattle.value_table.specs.Counted.{net_at, counted_bids, counted, IsCountedLine}
+use Rattle.value_table.specs.Counted.{net_at, counted_bids, counted, IsCountedLine, IsWithin}
 
 module _ (l : Lowering) where
-  -- no number of a line is above 2^120 in size
-  pub line-small : (k : ℕ) (line : List ℤ) → IsCountedLine l k line → (s : ℕ) → unsigned_abs (get_or line s (pos 0)) ≤ 2 ^ 120
-  line-small k line e s =
+  -- where all sums are below a number in size, so is each number of a line
+  pub line-within : (most : ℕ) → IsWithin l most → (k : ℕ) (line : List ℤ) → IsCountedLine l k line → (s : ℕ) → unsigned_abs (get_or line s (pos 0)) ≤ most
+  line-within most within k line e s =
       let caps = caps_of (counted_bids l).bids (net_at l) l.den l.surplus.now in
       let capped : AreCapped (counted_bids l) (counted l) caps = lowered-capped (counted_bids l).bids (net_at l) l.den l.surplus.now in
-      omega (arith, l.range, line-sizes (counted_bids l) (counted l) l.book.now.supply k line caps capped e s)
+      omega (arith, within, line-sizes (counted_bids l) (counted l) l.book.now.supply k line caps capped e s)
+
+  -- and the most that a bidder can count, by size
+  pub caps-within : (most : ℕ) → IsWithin l most → (j : ℕ) → zero < j → j ≤ length l.book.now.bidders → caps_of (counted_bids l).bids (net_at l)
+      l.den l.surplus.now j < most
+  caps-within most within zero p q = absurd (omega arith)
+  caps-within most within (suc k) p q = omega (
+    arith,
+    within,
+    cap-in_sum (caps_of (counted_bids l).bids (net_at l) l.den l.surplus.now) k
+        (length l.book.now.bidders) (omega arith),
+  )
+
+  -- and what a bid counts
+  pub worth-within : (most : ℕ) → IsWithin l most → (j i : ℕ) → zero < j → j ≤ length l.book.now.bidders → i ≤ (counted_bids l).bids j →
+      unsigned_abs (counted l j i) ≤ most
+  worth-within most within j i p q known = omega (
+    arith,
+    caps-within most within j p q,
+    lowered-capped (counted_bids l).bids (net_at l) l.den
+        l.surplus.now j i known,
+  )
+
+  -- no number of a line is above 2^120 in size
+  pub line-small : (k : ℕ) (line : List ℤ) → IsCountedLine l k line → (s : ℕ) → unsigned_abs (get_or line s (pos 0)) ≤ 2 ^ 120
+  line-small = line-within (2 ^ 120) l.range
 
   -- the most that a bidder can count, by size, is below 2^120
   pub caps-small : (j : ℕ) → zero < j → j ≤ length l.book.now.bidders → caps_of (counted_bids l).bids (net_at l) l.den l.surplus.now j < 2 ^ 120
-  caps-small zero p q = absurd (omega arith)
-  caps-small (suc k) p q = omega (arith, l.range, cap-in_sum (caps_of (counted_bids l).bids (net_at l) l.den l.surplus.now) k (length l.book.now.bidders) (omega arith))
+  caps-small = caps-within (2 ^ 120) l.range
 
   -- no bid counts more than 2^120 in size
   pub worth-small : (j i : ℕ) → zero < j → j ≤ length l.book.now.bidders → i ≤ (counted_bids l).bids j → unsigned_abs (counted l j i) ≤ 2 ^ 120
-  worth-small j i p q known = omega (arith, caps-small j p q, lowered-capped (counted_bids l).bids (net_at l) l.den l.surplus.now j i known)
+  worth-small = worth-within (2 ^ 120) l.range
 
   -- den times a net amount and the surplus of its bidder, both by size, add up to at most 2^120
   pub parts-small : (j i : ℕ) → zero < j → j ≤ length l.book.now.bidders → zero < i → i ≤ (counted_bids l).bids j → unsigned_abs l.den * unsigned_abs (net_at l j i) + unsigned_abs (of_bidder l.surplus.now j) ≤ 2 ^ 120

@@ -44,6 +44,10 @@ pub record IsNeedless (l : Lowering) (j i : ℕ) : Type 0 where
   pub smaller : IsTrue (is_within ((counted_bids l).lots j other) ((counted_bids l).lots j i))
   pub worth : counted l j i ≤ℤ counted l j other
 
+-- each sum is below this number in size
+abbrev pub IsWithin : Lowering → ℕ → Type 0
+IsWithin l most = spread (counted_bids l).bids (length l.book.now.bidders) (net_at l) l.den l.surplus.now < most
+
 -- no sum leaves 62 bits
 abbrev pub IsNarrow : Lowering → Type 0
-IsNarrow l = spread (counted_bids l).bids (length l.book.now.bidders) (net_at l) l.den l.surplus.now < 2 ^ 61
+IsNarrow l = IsWithin l (2 ^ 61)

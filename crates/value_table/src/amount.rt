@@ -2,7 +2,7 @@
 ghost use Rattle.std.specs.Prelude.{◌≡◌, ℕ, ◌^◌, ◌≤◌, ◌<◌, ◌↔◌, IsTrue, length, slice_index_or, ℤ, pos, ◌+ℤ◌, ◌≤ℤ◌, unsigned_abs, map};
 ghost use Rattle.std.specs.Int.{int_max};
 
-/// A number of a line, so that bids are counted by the same functions in lines of each size.
+/// A number of a line, so that lines of each size are worked out and read by the same functions.
 pub trait Amount: Copy {
     /// The whole number.
     ghost number: { Self → ℤ };
@@ -10,11 +10,28 @@ pub trait Amount: Copy {
     /// How far from zero a worth and a number of the line below may be.
     ghost most: { ℕ };
 
+    /// A whole number in this size.
+    fn narrowed(wide: i128) -> Self
+        requires { unsigned_abs wide ≤ most }
+        ensures { number result ≡ wide };
+
+    /// The number in 128 bits.
+    fn wide(amount: Self) -> i128
+        ensures { result ≡ number amount };
+
     /// Whether a number is at least a worth with a number of the line below.
     fn is_at_least(entry: Self, worth: Self, below: Self) -> bool
         requires worth { unsigned_abs (number worth) ≤ most }
         requires below { unsigned_abs (number below) ≤ most }
         ensures { IsTrue result ↔ (number worth +ℤ number below) ≤ℤ number entry };
+
+    /// Adds an amount to each number.
+    fn add_to_each(line: &mut [Self], amount: Self)
+        requires amount { unsigned_abs (number amount) ≤ most }
+        requires sizes { (s : ℕ) → unsigned_abs (slice_index_or (map number line.old) s (pos 0)) ≤ most }
+        ensures { (s : ℕ) → s < length line.old
+            → slice_index_or (map number line.new) s (pos 0)
+            ≡ slice_index_or (map number line.old) s (pos 0) +ℤ number amount };
 
     /// Raises each number of `line` to that of `below` with the worth, where it is smaller.
     fn raise_run(line: &mut [Self], below: &[Self], worth: Self)
@@ -27,13 +44,35 @@ pub trait Amount: Copy {
             (number worth +ℤ slice_index_or (map number below.now) s (pos 0)) };
 }
 
+/// The number of a line at a place, in 128 bits.
+pub fn number_at<A: Amount>(line: &[A], place: usize) -> i128
+    requires { place < length line.now }
+    ensures { result ≡ slice_index_or (map A.number line.now) place (pos 0) }
+{
+    A::wide(line[place])
+}
+
 impl Amount for i128 {
     ghost number = { λ z. z };
 
     ghost most = { 2 ^ 120 };
 
+    fn narrowed(wide: i128) -> i128 {
+        wide
+    }
+
+    fn wide(amount: i128) -> i128 {
+        amount
+    }
+
     fn is_at_least(entry: i128, worth: i128, below: i128) -> bool {
         worth + below <= entry
+    }
+
+    fn add_to_each(line: &mut [i128], amount: i128) {
+        for place in 0..line.len() {
+            line[place] += amount;
+        }
     }
 
     fn raise_run(line: &mut [i128], below: &[i128], worth: i128) {
@@ -51,8 +90,22 @@ impl Amount for i64 {
 
     ghost most = { 2 ^ 61 };
 
+    fn narrowed(wide: i128) -> i64 {
+        wide as i64
+    }
+
+    fn wide(amount: i64) -> i128 {
+        amount as i128
+    }
+
     fn is_at_least(entry: i64, worth: i64, below: i64) -> bool {
         worth + below <= entry
+    }
+
+    fn add_to_each(line: &mut [i64], amount: i64) {
+        for place in 0..line.len() {
+            line[place] += amount;
+        }
     }
 
     fn raise_run(line: &mut [i64], below: &[i64], worth: i64) {

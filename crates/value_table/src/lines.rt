@@ -1,112 +1,121 @@
 // The lines of a table, from the last to the first. Line `k` has at each place the greatest sum that the bidders after `k`
 // count with what the place leaves.
-ghost use Rattle.std.specs.Prelude.{◌≡◌, ℕ, suc, ◌-◌, ◌^◌, ◌≤◌, ◌<◌, length, IfOk, slice_index_or, pos, ◌+ℤ◌, unsigned_abs, map};
+ghost use Rattle.std.specs.Prelude.{◌≡◌, ℕ, suc, ◌-◌, ◌^◌, ◌≤◌, ◌<◌, [], length, IfOk, slice_index_or, pos, ◌+ℤ◌, unsigned_abs, map};
 ghost use Rattle.choices.specs.auction_model.specs.Table.{IsEntry};
 ghost use Rattle.choices.specs.limits.specs.declared.TheConstants.{MOST_STATES};
-ghost use Rattle.value_table.specs.Counted.{counted_bids, counted, IsCountedLine, AreCountedLines, IsCountedTable, IsWholeTable};
+ghost use Rattle.value_table.specs.Counted.{counted_bids, counted, IsWithin, IsCountedLine, AreCountedLines, IsCountedTable, IsWholeTable};
 
+use crate::amount::Amount;
 use crate::lowering::Lowering;
-use crate::narrow::count_narrow;
+use crate::narrow::{narrow_into, narrowed, widen_into, widened};
 use crate::runs::add_bid;
 use choices::Grid;
 use choices::wide_num::NumList;
 use std::alloc::{AllocError, Global};
 
-/// A line with an idle worth added to each entry.
-fn idle_line(alloc: Global, below: &[i128], idle: i128) -> Result<Vec<i128>, AllocError>
-    requires idle { unsigned_abs idle ≤ 2 ^ 120 }
-    requires sizes { (s : ℕ) → unsigned_abs (slice_index_or below.now s (pos 0)) ≤ 2 ^ 120 }
-    ensures places { IfOk result (λ v. length v.items ≡ length below.now) }
-    ensures entries { IfOk result
-        (λ v. (s : ℕ) → s < length below.now
-        → slice_index_or v.items s (pos 0) ≡ slice_index_or below.now s (pos 0) +ℤ idle) }
-{
-    let mut line = Vec::from_slice(alloc, below)?;
-    add_to_each(&mut line, idle);
-    Ok(line)
-}
-
-fn add_to_each(line: &mut [i128], idle: i128)
-    requires idle { unsigned_abs idle ≤ 2 ^ 120 }
-    requires sizes { (s : ℕ) → unsigned_abs (slice_index_or line.old s (pos 0)) ≤ 2 ^ 120 }
+/// Adds what bidder `j` counts where it isn't used to each number of line `j`.
+fn add_idle<A: Amount>(lowering: &Lowering, j: u16, line: &mut [A])
+    requires range { IsWithin lowering.now A.most }
+    requires bidder { (0 < j) × (j ≤ length lowering.now.book.now.bidders) }
+    requires line { IsCountedLine lowering.now j (map A.number line.old) }
     ensures { (s : ℕ) → s < length line.old
-        → slice_index_or line.new s (pos 0) ≡ slice_index_or line.old s (pos 0) +ℤ idle }
+        → slice_index_or (map A.number line.new) s (pos 0)
+        ≡ slice_index_or (map A.number line.old) s (pos 0) +ℤ counted lowering.now j 0 }
 {
-    for place in 0..line.len() {
-        line[place] += idle;
+    let idle = lowering.idle(j);
+    if idle == 0 {
+        return;
     }
+    A::add_to_each(line, A::narrowed(idle));
 }
 
 /// Counts all bids of bidder `j` in a line that counts none.
-fn count_bids(lowering: &Lowering, j: u16, line: &mut [i128], below: &[i128])
+fn count_bids<A: Amount>(lowering: &Lowering, j: u16, line: &mut [A], below: &[A])
+    requires range { IsWithin lowering.now A.most }
     requires bidder { (0 < j) × (j ≤ length lowering.now.book.now.bidders) }
-    requires below { IsCountedLine lowering.now j below.now }
+    requires below { IsCountedLine lowering.now j (map A.number below.now) }
     requires places { length line.old ≡ length below.now }
     requires line { (s : ℕ) → s < length below.now
-        → slice_index_or line.old s (pos 0) ≡ slice_index_or below.now s (pos 0) +ℤ counted lowering.now j 0 }
-    ensures { IsCountedLine lowering.now (j - 1) line.new }
+        → slice_index_or (map A.number line.old) s (pos 0)
+        ≡ slice_index_or (map A.number below.now) s (pos 0) +ℤ counted lowering.now j 0 }
+    ensures { IsCountedLine lowering.now (j - 1) (map A.number line.new) }
 {
     for i in 0..lowering.bids(j) {
         if lowering.is_needless(j, i + 1) {
             continue;
         }
-        let worth = lowering.worth(j, i + 1);
+        let worth = A::narrowed(lowering.worth(j, i + 1));
         let bid = lowering.bid(j, i + 1);
         add_bid(lowering.book.supply(), line, below, &bid.package, worth);
     }
 }
 
 /// Makes `line` line `j - 1`, from line `j`. It takes no memory.
-pub fn put_line(lowering: &Lowering, j: u16, below: &[i128], line: &mut [i128])
+pub fn put_line<A: Amount>(lowering: &Lowering, j: u16, below: &[A], line: &mut [A])
+    requires range { IsWithin lowering.now A.most }
     requires bidder { (0 < j) × (j ≤ length lowering.now.book.now.bidders) }
-    requires below { IsCountedLine lowering.now j below.now }
+    requires below { IsCountedLine lowering.now j (map A.number below.now) }
     requires places { length line.old ≡ length below.now }
-    ensures { IsCountedLine lowering.now (j - 1) line.new }
+    ensures { IsCountedLine lowering.now (j - 1) (map A.number line.new) }
 {
     line.copy_from_slice(below);
-    add_to_each(line, lowering.idle(j));
+    add_idle(lowering, j, line);
     count_bids(lowering, j, line, below);
 }
 
-/// Line `j - 1`, from line `j`.
-fn next_line(
-    alloc: Global,
+/// The same where bids count their net amounts, worked out in 64 bits in two lists of room.
+pub fn put_narrow_line(
     lowering: &Lowering,
     j: u16,
     below: &[i128],
-) -> Result<Vec<i128>, AllocError>
+    line: &mut [i128],
+    below_room: &mut [i64],
+    line_room: &mut [i64],
+)
     requires bidder { (0 < j) × (j ≤ length lowering.now.book.now.bidders) }
+    requires den { lowering.now.den ≡ pos 1 }
+    requires zeros { (k : ℕ) → slice_index_or lowering.now.surplus.now k (pos 0) ≡ pos 0 }
     requires below { IsCountedLine lowering.now j below.now }
-    ensures { IfOk result (λ v. IsCountedLine lowering.now (j - 1) v.items) }
+    requires places { length line.old ≡ length below.now }
+    requires below_room { length below_room.old ≡ length below.now }
+    requires line_room { length line_room.old ≡ length below.now }
+    ensures { IsCountedLine lowering.now (j - 1) line.new }
 {
-    let mut line = idle_line(alloc, below, lowering.idle(j))?;
-    if lowering.is_narrow() {
-        let counted = count_narrow(alloc, lowering, j, &line, below)?;
-        return Ok(counted);
-    }
-    count_bids(lowering, j, &mut line, below);
+    lowering.book.kept();
+    narrow_into(below_room, below);
+    put_line(lowering, j, below_room, line_room);
+    widen_into(line, line_room);
+}
+
+/// Line `j - 1`, from line `j`.
+fn next_line<A: Amount>(
+    alloc: Global,
+    lowering: &Lowering,
+    j: u16,
+    below: &[A],
+) -> Result<Vec<A>, AllocError>
+    requires range { IsWithin lowering.now A.most }
+    requires bidder { (0 < j) × (j ≤ length lowering.now.book.now.bidders) }
+    requires below { IsCountedLine lowering.now j (map A.number below.now) }
+    ensures { IfOk result (λ v. IsCountedLine lowering.now (j - 1) (map A.number v.items)) }
+{
+    let mut line = Vec::from_slice(alloc, below)?;
+    put_line(lowering, j, below, &mut line);
     Ok(line)
 }
 
-/// The line of no bidder.
-fn last_line(alloc: Global, states: usize) -> Result<Vec<i128>, AllocError>
-    requires { states ≤ MOST_STATES }
-    ensures places { IfOk result (λ v. length v.items ≡ states) }
-    ensures zeros { IfOk result (λ v. (s : ℕ) → s < states → slice_index_or v.items s (pos 0) ≡ pos 0) }
-{
-    vec![in alloc; 0i128; states]
-}
-
 /// The lines from line 0 to line `top`, which is given.
-fn lines_down(
+pub fn lines_down<A: Amount>(
     alloc: Global,
     lowering: &Lowering,
     top: usize,
-    first: Vec<i128>,
-) -> Result<Vec<Vec<i128>>, AllocError>
+    first: Vec<A>,
+) -> Result<Vec<Vec<A>>, AllocError>
+    requires range { IsWithin lowering.now A.most }
     requires top { top ≤ length lowering.now.book.now.bidders }
-    requires first { IsCountedLine lowering.now top first.items }
-    ensures { IfOk result (λ v. AreCountedLines lowering.now (suc top) 0 (map (λ l. l.items) v.items)) }
+    requires first { IsCountedLine lowering.now top (map A.number first.items) }
+    ensures { IfOk result
+        (λ v. AreCountedLines lowering.now (suc top) 0 (map (λ l. map A.number l.items) v.items)) }
 {
     lowering.book.kept();
     let mut lines = Vec::new(alloc);
@@ -119,30 +128,87 @@ fn lines_down(
 }
 
 /// The grid of the lines.
-fn grid_of(
+fn grid_of<A: Amount>(
     alloc: Global,
     lowering: &Lowering,
     last: usize,
-    lines: Vec<Vec<i128>>,
+    lines: Vec<Vec<A>>,
 ) -> Result<Grid, AllocError>
-    requires { AreCountedLines lowering.now last 0 (map (λ l. l.items) lines.items) }
+    requires { AreCountedLines lowering.now last 0 (map (λ l. map A.number l.items) lines.items) }
     ensures { IfOk result (λ g. AreCountedLines lowering.now last 0 g) }
 {
+    lowering.book.kept();
     let mut grid = Grid::new(alloc);
     for line in lines {
-        grid.push_line(NumList::from_vec(line))?;
+        let wide = widened(alloc, &line)?;
+        grid.push_line(NumList::from_vec(wide))?;
     }
     Ok(grid)
+}
+
+/// The grid of the lines from line 0 to line `top`, which is given.
+fn grid_down<A: Amount>(
+    alloc: Global,
+    lowering: &Lowering,
+    top: usize,
+    first: Vec<A>,
+) -> Result<Grid, AllocError>
+    requires range { IsWithin lowering.now A.most }
+    requires top { top ≤ length lowering.now.book.now.bidders }
+    requires first { IsCountedLine lowering.now top (map A.number first.items) }
+    ensures { IfOk result (λ g. AreCountedLines lowering.now (suc top) 0 g) }
+{
+    lowering.book.kept();
+    let lines = lines_down(alloc, lowering, top, first)?;
+    let grid = grid_of(alloc, lowering, top + 1, lines)?;
+    Ok(grid)
+}
+
+/// The lines from line 0 to line `top`, of which `first` has the numbers: worked out in 64 bits where no sum is larger.
+fn lines_to(
+    alloc: Global,
+    lowering: &Lowering,
+    top: usize,
+    first: &[i128],
+) -> Result<Grid, AllocError>
+    requires top { top ≤ length lowering.now.book.now.bidders }
+    requires first { IsCountedLine lowering.now top first.now }
+    ensures { IfOk result (λ g. AreCountedLines lowering.now (suc top) 0 g) }
+{
+    lowering.book.kept();
+    if lowering.is_narrow() {
+        let narrow = narrowed(alloc, first)?;
+        let grid = grid_down(alloc, lowering, top, narrow)?;
+        return Ok(grid);
+    }
+    let wide = Vec::from_slice(alloc, first)?;
+    let grid = grid_down(alloc, lowering, top, wide)?;
+    Ok(grid)
+}
+
+/// So many zeros.
+fn zero_line(alloc: Global, states: usize) -> Result<Vec<i128>, AllocError>
+    requires { states ≤ MOST_STATES }
+    ensures places { IfOk result (λ v. length v.items ≡ states) }
+    ensures zeros { IfOk result (λ v. (s : ℕ) → s < states → slice_index_or v.items s (pos 0) ≡ pos 0) }
+{
+    vec![in alloc; 0i128; states]
+}
+
+/// The line of no bidder.
+fn last_line(alloc: Global, lowering: &Lowering) -> Result<Vec<i128>, AllocError>
+    ensures { IfOk result (λ v. IsCountedLine lowering.now (length lowering.now.book.now.bidders) v.items) }
+{
+    let line = zero_line(alloc, lowering.book.supply().states())?;
+    Ok(line)
 }
 
 /// The exact table.
 pub fn all_lines(alloc: Global, lowering: &Lowering) -> Result<Grid, AllocError>
     ensures { IfOk result (λ g. IsCountedTable lowering.now g) }
 {
-    let last = last_line(alloc, lowering.book.supply().states())?;
-    let top = lowering.book.bidders();
-    let lines = lines_down(alloc, lowering, top, last)?;
-    let grid = grid_of(alloc, lowering, top + 1, lines)?;
+    let last = last_line(alloc, lowering)?;
+    let grid = lines_to(alloc, lowering, lowering.book.bidders(), &last)?;
     Ok(grid)
 }
 
@@ -154,11 +220,8 @@ pub fn lines_without(alloc: Global, lowering: &Lowering, whole: &Grid) -> Result
     requires whole { IsWholeTable lowering.now whole.now }
     ensures { IfOk result (λ g. IsCountedTable lowering.now g) }
 {
-    lowering.book.kept();
     let skip = lowering.skip as usize;
-    let first = Vec::from_slice(alloc, whole.line(skip))?;
-    let lines = lines_down(alloc, lowering, skip - 1, first)?;
-    let mut grid = grid_of(alloc, lowering, skip, lines)?;
+    let mut grid = lines_to(alloc, lowering, skip - 1, whole.line(skip))?;
     for k in skip..whole.lines() {
         grid.push_shared(whole, k)?;
     }

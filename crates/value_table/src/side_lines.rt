@@ -8,9 +8,8 @@ ghost use Rattle.value_table.specs.SideLines.{IsLeftLine, IsRightLine};
 ghost use Rattle.value_table.specs.SideValues.{IsRightEntry};
 ghost use Rattle.value_table.specs.Turned.{in_order, worths_in_order};
 
-use crate::lines::put_line;
+use crate::lines::{put_line, put_narrow_line};
 use crate::lowering::Lowering;
-use crate::narrow::put_narrow_line;
 use crate::tracing::first_number;
 use choices::bid_book::BidBook;
 use choices::limits::MOST_BIDDERS;

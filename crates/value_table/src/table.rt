@@ -6,15 +6,16 @@ ghost use Rattle.choices.specs.auction_model.specs.Greatest.{IsFirstGreatest, Is
 ghost use Rattle.choices.specs.auction_model.specs.Book.{net_of, market_of};
 ghost use Rattle.choices.specs.auction_model.specs.Lowered.{lowered};
 ghost use Rattle.choices.specs.auction_model.specs.Table.{entry_at, IsEntry};
-ghost use Rattle.choices.specs.limits.specs.declared.TheConstants.{MOST_BIDDERS};
+ghost use Rattle.choices.specs.limits.specs.declared.TheConstants.{MOST_BIDDERS, MOST_STATES};
+ghost use Rattle.value_table.specs.Counted.{counted_bids, counted, IsCountedLine};
 ghost use Rattle.value_table.specs.BookTable.{menu_without, IsInRange};
 ghost use Rattle.value_table.specs.TableValue.{IsTableOf, IsPlain, IsPlainWithout};
 
-use crate::lines::{all_lines, last_entry, lines_without};
+use crate::lines::{all_lines, last_entry, lines_down, lines_without};
 use crate::lowering::Lowering;
-use crate::tracing::trace_lines;
+use crate::tracing::{trace_lines, trace_slices};
 use choices::bid_book::BidBook;
-use choices::{Choice, Grid};
+use choices::{Choice, Grid, Numbers};
 use std::alloc::{AllocError, Global};
 use std::marker::Model;
 
@@ -149,6 +150,7 @@ impl ValueTable {
     }
 }
 
+/// As many surpluses of 0.
 pub fn zeros(alloc: Global, count: usize) -> Result<Vec<i128>, AllocError>
     requires { count ≤ MOST_BIDDERS }
     ensures count { IfOk result (λ v. length v.items ≡ count) }
@@ -174,7 +176,47 @@ pub fn plain_table(alloc: Global, book: &BidBook) -> Result<ValueTable, AllocErr
 pub fn win(alloc: Global, book: &BidBook) -> Result<Choice, AllocError>
     ensures { IfOk result (λ c. IsWinning (market_of book.now) c) }
 {
-    let table = plain_table(alloc, book)?;
-    let choice = table.trace(alloc, book)?;
-    Ok(choice)
+    book.kept();
+    let surplus = zeros(alloc, book.bidders())?;
+    let lowering = Lowering {
+        book,
+        turned: false,
+        skip: 0,
+        den: 1,
+        surplus: &surplus,
+    };
+    let numbers = narrow_choice(alloc, &lowering)?;
+    Ok(Choice::new(numbers))
+}
+
+/// The first of the greatest choices where no bidder has a surplus, by lines of 64 bits.
+fn narrow_choice(alloc: Global, lowering: &Lowering) -> Result<Numbers, AllocError>
+    requires den { lowering.now.den ≡ pos 1 }
+    requires zeros { (k : ℕ) → slice_index_or lowering.now.surplus.now k (pos 0) ≡ pos 0 }
+    ensures { IfOk result
+        (λ v. IsFirstGreatest (fits_after (counted_bids lowering.now) 0 lowering.now.book.now.supply)
+        (sum_after (counted lowering.now) 0) v) }
+{
+    lowering.book.kept();
+    let last = last_narrow_line(alloc, lowering)?;
+    let lines = lines_down(alloc, lowering, lowering.book.bidders(), last)?;
+    let numbers = trace_slices(alloc, lowering, &lines)?;
+    Ok(numbers)
+}
+
+/// The line of no bidder in 64 bits.
+fn last_narrow_line(alloc: Global, lowering: &Lowering) -> Result<Vec<i64>, AllocError>
+    ensures { IfOk result (λ v. IsCountedLine lowering.now (length lowering.now.book.now.bidders) v.items) }
+{
+    let line = zero_narrow_line(alloc, lowering.book.supply().states())?;
+    Ok(line)
+}
+
+/// So many zeros of 64 bits.
+fn zero_narrow_line(alloc: Global, states: usize) -> Result<Vec<i64>, AllocError>
+    requires { states ≤ MOST_STATES }
+    ensures places { IfOk result (λ v. length v.items ≡ states) }
+    ensures zeros { IfOk result (λ v. (s : ℕ) → s < states → slice_index_or v.items s (pos 0) ≡ pos 0) }
+{
+    vec![in alloc; 0i64; states]
 }

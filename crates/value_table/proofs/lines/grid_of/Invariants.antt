@@ -4,8 +4,10 @@ use Rattle.value_table.proofs.TableLines.{entries}
 use Rattle.value_table.proofs.lines.grid_of.Given as goal
 
 abbrev pub invariant-loop-line : goal.invariant-loop-line
-invariant-loop-line l = record {
-  made : l.grid ≡ map entries l.yielded;
-  done : AreCountedLines l.lowering (length l.grid) 0 l.grid;
-  rest : AreCountedLines l.lowering l.last (length l.grid) (map entries l.line-iterator.rest.items);
-}
+invariant-loop-line g l =
+    let entries_of = entries g.A.Amount.number in
+    record {
+      made : l.grid ≡ map entries_of l.yielded;
+      done : AreCountedLines l.lowering (length l.grid) 0 l.grid;
+      rest : AreCountedLines l.lowering l.last (length l.grid) (map entries_of l.line-iterator.rest.items);
+    }

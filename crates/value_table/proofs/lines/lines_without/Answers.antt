@@ -1,4 +1,4 @@
-use Rattle.std.proofs.Common.{◌≡◌, ◌∙◌, ◌≤◌, ◌+◌, ◌++◌, [], ◌∷◌, sym, subst, refl, arith, get_or, suc}
+use Rattle.std.proofs.Common.{◌≡◌, ◌≤◌, ◌+◌, ◌-◌, ◌++◌, [], ◌∷◌, sym, subst, refl, arith, get_or, suc}
 use Rattle.choices.specs.auction_model.specs.Book.{menu_of}
 use Rattle.choices.specs.auction_model.specs.Table.{IsLine, AreLinesTo}
 use Rattle.choices.specs.auction_model.proofs.LinesLaws.{lines-more, table-from_lines}
@@ -7,15 +7,21 @@ use Rattle.value_table.specs.Turned.{in_order}
 use Rattle.value_table.specs.Counted.{counted_bids, counted}
 use Rattle.value_table.proofs.lines.lines_without.Goals as goal
 
-pub lines_down-requires-clause-first : goal.lines_down-requires-clause-first
-lines_down-requires-clause-first c =
+pub lines_to-requires-clause-first : goal.lines_to-requires-clause-first
+lines_to-requires-clause-first c =
     let l = c.args.lowering.now in
     let j = l.skip in
     let line = get_or c.args.whole.now j [] in
-    let is : c.in_ok-first.first.items ≡ line = c.in_ok-first.ensures.items ∙ c.line.ensures.line in
     let own : IsLine (counted_bids l) (counted l) l.book.now.supply j line =
     line-past_skip (in_order l.turned (menu_of l.book.now)) (counted l) l.book.now.supply j j line (omega arith) (c.requires.whole.exact j c.requires.bidder.1) in
-    rw is (line-at_skip (in_order l.turned (menu_of l.book.now)) (counted l) l.book.now.supply j line c.requires.bidder.0 c.requires.bidder.1 refl c.requires.idle own)
+    rw c.line.ensures.line (line-at_skip (in_order l.turned (menu_of l.book.now)) (counted l) l.book.now.supply j line c.requires.bidder.0
+    c.requires.bidder.1 refl c.requires.idle own)
+
+pub loop-k-init : goal.loop-k-init
+loop-k-init c =
+    let l = c.args.lowering.now in
+    let up : suc (l.skip - 1) ≡ l.skip = omega (arith, c.requires.bidder.0) in
+    rw up at c.in_ok-grid.ensures
 
 pub loop-k-preserved : goal.loop-k-preserved
 loop-k-preserved c =

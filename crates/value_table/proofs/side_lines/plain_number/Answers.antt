@@ -1,5 +1,10 @@
-use Rattle.std.proofs.Common.{◌-◌, false, refl, rules}
+use Rattle.std.proofs.Common.{◌-◌, List, ℤ, pos, false, refl, sym, subst, rules}
 use Rattle.std.proofs.lemmas.Int.{to_z-of_z}
+use Rattle.std.proofs.lemmas.List.{map-id}
+use Rattle.choices.specs.auction_model.specs.Lowered.{lowered}
+use Rattle.choices.specs.auction_model.specs.Menu.{without}
+use Rattle.choices.specs.auction_model.specs.Steps.{IsFirstNumber}
+use Rattle.choices.specs.auction_model.specs.Table.{IsLine}
 use Rattle.choices.specs.auction_model.specs.Book.{menu_of, net_of}
 use Rattle.choices.specs.auction_model.specs.Place.{left_at}
 use Rattle.value_table.proofs.LineLaws.{entry-lowered, line-lowered, number-plain, zeros-range}
@@ -22,11 +27,14 @@ first_number-requires-clause-here c =
 pub first_number-requires-clause-below : goal.first_number-requires-clause-below
 first_number-requires-clause-below c =
     let book = c.args.book.now in
-    line-lowered (menu_of book) (net_of book) c.args.surplus.now (λ j. refl) c.requires.zeros book.supply c.args.k c.args.after.now c.requires.after
+    subst (IsLine (without (menu_of book) 0) (lowered (pos 1) (net_of book) c.args.surplus.now) book.supply c.args.k) (sym (map-id c.args.after.now))
+    (line-lowered (menu_of book) (net_of book) c.args.surplus.now (λ j. refl) c.requires.zeros book.supply c.args.k c.args.after.now c.requires.after)
 
 pub returns-clause-first : goal.returns-clause-first
 returns-clause-first c =
     let book = c.args.book.now in
     let fits : SFits w128 c.args.entry = search rules in
     number-plain (menu_of book) (net_of book) c.args.surplus.now (λ j. refl) c.requires.zeros book.supply c.args.k c.args.place c.args.entry c.args.after.now c.first_number.result c.requires.bidder.0
-    (rw (to_z-of_z w128 c.args.entry fits) at c.first_number.ensures.first)
+    (subst (λ (b : List ℤ). IsFirstNumber (without (menu_of book) 0) (lowered (pos 1) (net_of book) c.args.surplus.now) book.supply c.args.k
+    c.args.place c.args.entry b
+    c.first_number.result) (map-id c.args.after.now) (rw (to_z-of_z w128 c.args.entry fits) at c.first_number.ensures.first))

@@ -1,0 +1,27 @@
+use Rattle.std.proofs.Common.{sym, subst, arith, ◌∙◌, ◌^◌}
+use Rattle.std.proofs.lemmas.List.{map-id}
+use Rattle.value_table.specs.Counted.{IsCountedLine}
+use Rattle.value_table.proofs.Sizes.{line-within}
+use Rattle.value_table.proofs.lines.lines_to.Goals as goal
+
+pub narrowed-requires : goal.narrowed-requires
+narrowed-requires c =
+    let l = c.args.lowering.now in
+    record {
+      few = omega (arith, c.requires.first.places, c.kept.ensures.supply.states);
+      sizes = λ s. omega (arith, line-within l (2 ^ 61) (c.is_narrow.ensures c.if-is_narrow.true) c.args.top c.args.first.now c.requires.first s);
+    }
+
+pub grid_down-requires-clause-first : goal.grid_down-requires-clause-first
+grid_down-requires-clause-first c =
+    subst (IsCountedLine c.args.lowering.now c.args.top) (sym (map-id c.in_ok-narrow.narrow.items ∙ c.in_ok-narrow.ensures)) c.requires.first
+
+pub grid_down-requires-2-clause-first : goal.grid_down-requires-2-clause-first
+grid_down-requires-2-clause-first c =
+    subst (IsCountedLine c.args.lowering.now c.args.top) (sym (map-id c.in_ok-wide.wide.items ∙ c.in_ok-wide.ensures.items)) c.requires.first
+
+pub grid_down-requires-2-clause-range : goal.grid_down-requires-2-clause-range
+grid_down-requires-2-clause-range c = c.args.lowering.now.range
+
+pub grid_down-requires-clause-range : goal.grid_down-requires-clause-range
+grid_down-requires-clause-range c = c.is_narrow.ensures c.if-is_narrow.true

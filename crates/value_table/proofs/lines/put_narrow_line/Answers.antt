@@ -1,0 +1,21 @@
+use Rattle.std.proofs.Common.{◌∙◌, ◌-◌, ◌^◌, sym, subst, arith}
+use Rattle.std.proofs.lemmas.List.{map-id}
+use Rattle.value_table.specs.Counted.{IsCountedLine}
+use Rattle.value_table.proofs.NarrowLaws.{plain-narrow}
+use Rattle.value_table.proofs.Sizes.{line-within}
+use Rattle.value_table.proofs.lines.put_narrow_line.Goals as goal
+
+pub narrow_into-requires-clause-sizes : goal.narrow_into-requires-clause-sizes
+narrow_into-requires-clause-sizes c = λ s.
+    let l = c.args.lowering.now in
+    omega (arith, line-within l (2 ^ 61) (plain-narrow l c.kept.ensures c.requires.den c.requires.zeros) c.args.j c.args.below.now c.requires.below s)
+
+pub put_line-requires-clause-range : goal.put_line-requires-clause-range
+put_line-requires-clause-range c = plain-narrow c.args.lowering.now c.kept.ensures c.requires.den c.requires.zeros
+
+pub put_line-requires-clause-below : goal.put_line-requires-clause-below
+put_line-requires-clause-below c =
+    subst (IsCountedLine c.args.lowering.now c.args.j) (sym (map-id c.narrow_into.new.numbers ∙ c.narrow_into.ensures)) c.requires.below
+
+pub returns : goal.returns
+returns c = subst (IsCountedLine c.args.lowering.now (c.args.j - 1)) (sym c.widen_into.ensures) c.put_line.ensures
