@@ -13,4 +13,4 @@ returns c =
     c.first_test.ensures cert c.requires.claim
     (subst (λ (l : List CertRow). AreFirsts (map row_value l) c.put_multipliers.new.numbers) c.items-rows.ensures c.put_multipliers.ensures)
     (subst (λ (l : List CertRow). AreFirstSums (bidders_of a.book.now) (map row_value l) c.put_sums.new.sums) c.items-rows.ensures
-    (λ j some inside. c.put_sums.ensures.sums j some (omega (arith, inside, c.kept.ensures.bidders))))
+    (λ j some inside. c.put_sums.ensures.sums j some (omega (arith, inside, c.bidders-bidders.ensures.bidders, c.bidders-bidders.ensures.most))))

@@ -21,7 +21,7 @@ put_values-requires-clause-parts c = λ j some inside wins.
 pub second_test-requires-clause-values : goal.second_test-requires-clause-values
 second_test-requires-clause-values c =
     let a = c.args.claim.now in
-    values-range a c.kept.ensures (map without_value c.items-parts.result.now) c.put_values.new.values
+    values-range a c.bidders-bidders.ensures.kept (map without_value c.items-parts.result.now) c.put_values.new.values
     (λ j some inside wins.
     let used = subst (λ (l : List ℕ). IsTrue (uses l j)) (sym c.requires.claim.choice_is) wins in
     subst (λ (l : List WithoutPart). IsPart a.book.now j (part_of (map without_value l) j)) (sym c.items-parts.ensures) ((c.requires.parts j).part some inside used))
@@ -37,4 +37,4 @@ returns c =
     (subst (λ (l : List CertRow). AreFirsts (map row_value l) c.put_multipliers.new.numbers) c.items-rows.ensures c.put_multipliers.ensures)
     (subst (λ (l : List CertRow). AreSeconds (map row_value l) c.put_multipliers-2.new.numbers) c.items-rows.ensures c.put_multipliers-2.ensures)
     (subst (λ (l : List CertRow). AreSecondSums (bidders_of a.book.now) (map row_value l) c.put_sums.new.sums) c.items-rows.ensures
-    (λ j some inside. c.put_sums.ensures.sums j some (omega (arith, inside, c.kept.ensures.bidders))))
+    (λ j some inside. c.put_sums.ensures.sums j some (omega (arith, inside, c.bidders-bidders.ensures.bidders, c.bidders-bidders.ensures.most))))
