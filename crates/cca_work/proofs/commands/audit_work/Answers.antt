@@ -1,4 +1,4 @@
-use Rattle.std.proofs.Common.{refl, sym, ap, subst, ◌∙◌, arith, [], ◌∷◌, Err, rules}
+use Rattle.std.proofs.Common.{refl, sym, ap, subst, ◌∙◌, arith, ℕ, Bool, IsTrue, List, [], ◌∷◌, Err, rules}
 use Rattle.std.proofs.lemmas.Result.{err_from_is_err_and}
 use Rattle.cca_inputs.specs.Command.{audit}
 use Rattle.cca_inputs.specs.declared.status.FileKind.TheVariants.{Award, Log}
@@ -18,6 +18,11 @@ returns-in_err-weights g c =
     let stopped = no-memory command old new _ _ (c.in_ok-book.ensures.audit c.args.cert.now) in
     let is = err_from_is_err_and c.from_residual-in_err-weights.result c.from_residual-in_err-weights.ensures.1 in
     subst (Works command old new) (sym (is.1 ∙ ap (λ (s : Stop). Err s) is.2)) stopped
+
+pub checked-requires-clause-known : goal.checked-requires-clause-known
+checked-requires-clause-known g c =
+    let at = c.in_ok-book.ensures.audit c.args.cert.now in
+    subst (λ (k : List ℕ → Bool). IsTrue (k c.args.cert.now)) (sym at.reads.kept.knows) c.requires.cert
 
 pub returns : goal.returns
 returns g c =
