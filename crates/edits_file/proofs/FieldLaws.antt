@@ -9,6 +9,7 @@ use Rattle.review.specs.auction_model.specs.Book.{Book}
 use Rattle.review.specs.book_form.specs.BookForm.{IsName}
 use Rattle.review.specs.book_form.proofs.NameLaws.{name_own}
 use Rattle.review.specs.book_form.proofs.TextLaws.{numbers-push}
+use Rattle.review.specs.limits.specs.declared.TheConstants.{MOST_STATED_AMOUNT, MOST_STATED_COUNT}
 use Rattle.review.specs.line_text.proofs.DecimalFields.{NoSpace, number_own, one_field}
 use Rattle.review.specs.line_text.specs.Decimals.{decimals_text}
 use Rattle.review.specs.line_text.specs.Fields.{FieldEnds}
@@ -17,7 +18,7 @@ use Rattle.edits_file.specs.Stages.{BeginsWithCounts, BeginsWithNumber, IsHead, 
 
 -- counts that a line may state
 abbrev pub AreLow : List ℕ → Type 0
-AreLow lots = AllByRecursion (λ n. n ≤ 65535) lots
+AreLow lots = AllByRecursion (λ n. n ≤ MOST_STATED_COUNT) lots
 
 -- numbers behind spaces end the field before them
 pub ends_front : (ns rest : List ℕ) → FieldEnds rest → FieldEnds (decimals_text ns ++ rest)
@@ -68,7 +69,8 @@ no_name text front back parted own ends none name rest is_name stops is =
     none (subst IsName (sym parts.0) is_name)
 
 -- one count more
-pub counts_more : (k n : ℕ) (text had rest more : List ℕ) → BeginsWithCounts k text had rest → BeginsWithNumber 65535 rest n more → BeginsWithCounts (k + 1) text (had ++ n ∷ []) more
+pub counts_more : (k n : ℕ) (text had rest more : List ℕ) → BeginsWithCounts k text had rest → BeginsWithNumber MOST_STATED_COUNT rest n more
+    → BeginsWithCounts (k + 1) text (had ++ n ∷ []) more
 counts_more k n text had rest more are is = record {
   count = omega (arith, are.count, length-append had (n ∷ []));
   each = each-push _ had n are.each is.low;
@@ -78,7 +80,7 @@ counts_more k n text had rest more are is = record {
 
 -- behind the first counts of a text stands the next
 next_of : (had lots rest other : List ℕ) → length had < length lots → AreLow had → AreLow lots → FieldEnds rest → FieldEnds other → decimals_text had ++ rest ≡ decimals_text lots ++ other
-    → (n : ℕ) × (more : List ℕ) × BeginsWithNumber 65535 rest n more
+    → (n : ℕ) × (more : List ℕ) × BeginsWithNumber MOST_STATED_COUNT rest n more
 next_of had [] rest other lt lh ll er eo is = absurd (omega arith)
 next_of [] (n ∷ lots) rest other lt lh ll er eo is =
     (n, decimals_text lots ++ other, record { low = ll.0; spelled = is ∙ first_of n lots other; ends = ends_front lots other eo })
@@ -87,7 +89,8 @@ next_of (m ∷ had) (n ∷ lots) rest other lt lh ll er eo is =
     next_of had lots rest other (omega (arith, lt)) lh.1 ll.1 er eo first.1
 
 -- where no count follows the first ones, there are no more
-pub counts_stop : (k categories : ℕ) (text had rest : List ℕ) → k < categories → BeginsWithCounts k text had rest → ((n : ℕ) (more : List ℕ) → BeginsWithNumber 65535 rest n more → ⊥)
+pub counts_stop : (k categories : ℕ) (text had rest : List ℕ) → k < categories → BeginsWithCounts k text had rest
+    → ((n : ℕ) (more : List ℕ) → BeginsWithNumber MOST_STATED_COUNT rest n more → ⊥)
     → (lots other : List ℕ) → BeginsWithCounts categories text lots other → ⊥
 counts_stop k categories text had rest lt are none lots other all =
     let a = are.count in
@@ -129,14 +132,16 @@ package_head book fields bidder lots is = record {
 }
 
 -- where the rest behind the counts is no amount, the fields are no bid
-pub no_bid : (book : Book) (fields : List ℕ) (j : ℕ) (q rest : List ℕ) → IsHead book fields j q rest → ((n : ℕ) → BeginsWithNumber 1000000000000000000 rest n [] → ⊥)
+pub no_bid : (book : Book) (fields : List ℕ) (j : ℕ) (q rest : List ℕ) → IsHead book fields j q rest
+    → ((n : ℕ) → BeginsWithNumber MOST_STATED_AMOUNT rest n [] → ⊥)
     → (bidder : ℕ) (lots : List ℕ) (amount : ℕ) → StatesBid book fields bidder lots amount → ⊥
 no_bid book fields j q rest head none bidder lots amount is =
     let one = rest_one book fields j bidder q lots rest (32 ∷ decimal amount) head (bid_head book fields bidder lots amount is) in
     none amount (record { low = is.top; spelled = one.1 ∙ sym (append-nil (32 ∷ decimal amount)); ends = tt })
 
 -- where the rest behind the counts is an amount, the fields are a bid
-pub made_bid : (book : Book) (fields : List ℕ) (bidder : ℕ) (lots rest : List ℕ) (amount : ℕ) → IsHead book fields bidder lots rest → BeginsWithNumber 1000000000000000000 rest amount [] → StatesBid book fields bidder lots amount
+pub made_bid : (book : Book) (fields : List ℕ) (bidder : ℕ) (lots rest : List ℕ) (amount : ℕ) → IsHead book fields bidder lots rest
+    → BeginsWithNumber MOST_STATED_AMOUNT rest amount [] → StatesBid book fields bidder lots amount
 made_bid book fields bidder lots rest amount head is = record {
   name = head.name;
   named = head.named;

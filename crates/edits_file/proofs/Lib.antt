@@ -1,4 +1,3 @@
 mod FieldLaws
 mod LineLaws
 mod Reading
-mod StopLaws

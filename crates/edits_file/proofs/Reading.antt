@@ -8,8 +8,8 @@ use Rattle.review.specs.auction_model.proofs.ListLaws.{each-push}
 use Rattle.review.specs.auction_model.specs.Book.{Book}
 use Rattle.review.specs.book_form.specs.BookLines.{Excess, Line}
 use Rattle.review.specs.limits.specs.declared.LimitKind.TheVariants.{Records}
-use Rattle.review.specs.line_text.specs.Reading.{Runs}
-use Rattle.review.specs.line_text.proofs.Runs.{Reads, runs_append}
+use Rattle.review.specs.line_text.specs.Reading.{Runs, SoFar, HaltsAt, ExceedsFirst}
+use Rattle.review.specs.line_text.proofs.Runs.{FrontOf, Reads, front_reached, runs_append}
 use Rattle.review.specs.Edits.{edit_lots}
 use Rattle.review.specs.declared.edit.Edit.{Edit}
 use Rattle.edits_file.specs.EditsForm.{NamedEdit, add, raise, remove, AreNamedEdits, IsNamedEdit, edit_excess, edit_lines, edit_of, edit_text, edits_of, lines}
@@ -55,7 +55,7 @@ edits-push book [] e = refl
 edits-push book (d ∷ had) e = ap (λ (r : List Edit). edit_of book d ∷ r) (edits-push book had e)
 
 -- a step of the named stages is one of the reader's
-pub lowered : (book : Book) (s t : NamedStage) (l : List ℕ) → NamedStep (length book.supply) s l t → Step book (held book s) l (held book t)
+lowered : (book : Book) (s t : NamedStage) (l : List ℕ) → NamedStep (length book.supply) s l t → Step book (held book s) l (held book t)
 lowered book beginning t l step = (step.0, ap (held book) step.1)
 lowered book (listing had) t l (inl last) = inl (last.0, ap (held book) last.1)
 lowered book (listing had) t l (inr adds) = inr (record {
@@ -67,13 +67,13 @@ lowered book (listing had) t l (inr adds) = inr (record {
 lowered book (ended had) t l step = absurd step
 
 -- a step of the reader from a named stage
-pub record Lifted (book : Book) (s : NamedStage) (l : List ℕ) (next : Stage) : Type 0 where
+record Lifted (book : Book) (s : NamedStage) (l : List ℕ) (next : Stage) : Type 0 where
   pub to : NamedStage
   pub step : NamedStep (length book.supply) s l to
   pub is : next ≡ held book to
 
 -- each step of the reader from a named stage is one of the named stages
-pub lifted : (book : Book) (s : NamedStage) (l : List ℕ) (next : Stage) → Step book (held book s) l next → Lifted book s l next
+lifted : (book : Book) (s : NamedStage) (l : List ℕ) (next : Stage) → Step book (held book s) l next → Lifted book s l next
 lifted book beginning l next step = record { to = listing []; step = (step.0, refl); is = step.1 }
 lifted book (listing had) l next (inl last) = record { to = ended had; step = inl (last.0, refl); is = last.1 }
 lifted book (listing had) l next (inr adds) = record {
@@ -84,11 +84,13 @@ lifted book (listing had) l next (inr adds) = record {
 lifted book (ended had) l next step = absurd step
 
 -- the named stage behind such a step exceeds the same limit as the reader's
-pub marked : (book : Book) (s : NamedStage) (l : List ℕ) (next : Stage) (mark : Option Excess) (up : Lifted book s l next) → excess next ≡ mark → named_excess up.to ≡ mark
+marked : (book : Book) (s : NamedStage) (l : List ℕ) (next : Stage) (mark : Option Excess) (up : Lifted book s l next) → excess next ≡ mark
+    → named_excess up.to ≡ mark
 marked book s l next mark up is = sym (excess_held book up.to) ∙ ap excess (sym up.is) ∙ is
 
 -- where the reader has ended, the named edits have
-pub ended_held : (book : Book) (s : NamedStage) (edits : List Edit) → held book s ≡ stage.Ended edits → (named : List NamedEdit) × (s ≡ ended named) × (edits ≡ edits_of book named)
+ended_held : (book : Book) (s : NamedStage) (edits : List Edit) → held book s ≡ stage.Ended edits
+    → (named : List NamedEdit) × (s ≡ ended named) × (edits ≡ edits_of book named)
 ended_held book beginning edits is = absurd (cc is)
 ended_held book (listing had) edits is = absurd (cc is)
 ended_held book (ended had) edits is = (had, refl, cc is)
@@ -115,6 +117,50 @@ begin = beginning
 
 abbrev pub finish : List NamedEdit → NamedStage
 finish named = ended named
+
+-- a run of the reader from a named stage is one of the named stages
+lifted_run : (book : Book) (s : NamedStage) (ms : List Line) (t : Stage) → Runs (Step book) excess (held book s) ms t
+    → (u : NamedStage) × Runs (NamedStep (length book.supply)) named_excess s ms u × (t ≡ held book u)
+lifted_run book s [] t run = (s, refl, sym run)
+lifted_run book s (m ∷ ms) t run =
+    let up = lifted book s m.0 run.0 run.2 in
+    let rest = lifted_run book up.to ms t (subst (λ (x : Stage). Runs (Step book) excess x ms t) up.is run.4) in
+    (rest.0, (up.to, run.1, up.step, sym (marked book s m.0 run.0 m.1 up (sym run.3)), rest.1), rest.2)
+
+module _ (book : Book) (bytes : List ℕ) where
+  named_far : (place : ℕ) (s : Stage) → SoFar (Step book) excess stage.Start bytes place s
+      → (u : NamedStage) × SoFar (NamedStep (length book.supply)) named_excess begin bytes place u × (s ≡ held book u)
+  named_far place s far =
+      let up = lifted_run book beginning far.behind s far.run in
+      (up.0, record { behind = far.behind; run = up.1; within = far.within; split = far.split; here = far.here }, up.2)
+
+  -- where the reader ends, the named stages end with edits that it holds
+  pub named_end : (edits : List Edit) → SoFar (Step book) excess stage.Start bytes (length bytes) (stage.Ended edits)
+      → (named : List NamedEdit) × SoFar (NamedStep (length book.supply)) named_excess begin bytes (length bytes) (finish named) × (edits ≡ edits_of book named)
+  named_end edits far =
+      let up = named_far (length bytes) (stage.Ended edits) far in
+      let end = ended_held book up.0 edits (sym up.2) in
+      (end.0, subst (λ (u : NamedStage). SoFar (NamedStep (length book.supply)) named_excess begin bytes (length bytes) u) end.1 up.1, end.2)
+
+  -- where the reader halts, the named stages do
+  pub named_halts : (place : ℕ) → HaltsAt (Step book) excess stage.Start stage.Ended bytes place
+      → HaltsAt (NamedStep (length book.supply)) named_excess begin finish bytes place
+  named_halts place halts =
+      let up = named_far place halts.stage halts.so_far in
+      record {
+        stage = up.0;
+        so_far = up.1;
+        blocked = λ l more line is t step.
+            halts.blocked l more line is (held book t) (subst (λ (x : Stage). Step book x l (held book t)) (sym up.2) (lowered book up.0 t l step));
+        open_end = λ v end. halts.open_end (edits_of book v) (up.2 ∙ ap (held book) end);
+      }
+
+  -- what the reader exceeds first, the named stages do
+  pub named_exceeds : (o : Excess) → ExceedsFirst (Step book) excess stage.Start bytes o
+      → ExceedsFirst (NamedStep (length book.supply)) named_excess begin bytes o
+  named_exceeds o over =
+      let up = lifted_run book beginning over.behind over.stage over.run in
+      record { stage = up.0; behind = over.behind; run = up.1; rest = over.rest; split = over.split; first = over.first }
 
 -- the lines that a stage has behind it
 abbrev pub behind : NamedStage → List Line
@@ -157,25 +203,15 @@ module _ (categories : ℕ) where
           move (behind (listing had)) (edit_text adds.edit) (listing (had ++ adds.edit ∷ [])) adds.spelled adds.next_is (each-push (IsNamedEdit categories) had adds.edit sound adds.valid, more had adds.edit)
       by_stage (ended had) sound step = absurd step
 
-  runs_behind : (ms : List Line) (s t : NamedStage) → IsSound categories s → Runs (NamedStep categories) named_excess s ms t → IsSound categories t × (behind t ≡ behind s ++ ms)
-  runs_behind [] s t sound run = (subst (IsSound categories) run sound, ap behind (sym run) ∙ sym (append-nil (behind s)))
-  runs_behind (m ∷ ms) s t sound run =
-      let first = step_behind s run.0 m.0 sound run.2 in
-      let rest = runs_behind ms run.0 t first.0 run.4 in
-      let beside : (m.0, named_excess run.0) ≡ m = λ i. (m.0, sym run.3 i) in
-      (rest.0, rest.1 ∙ ap (λ (r : List Line). r ++ ms) (first.1 ∙ ap (λ (x : Line). behind s ++ x ∷ []) beside) ∙ append_assoc (behind s) (m ∷ []) ms)
-
-  -- each stage has the front of a text behind it
-  pub record FrontOf (before : List Line) : Type 0 where
-    pub edits : List NamedEdit
-    pub count : ℕ
-    pub valid : AreNamedEdits categories edits
-    pub same : take count (lines edits) ≡ before
-
-  front_of : (s : NamedStage) → IsSound categories s → FrontOf (behind s)
-  front_of beginning sound = record { edits = []; count = 0; valid = tt; same = refl }
-  front_of (listing had) sound = record { edits = had; count = length (behind (listing had)); valid = sound; same = take_at (behind (listing had)) ((codes "end", None) ∷ []) _ refl }
-  front_of (ended had) sound = record { edits = had; count = length (lines had); valid = sound; same = take_all (length (lines had)) (lines had) (omega arith) }
+  front_of : (s : NamedStage) → IsSound categories s → FrontOf (AreNamedEdits categories) lines (behind s)
+  front_of beginning sound = record { value = []; count = 0; valid = tt; same = refl }
+  front_of (listing had) sound = record {
+    value = had;
+    count = length (behind (listing had));
+    valid = sound;
+    same = take_at (behind (listing had)) ((codes "end", None) ∷ []) _ refl;
+  }
+  front_of (ended had) sound = record { value = had; count = length (lines had); valid = sound; same = take_all (length (lines had)) (lines had) (omega arith) }
 
   -- the stages go over the lines of edits
   edits_run : (had es : List NamedEdit) → AreNamedEdits categories es → Runs (NamedStep categories) named_excess (listing had) (edit_lines (length had) es) (listing (had ++ es))
@@ -222,10 +258,7 @@ module _ (categories : ℕ) where
   pub reads : Reads (IsSound categories) (NamedStep categories) named_excess begin finish (AreNamedEdits categories) lines
   reads = record {
     complete = complete;
-    sound = λ ms s run.
-        let is = runs_behind ms begin s tt run in
-        let front = front_of s is.0 in
-        (front.edits, front.count, front.valid, front.same ∙ is.1);
+    sound = front_reached (IsSound categories) (NamedStep categories) named_excess behind (AreNamedEdits categories) lines step_behind front_of begin tt refl;
     begins = tt;
     keeps = λ s t l sound step. (step_behind s t l sound step).0;
     one_step = one_step;

@@ -1,12 +1,12 @@
 -- The form of a file of edits: which lists of edits have a text, and its lines. Beside a line stands the limit that it exceeds.
-use Rattle.std.specs.Prelude.{◌≡◌, ℕ, suc, ◌+◌, ◌≤◌, ◌^◌, Option, Some, None, List, [], ◌∷◌, ◌++◌, codes, length, map, nat_le, if◌then◌else◌}
+use Rattle.std.specs.Prelude.{◌≡◌, ℕ, suc, ◌+◌, ◌≤◌, Option, Some, None, List, [], ◌∷◌, ◌++◌, codes, length, map, nat_le, if◌then◌else◌}
 use Rattle.std.specs.List.{AllByRecursion}
 use Rattle.std.specs.Str.{bytes_eq}
 use Rattle.review.specs.auction_model.specs.Book.{Bidder, Book}
 use Rattle.review.specs.book_form.specs.BookForm.{IsName}
 use Rattle.review.specs.book_form.specs.BookLines.{Excess, Line}
 use Rattle.review.specs.limits.specs.declared.LimitKind.TheVariants.{Records}
-use Rattle.review.specs.limits.specs.declared.TheConstants.{MOST_EDITS}
+use Rattle.review.specs.limits.specs.declared.TheConstants.{MOST_EDITS, MOST_STATED_AMOUNT, MOST_STATED_COUNT}
 use Rattle.review.specs.line_text.specs.LineText.{Said, Says}
 use Rattle.review.specs.declared.edit.Edit.{Edit}
 use Rattle.review.specs.declared.edit.Edit.TheVariants.{Add, Raise, Remove}
@@ -18,15 +18,15 @@ pub data NamedEdit : Type 0 where
   raise : List ℕ → List ℕ → ℕ → NamedEdit
   remove : List ℕ → List ℕ → NamedEdit
 
--- a name, and one count of at most 65,535 for each category
+-- a name, and one count for each category
 pub record NamesPackage (categories : ℕ) (name lots : List ℕ) : Type 0 where
   pub name_is : IsName name
   pub count : length lots ≡ categories
-  pub each : AllByRecursion (λ n. n ≤ 65535) lots
+  pub each : AllByRecursion (λ n. n ≤ MOST_STATED_COUNT) lots
 
--- the greatest amount of a text
+-- an amount that a text may state
 abbrev pub IsSpelledAmount : ℕ → Type 0
-IsSpelledAmount amount = amount ≤ 10 ^ 18
+IsSpelledAmount amount = amount ≤ MOST_STATED_AMOUNT
 
 abbrev pub IsNamedEdit : ℕ → NamedEdit → Type 0
 IsNamedEdit categories (add name lots amount) = NamesPackage categories name lots × IsSpelledAmount amount

@@ -5,16 +5,11 @@ use Rattle.std.specs.Fmt.{decimal}
 use Rattle.std.specs.List.{AllByRecursion}
 use Rattle.review.specs.auction_model.specs.Book.{Book}
 use Rattle.review.specs.book_form.specs.BookLines.{Excess}
-use Rattle.review.specs.limits.specs.declared.LimitKind.TheVariants.{Records}
-use Rattle.review.specs.limits.specs.declared.TheConstants.{MOST_EDITS}
+use Rattle.review.specs.limits.specs.declared.TheConstants.{MOST_STATED_COUNT}
 use Rattle.review.specs.declared.edit.Edit.{Edit}
 use Rattle.review.specs.line_text.specs.Decimals.{decimals_text}
 use Rattle.review.specs.line_text.specs.Fields.{FieldEnds}
 use Rattle.edits_file.specs.EditsForm.{NamedEdit, NamesPackage, IsNamedEdit, IsSpelledAmount, edit_excess, edit_of, edit_text, number_among}
-use Rattle.edits_file.specs.declared.EditStop.{EditStop}
-use Rattle.edits_file.specs.declared.EditStop.TheVariants as edits
-use Rattle.edits_file.specs.declared.stop.LineStop.{LineStop}
-use Rattle.edits_file.specs.declared.stop.LineStop.TheVariants.{Form, Full, Memory}
 use Rattle.edits_file.specs.declared.read.Stage.{Stage}
 use Rattle.edits_file.specs.declared.read.Stage.TheVariants.{Start, Listing, Ended}
 
@@ -27,7 +22,7 @@ pub record BeginsWithNumber (most : ℕ) (text : List ℕ) (n : ℕ) (rest : Lis
 -- the text is a count for each category, each behind one space, and what follows them
 pub record BeginsWithCounts (categories : ℕ) (text lots rest : List ℕ) : Type 0 where
   pub count : length lots ≡ categories
-  pub each : AllByRecursion (λ n. n ≤ 65535) lots
+  pub each : AllByRecursion (λ n. n ≤ MOST_STATED_COUNT) lots
   pub spelled : text ≡ decimals_text lots ++ rest
   pub ends : FieldEnds rest
 
@@ -77,9 +72,3 @@ abbrev pub excess : Stage → Option Excess
 excess Start = None
 excess (Listing had) = edit_excess (length had)
 excess (Ended had) = None
-
--- the stop of the reader at the line that begins at this place
-abbrev pub edit_stop : LineStop → ℕ → EditStop
-edit_stop Form place = edits.Form place
-edit_stop Full place = edits.Limit Records (MOST_EDITS + 1)
-edit_stop Memory place = edits.Memory

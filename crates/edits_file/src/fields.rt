@@ -5,28 +5,23 @@ ghost use Rattle.review.specs.book_form.specs.BookForm.{IsName};
 ghost use Rattle.edits_file.specs.EditsForm.{number_among};
 ghost use Rattle.edits_file.specs.Stages.{BeginsWithCounts, BeginsWithNumber, IsHead, StatesBid, StatesPackage};
 
-use crate::stop::LineStop;
-use review::bid_book::{BidBook, is_name};
-use review::line_text::{field_len, read_at_most};
+use crate::LimitKind;
+use review::bid_book::{BidBook, Excess, is_name};
+use review::limits::{MOST_STATED_AMOUNT, MOST_STATED_COUNT};
+use review::line_text::{LineStop, field_len, read_at_most};
 use review::lots::Package;
 use std::alloc::{AllocError, Global};
-
-/// The greatest count of lots that a line may state.
-const MOST_STATED_COUNT: u64 = 65_535;
-
-/// The greatest amount that a line may state: 10^18.
-const MOST_STATED_AMOUNT: u64 = 1_000_000_000_000_000_000;
 
 /// The bidder, the package and the amount that a line states behind its word. Bidder 0 is one that the book doesn't have.
 pub fn read_bid(
     alloc: Global,
     book: &BidBook,
     fields: &[u8],
-) -> Result<(u16, Package, u64), LineStop>
+) -> Result<(u16, Package, u64), LineStop<Excess>>
     ensures ok { IfOk result (λ b. StatesBid book.now fields.now b.0 b.1 b.2) }
     ensures form { result ≡ Err LineStop.Form → (bidder : ℕ) (lots : List ℕ) (amount : ℕ)
         → StatesBid book.now fields.now bidder lots amount → ⊥ }
-    ensures not_full { result ≢ Err LineStop.Full }
+    ensures no_limit { (kind : LimitKind) (count : ℕ) → result ≡ Err (LineStop.Limit (kind, count)) → ⊥ }
 {
     let (bidder, package, rest) = read_head(alloc, book, fields)?;
     let Some(amount) = last_number(rest, MOST_STATED_AMOUNT) else {
@@ -40,11 +35,11 @@ pub fn read_package(
     alloc: Global,
     book: &BidBook,
     fields: &[u8],
-) -> Result<(u16, Package), LineStop>
+) -> Result<(u16, Package), LineStop<Excess>>
     ensures ok { IfOk result (λ p. StatesPackage book.now fields.now p.0 p.1) }
     ensures form { result ≡ Err LineStop.Form → (bidder : ℕ) (lots : List ℕ)
         → StatesPackage book.now fields.now bidder lots → ⊥ }
-    ensures not_full { result ≢ Err LineStop.Full }
+    ensures no_limit { (kind : LimitKind) (count : ℕ) → result ≡ Err (LineStop.Limit (kind, count)) → ⊥ }
 {
     let (bidder, package, rest) = read_head(alloc, book, fields)?;
     if !rest.is_empty() {
@@ -58,11 +53,11 @@ fn read_head<'a>(
     alloc: Global,
     book: &BidBook,
     fields: &'a [u8],
-) -> Result<(u16, Package, &'a [u8]), LineStop>
+) -> Result<(u16, Package, &'a [u8]), LineStop<Excess>>
     ensures ok { IfOk result (λ h. IsHead book.now fields.now h.0 h.1 h.2.now) }
     ensures form { result ≡ Err LineStop.Form → (bidder : ℕ) (lots rest : List ℕ)
         → IsHead book.now fields.now bidder lots rest → ⊥ }
-    ensures not_full { result ≢ Err LineStop.Full }
+    ensures no_limit { (kind : LimitKind) (count : ℕ) → result ≡ Err (LineStop.Limit (kind, count)) → ⊥ }
 {
     let Some((bidder, behind)) = read_bidder(book, fields) else {
         return Err(LineStop::Form);
@@ -103,12 +98,12 @@ fn read_counts<'a>(
     alloc: Global,
     text: &'a [u8],
     categories: usize,
-) -> Result<(Vec<u16>, &'a [u8]), LineStop>
+) -> Result<(Vec<u16>, &'a [u8]), LineStop<Excess>>
     requires { FieldEnds text.now }
     ensures ok { IfOk result (λ p. BeginsWithCounts categories text.now p.0.items p.1.now) }
     ensures form { result ≡ Err LineStop.Form → (lots rest : List ℕ) → BeginsWithCounts categories text.now lots rest
         → ⊥ }
-    ensures not_full { result ≢ Err LineStop.Full }
+    ensures no_limit { (kind : LimitKind) (count : ℕ) → result ≡ Err (LineStop.Limit (kind, count)) → ⊥ }
 {
     let mut counts = Vec::with_capacity(alloc, categories)?;
     let mut rest = text;

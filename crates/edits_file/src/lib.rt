@@ -9,7 +9,6 @@ mod fields;
 mod laws;
 mod line;
 mod read;
-mod stop;
 
 pub use edits::Edits;
 pub use laws::{edit_counts, one_edits};

@@ -1,20 +1,21 @@
 // The line of an edit.
-ghost use Rattle.std.specs.Prelude.{IfOk, ◌≡◌, ◌≢◌};
+ghost use Rattle.std.specs.Prelude.{IfOk, ℕ, ◌≡◌};
 ghost use Rattle.edits_file.specs.EditsForm.{NamedEdit};
 ghost use Rattle.edits_file.specs.Stages.{States};
 
+use crate::LimitKind;
 use crate::fields::{read_bid, read_package};
-use crate::stop::LineStop;
 use review::Edit;
-use review::bid_book::BidBook;
+use review::bid_book::{BidBook, Excess};
+use review::line_text::LineStop;
 use std::alloc::Global;
 
 /// The edit of the book that a line states.
-pub fn read_edit(alloc: Global, book: &BidBook, line: &[u8]) -> Result<Edit, LineStop>
+pub fn read_edit(alloc: Global, book: &BidBook, line: &[u8]) -> Result<Edit, LineStop<Excess>>
     ensures ok { IfOk result (λ edit. (named : NamedEdit) × States book.now line.now named edit) }
     ensures form { result ≡ Err LineStop.Form → (named : NamedEdit) (edit : Edit)
         → States book.now line.now named edit → ⊥ }
-    ensures not_full { result ≢ Err LineStop.Full }
+    ensures no_limit { (kind : LimitKind) (count : ℕ) → result ≡ Err (LineStop.Limit (kind, count)) → ⊥ }
 {
     if let Some(fields) = line.strip_prefix(b"add ") {
         let (bidder, package, amount) = read_bid(alloc, book, fields)?;

@@ -1,19 +1,18 @@
 // The reader of a file of edits.
-ghost use Rattle.std.specs.Prelude.{Err, IfOk, IsTrue, List, None, Some, length, ℕ, ◌+◌, ◌↔◌, ◌≡◌, ◌≢◌, ◌≤◌};
+ghost use Rattle.std.specs.Prelude.{Err, IfOk, IsTrue, List, None, Some, length, ℕ, ◌↔◌, ◌≡◌, ◌≤◌};
 ghost use Rattle.std.specs.List.{AllByRecursion};
-ghost use Rattle.review.specs.limits.specs.declared.LimitKind.TheVariants.{Records};
 ghost use Rattle.review.specs.limits.specs.declared.TheConstants.{MOST_EDITS};
 ghost use Rattle.review.specs.line_text.specs.LineText.{beyond, faulty, stated};
 ghost use Rattle.review.specs.Edits.{edit_lots};
 ghost use Rattle.edits_file.specs.EditsForm.{EditsSay, NamedEdit, edits_of};
 ghost use Rattle.edits_file.specs.Stages.{Step, excess};
+ghost use Rattle.edits_file.specs.declared.read.Stage.TheVariants.{Ended};
 
 use crate::line::read_edit;
-use crate::stop::LineStop;
 use crate::{EditStop, Edits};
-use review::bid_book::BidBook;
+use review::bid_book::{BidBook, Excess};
 use review::limits::{LimitKind, MOST_EDITS};
-use review::line_text::line_len;
+use review::line_text::{LineReader, LineStop, TextStop, read_lines};
 use std::alloc::Global;
 
 /// What the lines so far say.
@@ -25,6 +24,37 @@ pub enum Stage {
     Listing(Edits),
     /// All lines, the last one too.
     Ended(Edits),
+}
+
+/// The reader of a file of edits of a book.
+#[derive(Drop)]
+struct EditReader<'a> {
+    book: &'a BidBook,
+}
+
+impl<'a> LineReader for EditReader<'a> {
+    type Stage = Stage;
+
+    type Value = Edits;
+
+    type Excess = Excess;
+
+    ghost leads = { λ reader. Step reader.book.now };
+
+    ghost over = { λ _. excess };
+
+    ghost ended = { λ _ edits. Ended edits };
+
+    fn take(&self, alloc: Global, stage: Stage, line: &[u8]) -> Result<Stage, LineStop<Excess>> {
+        take_line(alloc, stage, self.book, line)
+    }
+
+    fn end(&self, stage: Stage) -> Option<Edits> {
+        match stage {
+            Stage::Ended(edits) => Some(edits),
+            _ => None,
+        }
+    }
 }
 
 /// The edits that the bytes state for a book. The first faulty line, or the edit 1,001, stops it. The lines are `edits 1`, then
@@ -41,30 +71,25 @@ pub fn read_edits(alloc: Global, bytes: &[u8], book: &BidBook) -> Result<Edits, 
     ensures limit { (which : LimitKind) (count : ℕ) → result ≡ Err (EditStop.Limit which count)
         → EditsSay (length book.now.supply) bytes.now (beyond (which, count)) }
 {
-    let mut stage = Stage::Start;
-    let mut place = 0;
-    while let Some(len) = line_len(&bytes[place..]) {
-        match take_line(alloc, stage, book, &bytes[place..][..len]) {
-            Ok(next) => stage = next,
-            Err(stop) => return Err(stop.at(place as u64)),
-        }
-        place += len + 1;
-    }
-    if place < bytes.len() {
-        return Err(EditStop::Form(place as u64));
-    }
-    match stage {
-        Stage::Ended(edits) => Ok(edits),
-        _ => Err(EditStop::Form(place as u64)),
+    match read_lines(alloc, &EditReader { book }, Stage::Start, bytes) {
+        Ok(edits) => Ok(edits),
+        Err(TextStop::Form(place)) => Err(EditStop::Form(place)),
+        Err(TextStop::Limit((kind, count))) => Err(EditStop::Limit(kind, count)),
+        Err(TextStop::Memory) => Err(EditStop::Memory),
     }
 }
 
 /// Takes the next line.
-fn take_line(alloc: Global, stage: Stage, book: &BidBook, line: &[u8]) -> Result<Stage, LineStop>
+fn take_line(
+    alloc: Global,
+    stage: Stage,
+    book: &BidBook,
+    line: &[u8],
+) -> Result<Stage, LineStop<Excess>>
     ensures ok { IfOk result (λ next. Step book.now stage line.now next × (excess next ≡ None)) }
     ensures form { result ≡ Err LineStop.Form → (t : Stage) → Step book.now stage line.now t → ⊥ }
-    ensures full { result ≡ Err LineStop.Full
-        → (t : Stage) × Step book.now stage line.now t × (excess t ≡ Some (Records, MOST_EDITS + 1)) }
+    ensures limit { (kind : LimitKind) (count : ℕ) → result ≡ Err (LineStop.Limit (kind, count))
+        → (t : Stage) × Step book.now stage line.now t × (excess t ≡ Some (kind, count)) }
 {
     match stage {
         Stage::Start => take_first(alloc, book, line),
@@ -74,10 +99,10 @@ fn take_line(alloc: Global, stage: Stage, book: &BidBook, line: &[u8]) -> Result
 }
 
 /// Takes the first line.
-fn take_first(alloc: Global, book: &BidBook, line: &[u8]) -> Result<Stage, LineStop>
+fn take_first(alloc: Global, book: &BidBook, line: &[u8]) -> Result<Stage, LineStop<Excess>>
     ensures ok { IfOk result (λ next. Step book.now Stage.Start line.now next × (excess next ≡ None)) }
     ensures form { result ≡ Err LineStop.Form → (t : Stage) → Step book.now Stage.Start line.now t → ⊥ }
-    ensures not_full { result ≢ Err LineStop.Full }
+    ensures no_limit { (kind : LimitKind) (count : ℕ) → result ≡ Err (LineStop.Limit (kind, count)) → ⊥ }
 {
     if line != b"edits 1".as_slice() {
         return Err(LineStop::Form);
@@ -91,18 +116,18 @@ fn take_listed(
     mut edits: Edits,
     book: &BidBook,
     line: &[u8],
-) -> Result<Stage, LineStop>
+) -> Result<Stage, LineStop<Excess>>
     ensures ok { IfOk result (λ next. Step book.now (Stage.Listing edits) line.now next × (excess next ≡ None)) }
     ensures form { result ≡ Err LineStop.Form → (t : Stage) → Step book.now (Stage.Listing edits) line.now t → ⊥ }
-    ensures full { result ≡ Err LineStop.Full
-        → (t : Stage) × Step book.now (Stage.Listing edits) line.now t × (excess t ≡ Some (Records, MOST_EDITS + 1)) }
+    ensures limit { (kind : LimitKind) (count : ℕ) → result ≡ Err (LineStop.Limit (kind, count))
+        → (t : Stage) × Step book.now (Stage.Listing edits) line.now t × (excess t ≡ Some (kind, count)) }
 {
     if line == b"end".as_slice() {
         return Ok(Stage::Ended(edits));
     }
     let edit = read_edit(alloc, book, line)?;
     if is_full(&edits) {
-        return Err(LineStop::Full);
+        return Err(LineStop::Limit((LimitKind::Records, MOST_EDITS + 1)));
     }
     edits.push(edit)?;
     Ok(Stage::Listing(edits))
