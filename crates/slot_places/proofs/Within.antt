@@ -8,10 +8,10 @@ use Rattle.std.proofs.lemmas.List.{append-nil, take_all, take_more, get_or-take,
 use Rattle.choices.specs.line_text.specs.LineText.{first_excess}
 use Rattle.choices.specs.line_text.proofs.Lines.{first_excess-append}
 use Rattle.choices.specs.auction_model.specs.Lowered.{sum_to}
-use Rattle.choices.specs.bid_book.proofs.SupplyLaws.{none_first, none_second}
+use Rattle.choices.specs.bid_book.proofs.SupplyLaws.{none_first}
 use Rattle.choices.specs.bid_book.proofs.Within.{each_at, parts_none}
 use Rattle.slot_places.specs.Slots.{SlotBid, SlotBidder, SlotList, no_bid, no_bidder, bids_of, bid_of, width_of}
-use Rattle.choices.specs.book_form.specs.BookLines.{Excess, Line}
+use Rattle.choices.specs.book_form.specs.BookLines.{Excess}
 use Rattle.slot_places.specs.SlotForm.{IsSlotBid, AreSlotBids, IsSlotBidder, AreSlotBidders, width_together, band_excess, bidder_excess, bidder_line, place_lines, bidder_lines, head_lines, AreSlotsWithinLimits}
 use Rattle.slot_places.specs.Kept.{IsInBand, AreSlots}
 use Rattle.slot_places.specs.Stages.{Adds, excess_of, last_start, opened}

@@ -4,7 +4,6 @@ use Rattle.std.specs.Fmt.{decimal}
 use Rattle.std.specs.List.{AllByRecursion}
 use Rattle.choices.specs.line_text.specs.LineText.{first_excess}
 use Rattle.choices.specs.book_form.specs.BookForm.{IsName}
-use Rattle.choices.specs.limits.specs.declared.LimitKind.{LimitKind}
 use Rattle.choices.specs.limits.specs.declared.LimitKind.TheVariants.{Lots, Bidders}
 use Rattle.choices.specs.book_form.specs.BookLines.{Excess, Line}
 use Rattle.choices.specs.limits.specs.declared.TheConstants.{MOST_AMOUNT, MOST_COUNT, MOST_LOTS, MOST_PLACED}
