@@ -1,5 +1,5 @@
 -- A certificate that is fed to a checker piece by piece.
-use Rattle.std.proofs.Common.{inl, inr, ◌≡◌, ◌∙◌, ℕ, ℤ, ◌≤◌, ◌<◌, ◌+◌, ◌-◌, Bool, IsTrue, Option, Some, None, List, ◌++◌, [], ◌∷◌, length, take, refl, sym, subst, arith, length-append, length-take}
+use Rattle.std.proofs.Common.{inl, inr, ◌≡◌, ◌∙◌, ℕ, ℤ, ◌≤◌, ◌<◌, ◌+◌, ◌-◌, List, ◌++◌, [], ◌∷◌, length, take, refl, sym, subst, arith, length-append, length-take}
 use Rattle.std.specs.Prelude.{IfErr, IfOk, Result, Ok, Err}
 use Rattle.cca_inputs.specs.limits.specs.declared.TheConstants.{CERT_BYTES}
 use Rattle.cca_inputs.specs.line_text.specs.LineText.{Said, stated, faulty, beyond}

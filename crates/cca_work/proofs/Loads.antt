@@ -1,7 +1,7 @@
 -- What the loads of a command gave: of its inputs, one after the other.
-use Rattle.std.proofs.Common.{◌≡◌, ◌∙◌, ℕ, suc, ◌+◌, ◌<◌, List, [], ◌∷◌, ◌++◌, length, map, take, refl, sym, ap, subst, arith, length-append, take-suc}
+use Rattle.std.proofs.Common.{◌≡◌, ◌∙◌, ℕ, suc, ◌<◌, List, [], ◌∷◌, ◌++◌, length, map, take, refl, sym, ap, subst, arith, length-append, take-suc}
 use Rattle.std.specs.Prelude.{Contains, slice_index_or}
-use Rattle.cca_inputs.specs.cca_base.specs.Files.{Content, Folder, GaveOf, GaveSome, KeepsFiles}
+use Rattle.cca_inputs.specs.cca_base.specs.Files.{Content, Folder, GaveSome, KeepsFiles}
 use Rattle.cca_inputs.specs.cca_base.proofs.Given.{of_both, of_none}
 use Rattle.cca_work.specs.Works.{Loaded}
 

@@ -1,5 +1,5 @@
 -- The way of a command from one input to the next.
-use Rattle.std.proofs.Common.{inl, inr, ◌≡◌, ◌∙◌, ℕ, ◌≤◌, Bool, false, Option, Some, None, List, [], ◌∷◌, ◌++◌, length, map, refl, sym, ap, subst, arith}
+use Rattle.std.proofs.Common.{inl, inr, ◌≡◌, ◌∙◌, ℕ, ◌≤◌, Bool, false, Option, Some, None, List, [], ◌∷◌, length, map, refl, sym, ap, subst, arith}
 use Rattle.std.specs.Prelude.{Contains, option_and_then, Result, Ok, Err, IsSome, reverse, if◌then◌else◌}
 use Rattle.std.specs.List.{AllByRecursion}
 use Rattle.std.proofs.lemmas.Bool.{cases_lt}
@@ -22,7 +22,7 @@ use Rattle.log_replay.specs.declared.results.ReplayStop.{ReplayStop}
 use Rattle.log_replay.specs.declared.results.ReplayStop.TheVariants.{Rounds, Price, Open}
 use Rattle.cca_inputs.specs.cert_form.specs.Certificate.{CertValue}
 use Rattle.cca_inputs.specs.Answers.{AwardAnswers, CertAnswers, LogAnswers}
-use Rattle.cca_work.specs.Checked.{ShowsFacts, StopsCheck}
+use Rattle.cca_work.specs.Checked.{StopsCheck}
 use Rattle.cca_work.specs.Gives.{AwardGives, BookOfLogGives, CertGives, CommandGives, EndGives, FilesGive, LogGives, VerdictGives, replay_status}
 use Rattle.cca_inputs.specs.Statuses.{IsStop}
 use Rattle.cca_work.specs.Works.{Agree, AreOutputs, Contents, HasBook, HasLogged, IsAt, IsNext, IsWork, OnlyReads, StopsBy, Works, WorksOut, bare, text_before}

@@ -1,5 +1,5 @@
 -- From a command to what it prints and appends.
-use Rattle.std.specs.Prelude.{◌≡◌, ◌⊎◌, ◌≤◌, ℕ, Bool, false, IsSome, Option, Some, None, Result, Ok, Err, List, [], ◌∷◌}
+use Rattle.std.specs.Prelude.{◌≡◌, ◌⊎◌, ◌≤◌, ℕ, false, IsSome, Option, Some, None, Result, Ok, Err, List, [], ◌∷◌}
 use Rattle.std.specs.Prelude.{Contains, length, map, reverse, take, unwrap_or}
 use Rattle.std.specs.List.{AllByRecursion}
 use Rattle.outcome.specs.auction_model.specs.Book.{Book}

@@ -1,4 +1,4 @@
-use Rattle.std.proofs.Common.{length, refl, subst, ◌∙◌, arith, rules}
+use Rattle.std.proofs.Common.{refl, ◌∙◌, arith, rules}
 use Rattle.cca_inputs.specs.cca_base.proofs.Given.{front_some, keeps_more, keeps_still, some_same}
 use Rattle.cca_work.proofs.Feeding.{begins-fed, fed-more, fed-over, fed-some, fed-whole}
 use Rattle.cca_work.proofs.checked.fed.Goals as goal

@@ -1,4 +1,4 @@
-use Rattle.std.proofs.Common.{inl, inr, ◌≡◌, ◌⊎◌, refl, sym, subst}
+use Rattle.std.proofs.Common.{inr, ◌≡◌, ◌⊎◌, refl, sym, subst}
 use Rattle.cca_inputs.specs.place_cert.specs.CertValues.{place_cert_value}
 use Rattle.cca_inputs.specs.Outcome.{stopped_after}
 use Rattle.cca_inputs.specs.Statuses.{IsStop}
