@@ -1,8 +1,7 @@
 -- A certificate that pricing writes is accepted by the checker, of a book and of the book of a log.
 use Rattle.std.specs.Prelude.{◌≡◌, ℕ, ℤ, false, ◌≤◌, ◌<◌, ◌^◌, Option, Some, None, Result, Ok, Err, slice_index_or, List, [], ◌∷◌, ◌++◌, codes, length, pos, reverse, ◌≤ℤ◌, refl}
 use Rattle.std.proofs.Common.{inl, inr, sym, ◌∙◌, ap, subst, arith}
-use Rattle.std.proofs.lemmas.Bool.{cases_lt}
-use Rattle.cca_work.specs.cca_inputs.specs.line_text.specs.LineText.{Said, stated, faulty, beyond, Says, text_of}
+use Rattle.cca_work.specs.cca_inputs.specs.line_text.specs.LineText.{Said, stated, Says, text_of}
 use Rattle.cca_work.specs.outcome.specs.auction_model.specs.Book.{Book, market_of}
 use Rattle.cca_work.specs.outcome.specs.auction_model.specs.Prices.{Point, SamePoint, weight_of}
 use Rattle.cca_work.specs.cca_inputs.specs.book_form.specs.BookForm.{IsBook}
@@ -18,7 +17,7 @@ use Rattle.cca_work.specs.log_replay.specs.ReplyLines.{end_of}
 use Rattle.cca_work.specs.log_replay.specs.declared.results.ReplayStop.{ReplayStop}
 use Rattle.cca_work.specs.cca_inputs.specs.cca_base.specs.Files.{added}
 use Rattle.cca_work.specs.cca_inputs.specs.cert_form.specs.CertText.{IsCertificate, body_lines}
-use Rattle.cca_work.specs.cca_inputs.specs.cert_form.specs.Lines.{Line, lines as spelled, over, spell, version_lines}
+use Rattle.cca_work.specs.cca_inputs.specs.cert_form.specs.Lines.{Line, lines as spelled, spell, version_lines}
 use Rattle.cca_work.specs.cca_inputs.specs.cert_form.specs.Says.{CertSays, cert_text}
 use Rattle.cca_work.specs.place_price.specs.cert_laws.specs.BookSizes.{IsWithinSizes}
 use Rattle.cca_work.specs.place_price.specs.cert_laws.specs.Priced.{IsPricedCert}
@@ -32,13 +31,13 @@ use Rattle.cca_work.specs.cca_inputs.specs.Answers.{AwardAnswers, BookAnswers, C
 use Rattle.cca_work.specs.cca_inputs.specs.Answers.{weights_answer}
 use Rattle.cca_work.specs.cca_inputs.specs.weights_file.specs.WeightsForm.{WeightsSay}
 use Rattle.cca_work.specs.cca_inputs.specs.Command.{form_with, price, check, weigh, weigh_check, award, audit}
-use Rattle.cca_work.specs.cca_inputs.specs.Outcome.{Answer, AnswerGives, FileAnswers, InputGives, Outcome, stopped, stops, value}
+use Rattle.cca_work.specs.cca_inputs.specs.Outcome.{Answer, AnswerGives, FileAnswers, InputGives, Outcome, stopped, value}
 use Rattle.cca_work.specs.cca_inputs.specs.declared.file_text.FileText.{FileText}
 use Rattle.cca_work.specs.cca_inputs.specs.declared.price_form.PriceForm.{PriceForm}
 use Rattle.cca_work.specs.cca_inputs.specs.declared.status.FileKind.{FileKind}
 use Rattle.cca_work.specs.cca_inputs.specs.declared.status.FileKind.TheVariants as kinds
 use Rattle.cca_work.specs.cca_inputs.specs.declared.status.Status.{Status}
-use Rattle.cca_work.specs.cca_inputs.specs.declared.status.Status.TheVariants.{Done, ReadFault}
+use Rattle.cca_work.specs.cca_inputs.specs.declared.status.Status.TheVariants.{Done}
 use Rattle.cca_run.proofs.OneLog.{one_award-answer}
 use Rattle.cca_run.proofs.Same.{two-inputs}
 use Rattle.cca_run.proofs.Stated.{limits-of}

@@ -18,11 +18,10 @@ use Rattle.cca_work.specs.cca_inputs.specs.limits.specs.declared.LimitKind.TheVa
 use Rattle.cca_work.specs.cca_inputs.specs.limits.specs.declared.TheConstants.{AWARD_BYTES, LOG_BYTES}
 use Rattle.cca_work.specs.cca_inputs.specs.Answers.{AwardAnswers, LogAnswers, award_answer}
 use Rattle.cca_work.specs.cca_inputs.specs.Command.{award}
-use Rattle.cca_work.specs.cca_inputs.specs.Outcome.{Answer, AnswerGives, FileAnswers, InputGives, Outcome, stopped, stops, value}
+use Rattle.cca_work.specs.cca_inputs.specs.Outcome.{Answer, AnswerGives, InputGives, Outcome, stopped, value}
 use Rattle.cca_work.specs.cca_inputs.specs.declared.price_form.PriceForm.{PriceForm}
 use Rattle.cca_work.specs.cca_inputs.specs.declared.status.FileKind.{FileKind}
 use Rattle.cca_work.specs.cca_inputs.specs.declared.status.FileKind.TheVariants as kinds
-use Rattle.cca_work.specs.cca_inputs.specs.declared.status.Status.{Status}
 use Rattle.cca_work.specs.cca_inputs.specs.declared.status.Status.TheVariants.{Limit}
 use Rattle.cca_work.specs.Gives.{BookOfLogGives, EndGives, FilesGive, LogGives, PriceGives, ones}
 use Rattle.cca_run.specs.Headline.{IsAuction, IsDoneOrLimited}

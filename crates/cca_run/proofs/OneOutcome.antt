@@ -1,7 +1,6 @@
 -- The words and the bytes give at most one status and one printed text.
 use Rattle.std.specs.Prelude.{◌≡◌, ℕ, ℤ, Bool, true, false, ◌≤◌, ◌<◌, ◌^◌, Option, Some, None, List, [], ◌∷◌, ◌++◌, codes, length, pos, ◌≤ℤ◌, refl}
 use Rattle.std.proofs.Common.{inl, inr, sym, ◌∙◌, ap, subst, arith}
-use Rattle.std.proofs.lemmas.Bool.{cases_lt}
 use Rattle.cca_work.specs.cca_inputs.specs.line_text.specs.LineText.{Said, stated, faulty, beyond, Says}
 use Rattle.cca_work.specs.outcome.specs.auction_model.specs.Market.{Market}
 use Rattle.cca_work.specs.outcome.specs.auction_model.specs.Greatest.{IsWinning}
@@ -48,14 +47,13 @@ use Rattle.cca_work.specs.cca_inputs.specs.declared.shape.OnePriced.TheVariants 
 use Rattle.cca_work.specs.cca_inputs.specs.declared.shape.ThreeFiles.TheVariants.{WeighCheck, Auction, Audit}
 use Rattle.cca_work.specs.cca_inputs.specs.declared.shape.TwoFiles.TheVariants.{Check, PlaceCheck, Review}
 use Rattle.cca_work.specs.cca_inputs.specs.declared.shape.TwoPriced.TheVariants as two
-use Rattle.cca_work.specs.cca_inputs.specs.Outcome.{Answer, AnswerGives, FileAnswers, InputGives, Outcome, done, stopped, stops, value}
-use Rattle.cca_work.specs.cca_inputs.specs.declared.file_text.FileText.{FileText}
+use Rattle.cca_work.specs.cca_inputs.specs.Outcome.{Answer, Outcome, done, stopped, value}
 use Rattle.cca_work.specs.cca_inputs.specs.declared.price_form.PriceForm.{PriceForm}
 use Rattle.cca_work.specs.cca_inputs.specs.declared.status.CertKind.TheVariants as certs
 use Rattle.cca_work.specs.cca_inputs.specs.declared.status.FileKind.{FileKind}
-use Rattle.cca_work.specs.cca_inputs.specs.declared.status.FileKind.TheVariants.{Award, Log, Book as BookFile, Cert, Weights, Slots, Edits}
+use Rattle.cca_work.specs.cca_inputs.specs.declared.status.FileKind.TheVariants.{Award, Log, Book as BookFile, Cert, Weights, Edits}
 use Rattle.cca_work.specs.cca_inputs.specs.limits.specs.declared.TheConstants.{AWARD_BYTES, LOG_BYTES, BOOK_BYTES, CERT_BYTES, EDITS_BYTES}
-use Rattle.cca_work.specs.cca_inputs.specs.limits.specs.declared.TheConstants.{SLOTS_BYTES, WEIGHTS_BYTES}
+use Rattle.cca_work.specs.cca_inputs.specs.limits.specs.declared.TheConstants.{WEIGHTS_BYTES}
 use Rattle.cca_work.specs.Gives.{ArePriceLines, AreRounds, AuctionGives, BookOfLogGives, CertGives, CommandGives, EditsGive, Gives, EndGives}
 use Rattle.cca_work.specs.Gives.{HasTooMany, IsPricing, IsPrinted, IsYesText, LogGives, PriceGives, RepliesGive, ReviewGives, VerdictGives}
 use Rattle.cca_work.specs.Gives.{WeightsGive, WinGives, WordsGive, book_file, cert_file, ones}

@@ -4,7 +4,7 @@ use Rattle.std.specs.Prelude.{◌^◌, ◌≤ℤ◌}
 use Rattle.cca_work.specs.cca_inputs.specs.line_text.specs.LineText.{Said, stated, faulty, beyond, Says}
 use Rattle.cca_work.specs.outcome.specs.auction_model.specs.Lawful.{IsMarket}
 use Rattle.cca_work.specs.outcome.specs.auction_model.specs.Market.{Market}
-use Rattle.cca_work.specs.outcome.specs.auction_model.specs.Prices.{Point, AreVickreyPrices, IsCoreOutcome, SamePoint, alike}
+use Rattle.cca_work.specs.outcome.specs.auction_model.specs.Prices.{Point, AreVickreyPrices, SamePoint, alike}
 use Rattle.cca_work.specs.outcome.specs.auction_model.specs.PricingRun.{Turn, IsPricingRun}
 use Rattle.cca_work.specs.cca_inputs.specs.book_form.specs.BookLines.{Excess}
 use Rattle.cca_work.specs.cca_inputs.specs.cert_form.specs.PlaceCert.{PlaceCertValue}
@@ -29,7 +29,7 @@ use Rattle.cca_work.specs.cca_inputs.specs.declared.status.CertKind.TheVariants 
 use Rattle.cca_work.specs.cca_inputs.specs.declared.status.FileKind.{FileKind}
 use Rattle.cca_work.specs.cca_inputs.specs.declared.status.FileKind.TheVariants.{Cert, Slots}
 use Rattle.cca_work.specs.cca_inputs.specs.declared.status.Status.TheVariants.{No}
-use Rattle.cca_work.specs.Gives.{ArePlacedLines, AreRounds, CommandGives, IsPlaceYes, IsPlacing, PlaceCertGives, PlaceGives, PlaceVerdictGives, cert_file}
+use Rattle.cca_work.specs.Gives.{AreRounds, CommandGives, IsPlaceYes, IsPlacing, PlaceCertGives, PlaceGives, PlaceVerdictGives, cert_file}
 use Rattle.cca_run.proofs.Same.{Same, both, equal, one-input, printed-same}
 
 -- slots that bytes state are few bidders

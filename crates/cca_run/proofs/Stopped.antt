@@ -1,5 +1,5 @@
 -- How a run ends whose way to the work stopped, or whose words say no command.
-use Rattle.std.proofs.Common.{inl, inr, ◌≡◌, ◌⊎◌, ◌∙◌, ℕ, ◌<◌, Option, Some, List, [], ◌++◌, length, refl, sym, ap, subst}
+use Rattle.std.proofs.Common.{inl, inr, ◌≡◌, ◌⊎◌, ◌∙◌, ℕ, ◌<◌, Option, Some, List, ◌++◌, length, refl, sym, ap, subst}
 use Rattle.cca_work.specs.cca_inputs.specs.cca_base.specs.Faults.{Rose}
 use Rattle.cca_work.specs.cca_inputs.specs.cca_base.specs.Files.{Agrees, Folder, KeepsFiles}
 use Rattle.cca_work.specs.cca_inputs.specs.cca_base.proofs.Given.{agrees_told, keeps_still}

@@ -1,4 +1,4 @@
-use Rattle.std.proofs.Common.{◌≡◌, [], sym, subst, rules, List, length}
+use Rattle.std.proofs.Common.{◌≡◌, [], sym, subst, List}
 use Rattle.cca_work.specs.cca_inputs.specs.cca_base.proofs.Given.{keeps_still}
 use Rattle.cca_work.specs.cca_inputs.specs.Words.{command_value}
 use Rattle.cca_work.specs.cca_inputs.specs.declared.file_text.FileText.{FileText}

@@ -1,7 +1,5 @@
-use Rattle.std.proofs.Common.{◌≡◌, ◌⊎◌, Option, Some, None, map, string_bytes, sym, subst, ◌∙◌}
-use Rattle.cca_work.specs.cca_inputs.specs.Command.{CommandValue, command_of}
-use Rattle.cca_work.specs.cca_inputs.specs.declared.status.FileKind.TheVariants.{Out}
-use Rattle.cca_work.specs.cca_inputs.specs.declared.status.Status.TheVariants.{Words, WriteFault}
+use Rattle.std.proofs.Common.{Option, map, string_bytes, subst, ◌∙◌}
+use Rattle.cca_work.specs.cca_inputs.specs.Command.{CommandValue}
 use Rattle.cca_run.specs.Ends.{RunEnds}
 use Rattle.cca_run.proofs.RunLaws.{runs}
 use Rattle.cca_run.proofs.top.ran.Goals as goal
