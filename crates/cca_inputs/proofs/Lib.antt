@@ -2,4 +2,5 @@ mod Names
 mod Stopped
 mod FewWords
 mod Numbers
-pub mod ReadStops
+mod Feeding
+mod ReadStops

@@ -1,0 +1,20 @@
+use Rattle.std.proofs.Common.{string_bytes, sym, arith}
+use Rattle.cca_inputs.proofs.FewWords.{few-read}
+use Rattle.cca_inputs.proofs.Names.{among-at}
+use Rattle.cca_inputs.proofs.words.award_command.Goals as goal
+
+pub returns-clause-among : goal.returns-clause-among
+returns-clause-among c =
+    let words = c.args.words.now in (
+      among-at string_bytes words 0 c.award-item.result c.as_str.result.now (omega (arith, c.in-len3-up.len_at_least)) c.award-item.is (sym c.as_str.ensures.value),
+      (
+        among-at string_bytes words 1 c.log-item.result c.as_str-2.result.now (omega (arith, c.in-len3-up.len_at_least)) c.log-item.is (sym c.as_str-2.ensures.value),
+        (
+          among-at string_bytes words 2 c.cert-item.result c.as_str-3.result.now (omega (arith, c.in-len3-up.len_at_least)) c.cert-item.is (sym c.as_str-3.ensures.value),
+          tt,
+        ),
+      ),
+    )
+
+pub returns-in_default-clause-command : goal.returns-in_default-clause-command
+returns-in_default-clause-command c = few-read string_bytes c.args.words.now (omega (arith, c.in_default.len_below))

@@ -1,0 +1,16 @@
+use Rattle.std.proofs.Common.{string_bytes, sym, arith}
+use Rattle.cca_inputs.proofs.Names.{among-at}
+use Rattle.cca_inputs.proofs.words.weigh_check_command.Goals as goal
+
+pub returns-clause-among : goal.returns-clause-among
+returns-clause-among c =
+    let words = c.args.words.now in (
+      among-at string_bytes words 0 c.book-item.result c.as_str.result.now (omega (arith, c.in-len3.len_at_least)) c.book-item.is (sym c.as_str.ensures.value),
+      (
+        among-at string_bytes words 1 c.weights-item.result c.as_str-2.result.now (omega (arith, c.in-len3.len_at_least)) c.weights-item.is (sym c.as_str-2.ensures.value),
+        (
+          among-at string_bytes words 2 c.cert-item.result c.as_str-3.result.now (omega (arith, c.in-len3.len_at_least)) c.cert-item.is (sym c.as_str-3.ensures.value),
+          tt,
+        ),
+      ),
+    )

@@ -1,5 +1,0 @@
-mod Feeding
-pub mod Counts
-pub mod Loads
-mod Priced
-mod Progress
