@@ -1,0 +1,5 @@
+mod Feeding
+pub mod Counts
+pub mod Loads
+mod Priced
+mod Progress
