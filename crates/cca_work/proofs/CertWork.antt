@@ -9,7 +9,6 @@ use Rattle.cca_inputs.specs.cert_form.specs.Certificate.{CertValue}
 use Rattle.cca_inputs.specs.Answers.{CertAnswers}
 use Rattle.cca_inputs.specs.Outcome.{Answer, AnswerGives, FileAnswers, Outcome, done, stopped, stopped_after, stops, value}
 use Rattle.cca_inputs.specs.Reading.{Halts, InputStops, OnlyLoads}
-use Rattle.cca_inputs.specs.Statuses.{IsStop}
 use Rattle.cca_inputs.specs.declared.status.FileKind.TheVariants.{Cert}
 use Rattle.cca_inputs.specs.declared.status.Status.{Status}
 use Rattle.cca_work.specs.Checked.{StopsCheck}

@@ -1,4 +1,4 @@
-use Rattle.std.proofs.Common.{refl, sym, ap, subst, ◌∙◌, arith, Bool, IsTrue, List, ℕ, [], ◌∷◌, Err, rules}
+use Rattle.std.proofs.Common.{refl, sym, ap, subst, ◌∙◌, arith, Bool, IsTrue, List, ℕ, [], ◌∷◌, Err}
 use Rattle.std.proofs.lemmas.Result.{err_from_is_err_and}
 use Rattle.cca_inputs.specs.Command.{audit}
 use Rattle.cca_inputs.specs.declared.status.FileKind.TheVariants.{Award, Log, Cert}
@@ -28,7 +28,8 @@ returns-in_err-book g c =
     let command = audit terms log cert in
     let stopped = logged-stops command (λ contents b. CertGives b (contents Cert) (VerdictGives b (ones b))) terms log old (first terms log cert) (second terms log cert)
     (begins command old) new c.in_err-book.field-0.0 c.in_err-book.ensures in
-    search rules
+    let is = err_from_is_err_and c.from_residual.result c.from_residual.ensures.1 in
+    subst (Works command old new) (sym (is.1 ∙ ap (λ (s : Stop). Err s) is.2)) stopped
 
 pub returns-in_err-weights : goal.returns-in_err-weights
 returns-in_err-weights g c =

@@ -1,4 +1,4 @@
-use Rattle.std.proofs.Common.{◌∙◌, refl, arith, [], ◌∷◌, rules, sym, ap, subst, Err}
+use Rattle.std.proofs.Common.{◌∙◌, refl, arith, [], ◌∷◌, sym, ap, subst, Err}
 use Rattle.std.proofs.lemmas.Result.{err_from_is_err_and}
 use Rattle.cca_inputs.specs.limits.specs.declared.TheConstants.{BOOK_BYTES}
 use Rattle.cca_inputs.specs.Answers.{BookAnswers}
@@ -33,7 +33,8 @@ returns-in_err-weights g c =
     (ones b))) c.args.book.now refl (0, omega arith, refl) refl (begins command old)
     c.in_ok-book.ensures.loads book read.bytes read.short read.says read.here in
     let stopped = no-memory command old mid _ _ at in
-    search rules
+    let is = err_from_is_err_and c.from_residual-in_err-weights.result c.from_residual-in_err-weights.ensures.1 in
+    subst (Works command old mid) (sym (is.1 ∙ ap (λ (s : Stop). Err s) is.2)) stopped
 
 pub returns : goal.returns
 returns g c =

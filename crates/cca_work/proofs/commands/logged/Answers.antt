@@ -1,5 +1,4 @@
 use Rattle.std.proofs.Common.{inl, inr, sym, ap, subst, ◌∙◌, refl, Err}
-use Rattle.std.specs.Prelude.{Result, Ok}
 use Rattle.std.proofs.lemmas.Result.{err_from_is_err_and}
 use Rattle.big_auction.specs.log_file.specs.LogReading.{log_records}
 use Rattle.cca_work.specs.Works.{HasLogged}

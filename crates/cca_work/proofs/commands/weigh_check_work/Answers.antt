@@ -1,4 +1,4 @@
-use Rattle.std.proofs.Common.{refl, arith, [], ◌∷◌, rules, sym, ap, subst, ◌∙◌, Err}
+use Rattle.std.proofs.Common.{refl, arith, [], ◌∷◌, sym, ap, subst, ◌∙◌, Err}
 use Rattle.std.proofs.lemmas.Result.{err_from_is_err_and}
 use Rattle.cca_inputs.specs.limits.specs.declared.TheConstants.{BOOK_BYTES, WEIGHTS_BYTES}
 use Rattle.cca_inputs.specs.Answers.{BookAnswers, WeightsAnswers}
@@ -36,7 +36,8 @@ returns-in_err-weights g c =
     let stopped = stops-next command old mid new _ Weights WEIGHTS_BYTES (WeightsAnswers book) (λ contents w. CertGives book (contents Cert)
     (VerdictGives book w)) c.args.weights.now refl (1, omega arith, refl) refl at
     c.in_err-weights.ensures.loads _ (λ bytes s x. x) (λ files. refl) (λ files. (refl, tt)) c.in_err-weights.field-0.0 c.in_err-weights.ensures.stop in
-    search rules
+    let is = err_from_is_err_and c.from_residual-in_err-weights.result c.from_residual-in_err-weights.ensures.1 in
+    subst (Works command old new) (sym (is.1 ∙ ap (λ (s : Stop). Err s) is.2)) stopped
 
 pub returns : goal.returns
 returns g c =
