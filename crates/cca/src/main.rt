@@ -2,22 +2,24 @@
 #![tactic(auto)]
 
 ghost use Rattle.std.specs.IoError.{error_kind};
-ghost use Rattle.std.specs.Prelude.{◌≡◌, ◌≢◌, drop, IfErr, IfOk};
+ghost use Rattle.std.specs.Prelude.{◌≡◌, ◌≢◌, All, drop, IfErr, IfOk, IsTrue, map, string_bytes};
 ghost use Rattle.std.specs.Process.{exit_status};
 ghost use Rattle.std.specs.Vec.Iter.{into_iter_items};
 ghost use Rattle.std.specs.declared.io.ErrorKind.TheVariants.{OutOfMemory};
 ghost use Rattle.std.specs.declared.result.Result.TheVariants.{Err};
 ghost use Rattle.cca_run.specs.cca_inputs.specs.Code.{code_of};
+ghost use Rattle.cca.specs.Ends.{EndsAs};
 ghost use Rattle.cca.specs.declared.NoWords.{NoWords};
 ghost use Rattle.cca.specs.declared.NoWords.TheVariants.{Memory, NotText};
 
-use cca_run::cca_base::{RealFiles, RealSink};
+use cca_run::cca_base::{Files, RealFiles, RealSink, Sink};
 use cca_run::{Status, run};
 use std::alloc::{AllocError, Global};
 use std::env::Args;
+use std::fs::File;
 use std::io::ErrorKind;
 use std::process::ExitCode;
-use std::{env, io};
+use std::{env, io, rt};
 
 /// Why there are no words to run.
 #[derive(Clone, Copy, Debug, PartialEq, Eq)]
@@ -89,7 +91,38 @@ fn words(alloc: Global, given: io::Result<Args>) -> Result<Vec<String>, NoWords>
     }
 }
 
-// The exit code of a run.
+/// What a run needs.
+#[derive(Drop)]
+struct Start<F: Drop> {
+    /// The words behind the program's name.
+    words: Vec<String>,
+    /// Files that know these words.
+    files: F,
+}
+
+// The words behind the program's name, of what the system gives, and files of just these names.
+fn prepared<R: rt::Files<File = File> + Drop>(
+    alloc: Global,
+    rt: R,
+    given: io::Result<Args>,
+) -> Result<Start<RealFiles<R>>, NoWords>
+    ensures words { IfOk given (λ all. IfOk result (λ r. r.words.items ≡ drop 1 (into_iter_items all))) }
+    ensures known { IfOk result
+        (λ r. All (λ w. IsTrue ((⟦<RealFiles<R> as Files>⟧.folder r.files).knows w)) (map string_bytes r.words.items)) }
+    ensures memory { IfOk given (λ all. IfErr result (λ none. none ≡ Memory)) }
+    ensures no_memory { IfErr given (λ error. error_kind error ≡ OutOfMemory → result ≡ Err Memory) }
+    ensures not_text { IfErr given (λ error. error_kind error ≢ OutOfMemory → result ≡ Err NotText) }
+{
+    match words(alloc, given) {
+        Ok(words) => match RealFiles::new(alloc, rt, &words) {
+            Ok(files) => Ok(Start { words, files }),
+            Err(_) => Err(NoWords::Memory),
+        },
+        Err(none) => Err(none),
+    }
+}
+
+// The exit code of a run that ended so.
 fn exit_of(status: Status) -> ExitCode
     ensures { exit_status result ≡ code_of status }
 {
@@ -104,14 +137,46 @@ fn exit_without(none: NoWords) -> ExitCode
     ExitCode::from(none.code())
 }
 
+// Runs the words, and answers the exit code of the status with which the run ended.
+fn exit_after<F: Files, O: Sink>(
+    alloc: Global,
+    words: &[String],
+    files: &mut F,
+    out: &mut O,
+) -> ExitCode
+    requires { All (λ w. IsTrue ((F.folder files.old).knows w)) (map string_bytes words.now) }
+    ensures { EndsAs (map string_bytes words.now) (F.folder files.old) (O.output out.old) (O.output out.new)
+        (exit_status result) }
+{
+    exit_of(run(alloc, words, files, out))
+}
+
+// The program over any files and any output: the exit code of the run of the words, and where there are none the code of why.
+fn ended<F: Files + Drop, O: Sink>(
+    alloc: Global,
+    start: Result<Start<F>, NoWords>,
+    out: &mut O,
+) -> ExitCode
+    requires { IfOk start
+        (λ r. All (λ w. IsTrue ((F.folder r.files).knows w)) (map string_bytes r.words.items)) }
+    ensures run { IfOk start
+        (λ r. EndsAs (map string_bytes r.words.items) (F.folder r.files) (O.output out.old) (O.output out.new)
+        (exit_status result)) }
+    ensures memory { start ≡ Err Memory → exit_status result ≡ 6 }
+    ensures not_text { start ≡ Err NotText → exit_status result ≡ 8 }
+    ensures silent { IfErr start (λ _. O.output out.new ≡ O.output out.old) }
+{
+    match start {
+        Ok(Start { words, mut files }) => exit_after(alloc, &words, &mut files, out),
+        Err(none) => exit_without(none),
+    }
+}
+
 fn main(rt: HostRuntime) -> ExitCode {
-    let words = match words(rt.alloc(), env::args(&rt)) {
-        Ok(words) => words,
-        Err(none) => return exit_without(none),
-    };
-    let Ok(mut files) = RealFiles::new(rt.alloc(), &rt, &words) else {
-        return exit_without(NoWords::Memory);
-    };
     let mut out = RealSink::new(&rt);
-    exit_of(run(rt.alloc(), &words, &mut files, &mut out))
+    ended(
+        rt.alloc(),
+        prepared(rt.alloc(), &rt, env::args(&rt)),
+        &mut out,
+    )
 }

@@ -2,5 +2,4 @@ mod Names
 mod Stopped
 mod FewWords
 mod Numbers
-mod Feeding
-mod ReadStops
+pub mod ReadStops

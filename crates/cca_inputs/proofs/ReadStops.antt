@@ -2,7 +2,7 @@
 use Rattle.std.proofs.Common.{inl, inr, ◌≡◌, ℕ, ◌≤◌, List, [], length, refl, arith}
 use Rattle.std.specs.Prelude.{IfErr, IsSome, Result, Ok, Err, ◌⊎◌}
 use Rattle.cca_base.specs.Faults.{Rose}
-use Rattle.cca_base.specs.Files.{CountsOnly, Folder, GaveAll, GaveMore}
+use Rattle.cca_base.specs.Files.{Folder, GaveAll, GaveMore}
 use Rattle.cca_base.specs.declared.read.ReadStop.{ReadStop}
 use Rattle.cca_base.specs.declared.read.ReadStop.TheVariants as read
 use Rattle.cca_base.proofs.Given.{front_none, front_some, keeps_still, some_file}

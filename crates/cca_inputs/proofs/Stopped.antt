@@ -7,7 +7,6 @@ use Rattle.weights_file.specs.book_form.specs.BookLines.{lines}
 use Rattle.log_file.specs.limits.specs.declared.LimitKind.{LimitKind}
 use Rattle.log_file.specs.bid_book.specs.declared.BookStop.{BookStop}
 use Rattle.log_file.specs.bid_book.specs.declared.BookStop.TheVariants as book
-use Rattle.piece_check.specs.cert_laws.specs.Tests.{bidders_of, states}
 use Rattle.place_cert.specs.cert_text.specs.declared.stop.CertStop.{CertStop}
 use Rattle.place_cert.specs.cert_text.specs.declared.stop.CertStop.TheVariants as cert
 use Rattle.log_file.specs.auction_rules.specs.Terms.{Terms}
@@ -27,7 +26,7 @@ use Rattle.place_cert.specs.CertValues.{PlaceStopsAt}
 use Rattle.edits_file.specs.EditsForm.{EditsSay}
 use Rattle.edits_file.specs.declared.EditStop.{EditStop}
 use Rattle.edits_file.specs.declared.EditStop.TheVariants as edits
-use Rattle.cca_inputs.specs.Answers.{AwardAnswers, BookAnswers, CertAnswers, EditsAnswers, LogAnswers, PlaceCertAnswers, SlotsAnswers, WeightsAnswers, award_answer}
+use Rattle.cca_inputs.specs.Answers.{AwardAnswers, BookAnswers, EditsAnswers, LogAnswers, PlaceCertAnswers, SlotsAnswers, WeightsAnswers, award_answer}
 use Rattle.cca_inputs.specs.Outcome.{stops}
 use Rattle.cca_inputs.specs.Statuses.{IsStop}
 use Rattle.cca_inputs.specs.Stops.{award_status, book_status, cert_status, edit_status, log_status, slot_status, weight_status}

@@ -4,35 +4,77 @@ use Rattle.std.specs.Fmt.{decimal}
 use Rattle.std.specs.Str.{bytes_eq}
 use Rattle.std.specs.Str.Parse.{digits_value}
 use Rattle.cca_inputs.specs.declared.price_form.PriceForm.{PriceForm}
+use Rattle.cca_inputs.specs.declared.shape.OnePriced.{OnePriced}
+use Rattle.cca_inputs.specs.declared.shape.OnePriced.TheVariants.{Price, Place}
+use Rattle.cca_inputs.specs.declared.shape.Shape.{Shape}
+use Rattle.cca_inputs.specs.declared.shape.Shape.TheVariants as shape
+use Rattle.cca_inputs.specs.declared.shape.ThreeFiles.{ThreeFiles}
+use Rattle.cca_inputs.specs.declared.shape.ThreeFiles.TheVariants.{WeighCheck, Auction, Audit}
+use Rattle.cca_inputs.specs.declared.shape.TwoFiles.{TwoFiles}
+use Rattle.cca_inputs.specs.declared.shape.TwoFiles.TheVariants.{Check, PlaceCheck, Review}
+use Rattle.cca_inputs.specs.declared.shape.TwoPriced.{TwoPriced}
+use Rattle.cca_inputs.specs.declared.shape.TwoPriced.TheVariants as priced
 use Rattle.cca_inputs.specs.declared.status.FileKind.{FileKind}
 use Rattle.cca_inputs.specs.declared.status.FileKind.TheVariants.{Award, Log, Book, Cert, Weights, Slots, Edits, Out}
 
--- what is to be done, with the names of its files
+-- what is to be done, with the names of its files, by the shape of its words
 pub data CommandValue : Type 0 where
   -- the winners of a book
   win : List ℕ → CommandValue
-  -- the prices of a book in a form, and their certificate
-  price : List ℕ → List ℕ → PriceForm → CommandValue
-  -- the test of a certificate of a book
-  check : List ℕ → List ℕ → CommandValue
-  -- the prices of a book by weights in a form, and their certificate
-  weigh : List ℕ → List ℕ → List ℕ → PriceForm → CommandValue
-  -- the test of a certificate of a book by weights
-  weigh_check : List ℕ → List ℕ → List ℕ → CommandValue
-  -- the replies to the log of an auction, and its book
-  auction : List ℕ → List ℕ → List ℕ → CommandValue
-  -- the prices of the book of a log in a form, and their certificate
-  award : List ℕ → List ℕ → List ℕ → PriceForm → CommandValue
-  -- the test of a certificate of the book of a log
-  audit : List ℕ → List ℕ → List ℕ → CommandValue
+  -- what is read from two files
+  two_files : TwoFiles → List ℕ → List ℕ → CommandValue
+  -- three files
+  three_files : ThreeFiles → List ℕ → List ℕ → List ℕ → CommandValue
+  -- the prices of what a file states in a form, and their certificate
+  one_priced : OnePriced → List ℕ → List ℕ → PriceForm → CommandValue
+  -- the prices of what two files state in a form, and their certificate
+  two_priced : TwoPriced → List ℕ → List ℕ → List ℕ → PriceForm → CommandValue
   -- the auction that is made from a number: its award and its log
   make : ℕ → List ℕ → List ℕ → CommandValue
-  -- the prices of a placement in a band, with the turns or without, and their certificate
-  place : List ℕ → List ℕ → Bool → CommandValue
-  -- the test of a certificate of a placement
-  place_check : List ℕ → List ℕ → CommandValue
-  -- what a book gives as it is edited
-  review : List ℕ → List ℕ → CommandValue
+
+-- prices are printed as lines or as JSON, with the turns or without
+abbrev pub form_with : Bool → Bool → PriceForm
+form_with rounds json = record { rounds = rounds; json = json }
+
+-- the prices of a book in a form, and their certificate
+abbrev pub price : List ℕ → List ℕ → PriceForm → CommandValue
+price book cert form = one_priced Price book cert form
+
+-- the test of a certificate of a book
+abbrev pub check : List ℕ → List ℕ → CommandValue
+check book cert = two_files Check book cert
+
+-- the prices of a book by weights in a form, and their certificate
+abbrev pub weigh : List ℕ → List ℕ → List ℕ → PriceForm → CommandValue
+weigh book weights cert form = two_priced priced.Weigh book weights cert form
+
+-- the test of a certificate of a book by weights
+abbrev pub weigh_check : List ℕ → List ℕ → List ℕ → CommandValue
+weigh_check book weights cert = three_files WeighCheck book weights cert
+
+-- the replies to the log of an auction, and its book
+abbrev pub auction : List ℕ → List ℕ → List ℕ → CommandValue
+auction terms log book = three_files Auction terms log book
+
+-- the prices of the book of a log in a form, and their certificate
+abbrev pub award : List ℕ → List ℕ → List ℕ → PriceForm → CommandValue
+award terms log cert form = two_priced priced.Award terms log cert form
+
+-- the test of a certificate of the book of a log
+abbrev pub audit : List ℕ → List ℕ → List ℕ → CommandValue
+audit terms log cert = three_files Audit terms log cert
+
+-- the prices of a placement in a band, with the turns or without, and their certificate
+abbrev pub place : List ℕ → List ℕ → Bool → CommandValue
+place slots cert rounds = one_priced Place slots cert (form_with rounds false)
+
+-- the test of a certificate of a placement
+abbrev pub place_check : List ℕ → List ℕ → CommandValue
+place_check slots cert = two_files PlaceCheck slots cert
+
+-- what a book gives as it is edited
+abbrev pub review : List ℕ → List ℕ → CommandValue
+review book edits = two_files Review book edits
 
 -- what a command does with a file
 pub data Use : Type 0 where
@@ -51,20 +93,43 @@ reading kind name = record { kind = kind; how = reads; name = name }
 abbrev pub appending : FileKind → List ℕ → FileUse
 appending kind name = record { kind = kind; how = appends; name = name }
 
--- The table of files: those of each command, in the order of the words. All else that is said of a command's files follows from it.
+-- The tables of files: the kinds of those of each command, in the order of the words. All else that is said of a command's files
+-- follows from them.
+abbrev pub two_kinds : TwoFiles → FileKind × FileKind
+two_kinds Check = (Book, Cert)
+two_kinds PlaceCheck = (Slots, Cert)
+two_kinds Review = (Book, Edits)
+
+abbrev pub three_kinds : ThreeFiles → FileKind × FileKind × FileKind
+three_kinds WeighCheck = (Book, Weights, Cert)
+three_kinds Auction = (Award, Log, Book)
+three_kinds Audit = (Award, Log, Cert)
+
+-- what is done with the third
+abbrev pub third_use : ThreeFiles → Use
+third_use WeighCheck = reads
+third_use Auction = appends
+third_use Audit = reads
+
+abbrev pub one_kind : OnePriced → FileKind
+one_kind Price = Book
+one_kind Place = Slots
+
+abbrev pub priced_kinds : TwoPriced → FileKind × FileKind
+priced_kinds priced.Weigh = (Book, Weights)
+priced_kinds priced.Award = (Award, Log)
+
+-- the files of a command
 abbrev pub files_of : CommandValue → List FileUse
 files_of (win book) = reading Book book ∷ []
-files_of (price book cert form) = reading Book book ∷ appending Cert cert ∷ []
-files_of (check book cert) = reading Book book ∷ reading Cert cert ∷ []
-files_of (weigh book weights cert form) = reading Book book ∷ reading Weights weights ∷ appending Cert cert ∷ []
-files_of (weigh_check book weights cert) = reading Book book ∷ reading Weights weights ∷ reading Cert cert ∷ []
-files_of (auction terms log book) = reading Award terms ∷ reading Log log ∷ appending Book book ∷ []
-files_of (award terms log cert form) = reading Award terms ∷ reading Log log ∷ appending Cert cert ∷ []
-files_of (audit terms log cert) = reading Award terms ∷ reading Log log ∷ reading Cert cert ∷ []
+files_of (two_files kind first second) = reading (two_kinds kind).0 first ∷ reading (two_kinds kind).1 second ∷ []
+files_of (three_files kind first second third) =
+    reading (three_kinds kind).0 first ∷ reading (three_kinds kind).1 second
+    ∷ record { kind = (three_kinds kind).2; how = third_use kind; name = third } ∷ []
+files_of (one_priced kind first cert form) = reading (one_kind kind) first ∷ appending Cert cert ∷ []
+files_of (two_priced kind first second cert form) =
+    reading (priced_kinds kind).0 first ∷ reading (priced_kinds kind).1 second ∷ appending Cert cert ∷ []
 files_of (make number terms log) = appending Award terms ∷ appending Log log ∷ []
-files_of (place slots cert rounds) = reading Slots slots ∷ appending Cert cert ∷ []
-files_of (place_check slots cert) = reading Slots slots ∷ reading Cert cert ∷ []
-files_of (review book edits) = reading Book book ∷ reading Edits edits ∷ []
 
 -- not empty, and not beginning with '-'
 abbrev pub is_file_word : List ℕ → Bool
@@ -87,9 +152,20 @@ win_words [] = None
 win_words (f ∷ []) = if are_file_words (f ∷ []) then Some (win f) else None
 win_words (f ∷ g ∷ rest) = None
 
--- prices are printed as lines or as JSON, with the turns or without
-abbrev pub form_with : Bool → Bool → PriceForm
-form_with rounds json = record { rounds = rounds; json = json }
+-- two files
+abbrev pub two_words : TwoFiles → List (List ℕ) → Option CommandValue
+two_words kind [] = None
+two_words kind (f ∷ []) = None
+two_words kind (f ∷ g ∷ []) = if are_file_words (f ∷ g ∷ []) then Some (two_files kind f g) else None
+two_words kind (f ∷ g ∷ h ∷ rest) = None
+
+-- three files
+abbrev pub three_words : ThreeFiles → List (List ℕ) → Option CommandValue
+three_words kind [] = None
+three_words kind (f ∷ []) = None
+three_words kind (f ∷ g ∷ []) = None
+three_words kind (f ∷ g ∷ h ∷ []) = if are_file_words (f ∷ g ∷ h ∷ []) then Some (three_files kind f g h) else None
+three_words kind (f ∷ g ∷ h ∷ i ∷ rest) = None
 
 -- the form that one flag asks for
 abbrev pub one_flag : List ℕ → Option PriceForm
@@ -113,56 +189,31 @@ form_asked (f ∷ []) = one_flag f
 form_asked (f ∷ g ∷ []) = two_flags f g
 form_asked (f ∷ g ∷ h ∷ rest) = None
 
--- the words behind `price`
-abbrev pub price_words : List (List ℕ) → Option CommandValue
-price_words [] = None
-price_words (f ∷ []) = None
-price_words (f ∷ g ∷ flags) = if are_file_words (f ∷ g ∷ []) then option_map (price f g) (form_asked flags) else None
+-- whether the words behind the files ask for the turns
+abbrev pub rounds_asked : List (List ℕ) → Option Bool
+rounds_asked [] = Some false
+rounds_asked (f ∷ []) = if bytes_eq f (codes "--rounds") then Some true else None
+rounds_asked (f ∷ g ∷ rest) = None
 
--- the words behind `check`
-abbrev pub check_words : List (List ℕ) → Option CommandValue
-check_words [] = None
-check_words (f ∷ []) = None
-check_words (f ∷ g ∷ []) = if are_file_words (f ∷ g ∷ []) then Some (check f g) else None
-check_words (f ∷ g ∷ h ∷ rest) = None
+-- the form that the words behind the files of a command ask for; `place` prints lines alone
+abbrev pub flags_of : OnePriced → List (List ℕ) → Option PriceForm
+flags_of Price flags = form_asked flags
+flags_of Place flags = option_map (λ rounds. form_with rounds false) (rounds_asked flags)
 
--- the words behind `weigh`
-abbrev pub weigh_words : List (List ℕ) → Option CommandValue
-weigh_words [] = None
-weigh_words (f ∷ []) = None
-weigh_words (f ∷ g ∷ []) = None
-weigh_words (f ∷ g ∷ h ∷ flags) = if are_file_words (f ∷ g ∷ h ∷ []) then option_map (weigh f g h) (form_asked flags) else None
+-- a file, the certificate's and flags
+abbrev pub one_priced_words : OnePriced → List (List ℕ) → Option CommandValue
+one_priced_words kind [] = None
+one_priced_words kind (f ∷ []) = None
+one_priced_words kind (f ∷ g ∷ flags) =
+    if are_file_words (f ∷ g ∷ []) then option_map (one_priced kind f g) (flags_of kind flags) else None
 
--- the words behind `weigh-check`
-abbrev pub weigh_check_words : List (List ℕ) → Option CommandValue
-weigh_check_words [] = None
-weigh_check_words (f ∷ []) = None
-weigh_check_words (f ∷ g ∷ []) = None
-weigh_check_words (f ∷ g ∷ h ∷ []) = if are_file_words (f ∷ g ∷ h ∷ []) then Some (weigh_check f g h) else None
-weigh_check_words (f ∷ g ∷ h ∷ i ∷ rest) = None
-
--- the words behind `auction`
-abbrev pub auction_words : List (List ℕ) → Option CommandValue
-auction_words [] = None
-auction_words (f ∷ []) = None
-auction_words (f ∷ g ∷ []) = None
-auction_words (f ∷ g ∷ h ∷ []) = if are_file_words (f ∷ g ∷ h ∷ []) then Some (auction f g h) else None
-auction_words (f ∷ g ∷ h ∷ i ∷ rest) = None
-
--- the words behind `award`
-abbrev pub award_words : List (List ℕ) → Option CommandValue
-award_words [] = None
-award_words (f ∷ []) = None
-award_words (f ∷ g ∷ []) = None
-award_words (f ∷ g ∷ h ∷ flags) = if are_file_words (f ∷ g ∷ h ∷ []) then option_map (award f g h) (form_asked flags) else None
-
--- the words behind `audit`
-abbrev pub audit_words : List (List ℕ) → Option CommandValue
-audit_words [] = None
-audit_words (f ∷ []) = None
-audit_words (f ∷ g ∷ []) = None
-audit_words (f ∷ g ∷ h ∷ []) = if are_file_words (f ∷ g ∷ h ∷ []) then Some (audit f g h) else None
-audit_words (f ∷ g ∷ h ∷ i ∷ rest) = None
+-- two files, the certificate's and flags
+abbrev pub two_priced_words : TwoPriced → List (List ℕ) → Option CommandValue
+two_priced_words kind [] = None
+two_priced_words kind (f ∷ []) = None
+two_priced_words kind (f ∷ g ∷ []) = None
+two_priced_words kind (f ∷ g ∷ h ∷ flags) =
+    if are_file_words (f ∷ g ∷ h ∷ []) then option_map (two_priced kind f g h) (form_asked flags) else None
 
 -- the number below 2^32 that a word spells in decimal digits without a leading zero
 abbrev pub number_said : List ℕ → Option ℕ
@@ -176,49 +227,36 @@ make_words (n ∷ f ∷ []) = None
 make_words (n ∷ f ∷ g ∷ []) = if are_file_words (f ∷ g ∷ []) then option_map (λ number. make number f g) (number_said n) else None
 make_words (n ∷ f ∷ g ∷ h ∷ rest) = None
 
--- whether the words behind the files ask for the turns
-abbrev pub rounds_asked : List (List ℕ) → Option Bool
-rounds_asked [] = Some false
-rounds_asked (f ∷ []) = if bytes_eq f (codes "--rounds") then Some true else None
-rounds_asked (f ∷ g ∷ rest) = None
+-- the command that a word names, with the shape of the words behind it
+abbrev pub shape_named : List ℕ → Option Shape
+shape_named w =
+    if bytes_eq w (codes "win") then Some shape.Win
+    else if bytes_eq w (codes "price") then Some (shape.OnePriced Price)
+    else if bytes_eq w (codes "check") then Some (shape.TwoFiles Check)
+    else if bytes_eq w (codes "weigh") then Some (shape.TwoPriced priced.Weigh)
+    else if bytes_eq w (codes "weigh-check") then Some (shape.ThreeFiles WeighCheck)
+    else if bytes_eq w (codes "auction") then Some (shape.ThreeFiles Auction)
+    else if bytes_eq w (codes "award") then Some (shape.TwoPriced priced.Award)
+    else if bytes_eq w (codes "audit") then Some (shape.ThreeFiles Audit)
+    else if bytes_eq w (codes "make") then Some shape.Make
+    else if bytes_eq w (codes "place") then Some (shape.OnePriced Place)
+    else if bytes_eq w (codes "place-check") then Some (shape.TwoFiles PlaceCheck)
+    else if bytes_eq w (codes "review") then Some (shape.TwoFiles Review)
+    else None
 
--- the words behind `place`
-abbrev pub place_words : List (List ℕ) → Option CommandValue
-place_words [] = None
-place_words (f ∷ []) = None
-place_words (f ∷ g ∷ flags) = if are_file_words (f ∷ g ∷ []) then option_map (place f g) (rounds_asked flags) else None
-
--- the words behind `place-check`
-abbrev pub place_check_words : List (List ℕ) → Option CommandValue
-place_check_words [] = None
-place_check_words (f ∷ []) = None
-place_check_words (f ∷ g ∷ []) = if are_file_words (f ∷ g ∷ []) then Some (place_check f g) else None
-place_check_words (f ∷ g ∷ h ∷ rest) = None
-
--- the words behind `review`
-abbrev pub review_words : List (List ℕ) → Option CommandValue
-review_words [] = None
-review_words (f ∷ []) = None
-review_words (f ∷ g ∷ []) = if are_file_words (f ∷ g ∷ []) then Some (review f g) else None
-review_words (f ∷ g ∷ h ∷ rest) = None
+-- the command that words of a shape say
+abbrev pub said_by : Shape → List (List ℕ) → Option CommandValue
+said_by shape.Win rest = win_words rest
+said_by (shape.TwoFiles kind) rest = two_words kind rest
+said_by (shape.ThreeFiles kind) rest = three_words kind rest
+said_by (shape.OnePriced kind) rest = one_priced_words kind rest
+said_by (shape.TwoPriced kind) rest = two_priced_words kind rest
+said_by shape.Make rest = make_words rest
 
 -- the command that the words say, if they are of the plain form
 abbrev pub command_of : List (List ℕ) → Option CommandValue
 command_of [] = None
-command_of (w ∷ rest) =
-    if bytes_eq w (codes "win") then win_words rest
-    else if bytes_eq w (codes "price") then price_words rest
-    else if bytes_eq w (codes "check") then check_words rest
-    else if bytes_eq w (codes "weigh") then weigh_words rest
-    else if bytes_eq w (codes "weigh-check") then weigh_check_words rest
-    else if bytes_eq w (codes "auction") then auction_words rest
-    else if bytes_eq w (codes "award") then award_words rest
-    else if bytes_eq w (codes "audit") then audit_words rest
-    else if bytes_eq w (codes "make") then make_words rest
-    else if bytes_eq w (codes "place") then place_words rest
-    else if bytes_eq w (codes "place-check") then place_check_words rest
-    else if bytes_eq w (codes "review") then review_words rest
-    else None
+command_of (w ∷ rest) = option_and_then (λ s. said_by s rest) (shape_named w)
 
 -- the number of a kind
 abbrev pub kind_number : FileKind → ℕ

@@ -7,10 +7,10 @@ pub mod Outcome
 pub mod Answers
 pub mod Stops
 pub mod Reading
-pub mod Checked
 pub use Rattle.log_file.specs.bid_book
 pub use Rattle.weights_file.specs.book_form
 pub use Rattle.cca_base
+pub use Rattle.piece_check
 pub use Rattle.piece_check.specs.cert_facts
 pub use Rattle.place_cert.specs.cert_form
 pub use Rattle.place_cert.specs.cert_text

@@ -2,18 +2,17 @@
 //! their lines, and one way from a file to what its bytes state.
 #![tactic(auto)]
 
-mod checked;
 mod file_text;
 mod input;
 mod inputs;
 mod line;
 mod price_form;
+mod shape;
 mod status;
 mod stops;
 mod words;
 
 pub use cca_base;
-pub use checked::check_input;
 pub use edits_file;
 pub use file_text::FileText;
 pub use input::{Input, read_input};
@@ -26,12 +25,15 @@ pub use inputs::slots_input::SlotsInput;
 pub use inputs::weights_input::WeightsInput;
 pub use line::{Line, line_of};
 pub use log_file::{bid_book, limits};
+pub use piece_check;
 pub use piece_check::cert_facts;
 pub use place_cert;
 pub use place_cert::{cert_form, cert_text, line_text};
 pub use price_form::PriceForm;
+pub use shape::{OnePriced, Shape, ThreeFiles, TwoFiles, TwoPriced};
 pub use slot_places;
 pub use slot_places::choices;
 pub use status::{CertKind, FileKind, Status};
+pub use stops::status_of_read;
 pub use weights_file;
 pub use words::{Command, read_command};

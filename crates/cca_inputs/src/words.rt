@@ -1,90 +1,57 @@
 // The plain form of the words.
 ghost use Rattle.std.specs.Prelude.{◌≡◌, map, string_bytes, option_map, Some, None, IfSome, codes, true, if◌then◌else◌};
 ghost use Rattle.std.specs.Str.{bytes_eq};
-ghost use Rattle.cca_inputs.specs.Command.{are_file_words, auction_words, audit_words, award_words, check_words, command_of, is_among, is_file_word, make_words, number_said, output_as, place_check_words, place_words, price_words, review_words, rounds_asked, weigh_check_words, weigh_words, win_words};
+ghost use Rattle.cca_inputs.specs.Command.{are_file_words, command_of, flags_of, is_among, is_file_word, make_words, number_said, one_priced_words, output_as, rounds_asked, said_by, three_words, two_priced_words, two_words, win_words};
 ghost use Rattle.cca_inputs.specs.Words.{AreAmong, command_value};
 
 use crate::price_form::asked_form;
+use crate::shape::{OnePriced, Shape, ThreeFiles, TwoFiles, TwoPriced, shape_of};
 use crate::{FileKind, PriceForm};
 use log_file::wide_num::read_natural;
 
 // The greatest number from which an auction is made.
 const MOST_NUMBER: u128 = u32::MAX as u128;
 
-/// A command in its plain form, with the names of its files.
+/// A command in its plain form, with the names of its files, by the shape of its words.
 #[derive(Clone, Copy, Debug)]
 pub enum Command<'a> {
     /// The winners of a book are printed.
     Win {
         book: &'a str,
     },
-    /// A book is priced; its certificate is appended, and the prices are printed in the form that is asked for.
-    Price {
-        book: &'a str,
+    /// What two files give.
+    Two {
+        kind: TwoFiles,
+        first: &'a str,
+        second: &'a str,
+    },
+    /// What three files give, or two and one that is appended to.
+    Three {
+        kind: ThreeFiles,
+        first: &'a str,
+        second: &'a str,
+        third: &'a str,
+    },
+    /// What a file states is priced, printed in the form that is asked for, and the certificate appended.
+    OnePriced {
+        kind: OnePriced,
+        first: &'a str,
         cert: &'a str,
         form: PriceForm,
     },
-    /// A certificate of a book is tested.
-    Check {
-        book: &'a str,
-        cert: &'a str,
-    },
-    /// A book is priced by the weights of its bidders; its certificate is appended, and the prices are printed in the form that is asked
-    /// for.
-    Weigh {
-        book: &'a str,
-        weights: &'a str,
+    /// The same of what two files state.
+    TwoPriced {
+        kind: TwoPriced,
+        first: &'a str,
+        second: &'a str,
         cert: &'a str,
         form: PriceForm,
-    },
-    /// A certificate of a book is tested by the weights of its bidders.
-    WeighCheck {
-        book: &'a str,
-        weights: &'a str,
-        cert: &'a str,
-    },
-    /// The log of an auction is replayed; its book is appended, and the replies to its lines are printed.
-    Auction {
-        award: &'a str,
-        log: &'a str,
-        book: &'a str,
-    },
-    /// The log of an auction is replayed and its book priced; the certificate is appended, and the prices are printed in the form that is
-    /// asked for.
-    Award {
-        award: &'a str,
-        log: &'a str,
-        cert: &'a str,
-        form: PriceForm,
-    },
-    /// The log of an auction is replayed, and a certificate of its book is tested.
-    Audit {
-        award: &'a str,
-        log: &'a str,
-        cert: &'a str,
     },
     /// An auction is made from a number; its award and its log are appended, and a summary is printed.
     Make {
         number: u32,
         award: &'a str,
         log: &'a str,
-    },
-    /// The bidders of a band are placed and priced; the certificate is appended, and the placement and the prices are printed, behind the
-    /// lines of the turns where they are asked for.
-    Place {
-        slots: &'a str,
-        cert: &'a str,
-        rounds: bool,
-    },
-    /// A certificate of a placement is tested.
-    PlaceCheck {
-        slots: &'a str,
-        cert: &'a str,
-    },
-    /// A book is edited; its value and its winning choice behind each edit are printed.
-    Review {
-        book: &'a str,
-        edits: &'a str,
     },
 }
 
@@ -94,11 +61,16 @@ impl<'a> Command<'a> {
         ensures { option_map (λ name. name.now) result ≡ output_as (command_value self.entry) kind }
     {
         match (self, kind) {
-            (Command::Price { cert, .. }, FileKind::Cert) => Some(cert),
-            (Command::Weigh { cert, .. }, FileKind::Cert) => Some(cert),
-            (Command::Award { cert, .. }, FileKind::Cert) => Some(cert),
-            (Command::Place { cert, .. }, FileKind::Cert) => Some(cert),
-            (Command::Auction { book, .. }, FileKind::Book) => Some(book),
+            (Command::OnePriced { cert, .. }, FileKind::Cert) => Some(cert),
+            (Command::TwoPriced { cert, .. }, FileKind::Cert) => Some(cert),
+            (
+                Command::Three {
+                    kind: ThreeFiles::Auction,
+                    third,
+                    ..
+                },
+                FileKind::Book,
+            ) => Some(third),
             (Command::Make { award, .. }, FileKind::Award) => Some(award),
             (Command::Make { log, .. }, FileKind::Log) => Some(log),
             _ => None,
@@ -151,126 +123,117 @@ fn win_command(words: &[String]) -> Option<Command<'_>>
     })
 }
 
-fn price_command(words: &[String]) -> Option<Command<'_>>
+// The words of a command that has two files.
+fn two_command(kind: TwoFiles, words: &[String]) -> Option<Command<'_>>
     ensures among { IfSome result (λ c. AreAmong (map string_bytes words.now) (command_value c)) }
-    ensures command { option_map command_value result ≡ price_words (map string_bytes words.now) }
+    ensures command { option_map command_value result ≡ two_words kind (map string_bytes words.now) }
 {
-    let [book, cert, flags @ ..] = words else {
+    let [first, second] = words else {
+        return None;
+    };
+    if !can_be_files(words) {
+        return None;
+    }
+    Some(Command::Two {
+        kind,
+        first: first.as_str(),
+        second: second.as_str(),
+    })
+}
+
+// The words of a command that has three files.
+fn three_command(kind: ThreeFiles, words: &[String]) -> Option<Command<'_>>
+    ensures among { IfSome result (λ c. AreAmong (map string_bytes words.now) (command_value c)) }
+    ensures command { option_map command_value result ≡ three_words kind (map string_bytes words.now) }
+{
+    let [first, second, third] = words else {
+        return None;
+    };
+    if !can_be_files(words) {
+        return None;
+    }
+    Some(Command::Three {
+        kind,
+        first: first.as_str(),
+        second: second.as_str(),
+        third: third.as_str(),
+    })
+}
+
+// Whether the words behind the files ask for the lines of the turns; None where they say something else.
+fn asked_rounds(flags: &[String]) -> Option<bool>
+    ensures { result ≡ rounds_asked (map string_bytes flags.now) }
+{
+    match flags {
+        [] => Some(false),
+        [flag] => rounds_flag(flag.as_str()),
+        _ => None,
+    }
+}
+
+fn rounds_flag(flag: &str) -> Option<bool>
+    ensures { result ≡ (if bytes_eq flag.now (codes "--rounds") then Some true else None) }
+{
+    if flag != "--rounds" {
+        return None;
+    }
+    Some(true)
+}
+
+// The form that the flags of a command ask for.
+fn form_of(kind: OnePriced, flags: &[String]) -> Option<PriceForm>
+    ensures { result ≡ flags_of kind (map string_bytes flags.now) }
+{
+    match kind {
+        OnePriced::Price => asked_form(flags),
+        OnePriced::Place => {
+            let rounds = asked_rounds(flags)?;
+            Some(PriceForm {
+                rounds,
+                json: false,
+            })
+        }
+    }
+}
+
+// The words of a command that prices what one file states.
+fn one_priced_command(kind: OnePriced, words: &[String]) -> Option<Command<'_>>
+    ensures among { IfSome result (λ c. AreAmong (map string_bytes words.now) (command_value c)) }
+    ensures command { option_map command_value result ≡ one_priced_words kind (map string_bytes words.now) }
+{
+    let [first, cert, flags @ ..] = words else {
         return None;
     };
     if !can_be_files(&words[..2]) {
         return None;
     }
-    let form = asked_form(flags)?;
-    Some(Command::Price {
-        book: book.as_str(),
+    let form = form_of(kind, flags)?;
+    Some(Command::OnePriced {
+        kind,
+        first: first.as_str(),
         cert: cert.as_str(),
         form,
     })
 }
 
-fn check_command(words: &[String]) -> Option<Command<'_>>
+// The words of a command that prices what two files state.
+fn two_priced_command(kind: TwoPriced, words: &[String]) -> Option<Command<'_>>
     ensures among { IfSome result (λ c. AreAmong (map string_bytes words.now) (command_value c)) }
-    ensures command { option_map command_value result ≡ check_words (map string_bytes words.now) }
+    ensures command { option_map command_value result ≡ two_priced_words kind (map string_bytes words.now) }
 {
-    let [book, cert] = words else {
-        return None;
-    };
-    if !can_be_files(words) {
-        return None;
-    }
-    Some(Command::Check {
-        book: book.as_str(),
-        cert: cert.as_str(),
-    })
-}
-
-fn weigh_command(words: &[String]) -> Option<Command<'_>>
-    ensures among { IfSome result (λ c. AreAmong (map string_bytes words.now) (command_value c)) }
-    ensures command { option_map command_value result ≡ weigh_words (map string_bytes words.now) }
-{
-    let [book, weights, cert, flags @ ..] = words else {
+    let [first, second, cert, flags @ ..] = words else {
         return None;
     };
     if !can_be_files(&words[..3]) {
         return None;
     }
     let form = asked_form(flags)?;
-    Some(Command::Weigh {
-        book: book.as_str(),
-        weights: weights.as_str(),
+    Some(Command::TwoPriced {
+        kind,
+        first: first.as_str(),
+        second: second.as_str(),
         cert: cert.as_str(),
         form,
-    })
-}
-
-fn weigh_check_command(words: &[String]) -> Option<Command<'_>>
-    ensures among { IfSome result (λ c. AreAmong (map string_bytes words.now) (command_value c)) }
-    ensures command { option_map command_value result ≡ weigh_check_words (map string_bytes words.now) }
-{
-    let [book, weights, cert] = words else {
-        return None;
-    };
-    if !can_be_files(words) {
-        return None;
-    }
-    Some(Command::WeighCheck {
-        book: book.as_str(),
-        weights: weights.as_str(),
-        cert: cert.as_str(),
-    })
-}
-
-fn auction_command(words: &[String]) -> Option<Command<'_>>
-    ensures among { IfSome result (λ c. AreAmong (map string_bytes words.now) (command_value c)) }
-    ensures command { option_map command_value result ≡ auction_words (map string_bytes words.now) }
-{
-    let [award, log, book] = words else {
-        return None;
-    };
-    if !can_be_files(words) {
-        return None;
-    }
-    Some(Command::Auction {
-        award: award.as_str(),
-        log: log.as_str(),
-        book: book.as_str(),
-    })
-}
-
-fn award_command(words: &[String]) -> Option<Command<'_>>
-    ensures among { IfSome result (λ c. AreAmong (map string_bytes words.now) (command_value c)) }
-    ensures command { option_map command_value result ≡ award_words (map string_bytes words.now) }
-{
-    let [award, log, cert, flags @ ..] = words else {
-        return None;
-    };
-    if !can_be_files(&words[..3]) {
-        return None;
-    }
-    let form = asked_form(flags)?;
-    Some(Command::Award {
-        award: award.as_str(),
-        log: log.as_str(),
-        cert: cert.as_str(),
-        form,
-    })
-}
-
-fn audit_command(words: &[String]) -> Option<Command<'_>>
-    ensures among { IfSome result (λ c. AreAmong (map string_bytes words.now) (command_value c)) }
-    ensures command { option_map command_value result ≡ audit_words (map string_bytes words.now) }
-{
-    let [award, log, cert] = words else {
-        return None;
-    };
-    if !can_be_files(words) {
-        return None;
-    }
-    Some(Command::Audit {
-        award: award.as_str(),
-        log: log.as_str(),
-        cert: cert.as_str(),
     })
 }
 
@@ -303,74 +266,19 @@ fn make_command(words: &[String]) -> Option<Command<'_>>
     })
 }
 
-// Whether the words behind the files ask for the lines of the turns; None where they say something else.
-fn asked_rounds(flags: &[String]) -> Option<bool>
-    ensures { result ≡ rounds_asked (map string_bytes flags.now) }
-{
-    match flags {
-        [] => Some(false),
-        [flag] => rounds_flag(flag.as_str()),
-        _ => None,
-    }
-}
-
-fn rounds_flag(flag: &str) -> Option<bool>
-    ensures { result ≡ (if bytes_eq flag.now (codes "--rounds") then Some true else None) }
-{
-    if flag != "--rounds" {
-        return None;
-    }
-    Some(true)
-}
-
-fn place_command(words: &[String]) -> Option<Command<'_>>
+// The command that words of a shape say.
+fn command_by(shape: Shape, words: &[String]) -> Option<Command<'_>>
     ensures among { IfSome result (λ c. AreAmong (map string_bytes words.now) (command_value c)) }
-    ensures command { option_map command_value result ≡ place_words (map string_bytes words.now) }
+    ensures command { option_map command_value result ≡ said_by shape (map string_bytes words.now) }
 {
-    let [slots, cert, flags @ ..] = words else {
-        return None;
-    };
-    if !can_be_files(&words[..2]) {
-        return None;
+    match shape {
+        Shape::Win => win_command(words),
+        Shape::TwoFiles(kind) => two_command(kind, words),
+        Shape::ThreeFiles(kind) => three_command(kind, words),
+        Shape::OnePriced(kind) => one_priced_command(kind, words),
+        Shape::TwoPriced(kind) => two_priced_command(kind, words),
+        Shape::Make => make_command(words),
     }
-    let rounds = asked_rounds(flags)?;
-    Some(Command::Place {
-        slots: slots.as_str(),
-        cert: cert.as_str(),
-        rounds,
-    })
-}
-
-fn place_check_command(words: &[String]) -> Option<Command<'_>>
-    ensures among { IfSome result (λ c. AreAmong (map string_bytes words.now) (command_value c)) }
-    ensures command { option_map command_value result ≡ place_check_words (map string_bytes words.now) }
-{
-    let [slots, cert] = words else {
-        return None;
-    };
-    if !can_be_files(words) {
-        return None;
-    }
-    Some(Command::PlaceCheck {
-        slots: slots.as_str(),
-        cert: cert.as_str(),
-    })
-}
-
-fn review_command(words: &[String]) -> Option<Command<'_>>
-    ensures among { IfSome result (λ c. AreAmong (map string_bytes words.now) (command_value c)) }
-    ensures command { option_map command_value result ≡ review_words (map string_bytes words.now) }
-{
-    let [book, edits] = words else {
-        return None;
-    };
-    if !can_be_files(words) {
-        return None;
-    }
-    Some(Command::Review {
-        book: book.as_str(),
-        edits: edits.as_str(),
-    })
 }
 
 /// The command that the words say, where they are of the plain form. It takes no memory.
@@ -381,19 +289,8 @@ pub fn read_command(words: &[String]) -> Option<Command<'_>>
     let [name, rest @ ..] = words else {
         return None;
     };
-    match name.as_str() {
-        "win" => win_command(rest),
-        "price" => price_command(rest),
-        "check" => check_command(rest),
-        "weigh" => weigh_command(rest),
-        "weigh-check" => weigh_check_command(rest),
-        "auction" => auction_command(rest),
-        "award" => award_command(rest),
-        "audit" => audit_command(rest),
-        "make" => make_command(rest),
-        "place" => place_command(rest),
-        "place-check" => place_check_command(rest),
-        "review" => review_command(rest),
-        _ => None,
+    match shape_of(name.as_str()) {
+        Some(shape) => command_by(shape, rest),
+        None => None,
     }
 }

@@ -1,45 +1,48 @@
 -- A certificate that pricing writes is accepted by the checker, of a book and of the book of a log.
 use Rattle.std.specs.Prelude.{◌≡◌, ℕ, ℤ, false, ◌≤◌, ◌<◌, ◌^◌, Option, Some, None, Result, Ok, Err, slice_index_or, List, [], ◌∷◌, ◌++◌, codes, length, pos, reverse, ◌≤ℤ◌, refl}
 use Rattle.std.proofs.Common.{inl, inr, sym, ◌∙◌, ap, subst, arith}
-use Rattle.std.proofs.lemmas.Bool.{cases_lt}
-use Rattle.cca_inputs.specs.line_text.specs.LineText.{Said, stated, faulty, beyond, Says, text_of}
-use Rattle.outcome.specs.auction_model.specs.Book.{Book, market_of}
-use Rattle.outcome.specs.auction_model.specs.Prices.{Point, SamePoint, weight_of}
-use Rattle.cca_inputs.specs.book_form.specs.BookForm.{IsBook}
-use Rattle.cca_inputs.specs.book_form.specs.BookLines.{Excess, lines}
-use Rattle.cca_inputs.specs.bid_book.proofs.Within.{kept}
-use Rattle.cca_inputs.specs.bid_book.specs.Kept.{IsBidBook}
-use Rattle.cca_inputs.specs.cert_form.specs.Certificate.{CertValue}
-use Rattle.big_auction.specs.auction_rules.specs.Terms.{Terms}
-use Rattle.big_auction.specs.auction_rules.specs.declared.Event.{Event}
-use Rattle.big_auction.specs.award_file.specs.Award.{IsAward}
-use Rattle.big_auction.specs.log_file.specs.LogReading.{AreLog, log_records}
-use Rattle.log_replay.specs.ReplyLines.{end_of}
-use Rattle.log_replay.specs.declared.results.ReplayStop.{ReplayStop}
-use Rattle.cca_inputs.specs.cca_base.specs.Files.{added}
-use Rattle.cca_inputs.specs.cert_form.specs.CertText.{IsCertificate, body_lines}
-use Rattle.cca_inputs.specs.cert_form.specs.Lines.{Line, lines as spelled, over, spell, version_lines}
-use Rattle.cca_inputs.specs.cert_form.specs.Says.{CertSays, cert_text}
-use Rattle.place_price.specs.cert_laws.specs.BookSizes.{IsWithinSizes}
-use Rattle.place_price.specs.cert_laws.specs.Priced.{IsPricedCert}
-use Rattle.place_price.specs.cert_laws.specs.Sound.{cert_point, cert_prices}
-use Rattle.place_price.specs.cert_laws.specs.Tests.{FailsFirst, Holds, bidders_of, states}
-use Rattle.cca_inputs.specs.limits.specs.declared.TheConstants.{AWARD_BYTES, BOOK_BYTES, CERT_BYTES, LOG_BYTES, MOST_WINNERS, PRICED_CERT_BYTES}
-use Rattle.outcome.specs.print_form.specs.Prices.{IsPriceText}
-use Rattle.big_auction.specs.row_laws.specs.Winners.{winners_in}
-use Rattle.outcome.specs.value_table.proofs.Plain.{net-small}
-use Rattle.cca_inputs.specs.Answers.{AwardAnswers, BookAnswers, CertAnswers, LogAnswers, book_answer, cert_answer}
-use Rattle.cca_inputs.specs.Command.{form_with, price, check, award, audit}
-use Rattle.cca_inputs.specs.Outcome.{Answer, AnswerGives, FileAnswers, InputGives, Outcome, stopped, stops, value}
-use Rattle.cca_inputs.specs.declared.file_text.FileText.{FileText}
-use Rattle.cca_inputs.specs.declared.price_form.PriceForm.{PriceForm}
-use Rattle.cca_inputs.specs.declared.status.FileKind.{FileKind}
-use Rattle.cca_inputs.specs.declared.status.FileKind.TheVariants as kinds
-use Rattle.cca_inputs.specs.declared.status.Status.{Status}
-use Rattle.cca_inputs.specs.declared.status.Status.TheVariants.{Done, ReadFault}
+use Rattle.cca_work.specs.cca_inputs.specs.line_text.specs.LineText.{Said, stated, Says, text_of}
+use Rattle.cca_work.specs.outcome.specs.auction_model.specs.Book.{Book, market_of}
+use Rattle.cca_work.specs.outcome.specs.auction_model.specs.Prices.{Point, SamePoint, weight_of}
+use Rattle.cca_work.specs.cca_inputs.specs.book_form.specs.BookForm.{IsBook}
+use Rattle.cca_work.specs.cca_inputs.specs.book_form.specs.BookLines.{Excess, lines}
+use Rattle.cca_work.specs.cca_inputs.specs.bid_book.proofs.Within.{kept}
+use Rattle.cca_work.specs.cca_inputs.specs.bid_book.specs.Kept.{IsBidBook}
+use Rattle.cca_work.specs.cca_inputs.specs.cert_form.specs.Certificate.{CertValue}
+use Rattle.cca_work.specs.big_auction.specs.auction_rules.specs.Terms.{Terms}
+use Rattle.cca_work.specs.big_auction.specs.auction_rules.specs.declared.Event.{Event}
+use Rattle.cca_work.specs.big_auction.specs.award_file.specs.Award.{IsAward}
+use Rattle.cca_work.specs.big_auction.specs.log_file.specs.LogReading.{AreLog, log_records}
+use Rattle.cca_work.specs.log_replay.specs.ReplyLines.{end_of}
+use Rattle.cca_work.specs.log_replay.specs.declared.results.ReplayStop.{ReplayStop}
+use Rattle.cca_work.specs.cca_inputs.specs.cca_base.specs.Files.{added}
+use Rattle.cca_work.specs.cca_inputs.specs.cert_form.specs.CertText.{IsCertificate, body_lines}
+use Rattle.cca_work.specs.cca_inputs.specs.cert_form.specs.Lines.{Line, lines as spelled, spell, version_lines}
+use Rattle.cca_work.specs.cca_inputs.specs.cert_form.specs.Says.{CertSays, cert_text}
+use Rattle.cca_work.specs.place_price.specs.cert_laws.specs.BookSizes.{IsWithinSizes}
+use Rattle.cca_work.specs.place_price.specs.cert_laws.specs.Priced.{IsPricedCert}
+use Rattle.cca_work.specs.place_price.specs.cert_laws.specs.Sound.{cert_point, cert_prices}
+use Rattle.cca_work.specs.place_price.specs.cert_laws.specs.Tests.{FailsFirst, Holds, bidders_of, states}
+use Rattle.cca_work.specs.cca_inputs.specs.limits.specs.declared.TheConstants.{AWARD_BYTES, BOOK_BYTES, CERT_BYTES, LOG_BYTES, MOST_WINNERS, WEIGHTS_BYTES, PRICED_CERT_BYTES}
+use Rattle.cca_work.specs.outcome.specs.print_form.specs.Prices.{IsPriceText}
+use Rattle.cca_work.specs.big_auction.specs.row_laws.specs.Winners.{winners_in}
+use Rattle.cca_work.specs.outcome.specs.value_table.proofs.Plain.{net-small}
+use Rattle.cca_work.specs.cca_inputs.specs.Answers.{AwardAnswers, BookAnswers, CertAnswers, LogAnswers, WeightsAnswers, book_answer, cert_answer}
+use Rattle.cca_work.specs.cca_inputs.specs.Answers.{weights_answer}
+use Rattle.cca_work.specs.cca_inputs.specs.weights_file.specs.WeightsForm.{WeightsSay}
+use Rattle.cca_work.specs.cca_inputs.specs.Command.{form_with, price, check, weigh, weigh_check, award, audit}
+use Rattle.cca_work.specs.cca_inputs.specs.Outcome.{Answer, AnswerGives, FileAnswers, InputGives, Outcome, stopped, value}
+use Rattle.cca_work.specs.cca_inputs.specs.declared.file_text.FileText.{FileText}
+use Rattle.cca_work.specs.cca_inputs.specs.declared.price_form.PriceForm.{PriceForm}
+use Rattle.cca_work.specs.cca_inputs.specs.declared.status.FileKind.{FileKind}
+use Rattle.cca_work.specs.cca_inputs.specs.declared.status.FileKind.TheVariants as kinds
+use Rattle.cca_work.specs.cca_inputs.specs.declared.status.Status.{Status}
+use Rattle.cca_work.specs.cca_inputs.specs.declared.status.Status.TheVariants.{Done}
 use Rattle.cca_run.proofs.OneLog.{one_award-answer}
-use Rattle.cca_run.proofs.Same.{one-answer}
-use Rattle.cca_run.specs.Gives.{ArePriceLines, ArePrinted, AwardGives, BookGives, BookOfLogGives, CertGives, EndGives, FilesGive, IsPricing, LogGives, PriceGives, VerdictGives, cert_file, ones, replay_status}
+use Rattle.cca_run.proofs.Same.{two-inputs}
+use Rattle.cca_run.proofs.Stated.{limits-of}
+use Rattle.cca_work.specs.Gives.{ArePriceLines, ArePrinted, AwardGives, BookGives, BookOfLogGives, CertGives, EndGives, FilesGive, IsPricing}
+use Rattle.cca_work.specs.Gives.{LogGives, PriceGives, VerdictGives, WeightsGive, cert_file, ones, replay_status}
 use Rattle.cca_run.specs.Later.{HoldsCert, HoldsNothing}
 
 -- the test is done, and where lines without turns were asked for it prints `yes` and then what the prices printed
@@ -57,12 +60,7 @@ nothing-appended status o text is some = let e : [] ≡ cert_file text ∷ [] = 
 
 -- a book that is stated keeps the rules of a book
 book-kept : (bytes : List ℕ) (book : Book) → BookAnswers bytes (value book) → IsBidBook book
-book-kept bytes book (said, says, is) = by said says is
-  where
-    by : (said : Said Book Excess) → Says IsBook lines bytes said → value book ≡ book_answer said → IsBidBook book
-    by (stated b) says is = let same : b ≡ book = cc in subst IsBidBook same (kept b (record { form = says.valid; limits = says.within }))
-    by (faulty place) says is = absurd cc
-    by (beyond e) says is = absurd cc
+book-kept bytes book says = kept book (limits-of bytes book says)
 
 -- and is within the sizes that bound the text of a certificate
 pub sizes-of : (book : Book) → IsBidBook book → IsWithinSizes book
@@ -71,14 +69,6 @@ sizes-of book rules = record {
   states = rules.supply.states;
   amounts = λ j i le. net-small book j i rules le;
 }
-
--- a value that stands within the limit of bytes is what the text says
-pub within-says : {V : Type 0} (most : ℕ) (says : List ℕ → Answer V → Type 0) (bytes : List ℕ) (v : V) → FileAnswers most says bytes (value v) → says bytes (value v)
-within-says most says bytes v answers =
-    elim (cases_lt most (length bytes)) [
-      | inl over ↦ (let no = answers.long over in absurd cc)
-      | inr short ↦ answers.text short
-    ]
 
 -- the two prints, where the prices are one text
 yes-printed : (lines prices others printed : List ℕ) → lines ≡ [] → others ≡ prices → printed ≡ lines ++ prices → codes "yes\n" ++ others ≡ codes "yes\n" ++ printed
@@ -109,16 +99,12 @@ abbrev NoStop : Outcome → Type 0
 NoStop o = (status : Status) → o ≡ stopped status → ⊥
 
 -- Two outcomes of one input, of which the first isn't a stop, go on from one value.
-two-inputs : {V : Type 0} (kind : FileKind) (most : ℕ) (says : List ℕ → Answer V → Type 0) (follows others : V → Outcome → Type 0) (content : Option (List ℕ)) (o p : Outcome) (R : Type 0)
-    → ((bytes : List ℕ) (a b : Answer V) → says bytes a → says bytes b → a ≡ b) → NoStop o → ((v : V) (bytes : List ℕ) → says bytes (value v) → follows v o → others v p → R)
+value-inputs : {V : Type 0} (kind : FileKind) (most : ℕ) (says : List ℕ → Answer V → Type 0) (follows others : V → Outcome → Type 0) (content : Option (List ℕ))
+    (o p : Outcome) (R : Type 0) → ((bytes : List ℕ) (a b : Answer V) → says bytes a → says bytes b → a ≡ b) → NoStop o
+    → ((v : V) (bytes : List ℕ) → says bytes (value v) → follows v o → others v p → R)
     → InputGives kind most says content follows o → InputGives kind most says content others p → R
-two-inputs kind most says follows others None o p R one none on x y = absurd (none (ReadFault kind) x)
-two-inputs {V} kind most says follows others (Some bytes) o p R one none on (a, answers, x) (b, same, y) =
-    go a answers x (subst (λ (z : Answer V). AnswerGives z others p) (one-answer most says one bytes b a same answers) y)
-  where
-    go : (a : Answer V) → FileAnswers most says bytes a → AnswerGives a follows o → AnswerGives a others p → R
-    go (value v) answers x y = on v bytes (within-says most says bytes v answers) x y
-    go (stops status) answers x y = absurd (none status x)
+value-inputs kind most says follows others content o p R one none on x y =
+    two-inputs kind most says follows others content o p R one (λ s a b. absurd (none s a)) on x y
 
 -- the same of what a log leads to
 two-ends : (records : ℕ) (end : Result Book ReplayStop) (follows others : Book → Outcome → Type 0) (o p : Outcome) (R : Type 0) → NoStop o
@@ -134,10 +120,11 @@ module _ (one_cert : (bidders number : ℕ) (bytes : List ℕ) (x y : Said CertV
     (one_prices : (book : Book) (z : List ℕ) (v w : ℕ → ℤ) (p q : Point) (t u : List ℕ) → length z ≡ (market_of book).bidders → pos 1 ≤ℤ p.den → pos 1 ≤ℤ q.den
     → SamePoint (market_of book) p q → ((j : ℕ) → 0 < j → j ≤ (market_of book).bidders → v j ≡ w j) → IsPriceText book z v p t → IsPriceText book z w q u → t ≡ u) where
   -- the verdict on a certificate for which all tests hold
-  judged : (book : Book) (form : PriceForm) (c : CertValue) (t : List ℕ) (p : Outcome) → IsPricing book (ones book) form c t → VerdictGives book (ones book) c p
+  judged : (book : Book) (weights : List ℕ) (form : PriceForm) (c : CertValue) (t : List ℕ) (p : Outcome) → IsPricing book weights form c t
+      → VerdictGives book weights c p
       → (p.status ≡ Done) × (form ≡ form_with false false → p.printed ≡ codes "yes\n" ++ t)
-  judged book form c t p is (inr fails) = absurd (not_both book (weight_of (ones book)) c fails.0 fails.1 is.priced.holds fails.2)
-  judged book form c t p is (inl (holds, sound, (text, (prices, are, whole), ends))) = (
+  judged book weights form c t p is (inr fails) = absurd (not_both book (weight_of weights) c fails.0 fails.1 is.priced.holds fails.2)
+  judged book weights form c t p is (inl (holds, sound, (text, (prices, are, whole), ends))) = (
     ap (λ (x : Outcome). x.status) ends,
     λ e. (
         let den = is.priced.outcome.core.den_positive in
@@ -149,19 +136,22 @@ module _ (one_cert : (bidders number : ℕ) (bytes : List ℕ) (x y : Said CertV
   )
 
   -- its text states it, and isn't too long
-  answered : (book : Book) (form : PriceForm) (c : CertValue) (t : List ℕ) (answer : Answer CertValue) → IsBidBook book → IsPricing book (ones book) form c t
+  answered : (book : Book) (weights : List ℕ) (form : PriceForm) (c : CertValue) (t : List ℕ) (answer : Answer CertValue) → IsBidBook book
+      → IsPricing book weights form c t
       → FileAnswers CERT_BYTES (CertAnswers book) (cert_text c) answer → answer ≡ value c
-  answered book form c t answer rules is answers =
-      let short = short_text book (weight_of (ones book)) c (sizes-of book rules) is.certificate is.priced is.few.0 in
+  answered book weights form c t answer rules is answers =
+      let short = short_text book (weight_of weights) c (sizes-of book rules) is.certificate is.priced is.few.0 in
       let says = answers.text (omega (arith, short)) in
       let states_it = text_of_cert (bidders_of book) (states book) c (omega (arith, rules.bidders)) is.certificate in
       says.2 ∙ ap cert_answer (one_cert (bidders_of book) (states book) (cert_text c) says.0 (stated c) says.1 states_it)
 
   -- the certificate of a book that can be priced is accepted, behind a file that held nothing
-  of-cert : (book : Book) (form : PriceForm) (o p : Outcome) (text : List ℕ) (content : Option (List ℕ)) → IsBidBook book → PriceGives book (ones book) form o → o.appended ≡ cert_file text ∷ []
-      → HoldsNothing content → CertGives book (added content text) (VerdictGives book (ones book)) p → Accepts form o p
-  of-cert book form o p text content rules (inr many) some nothing gives = absurd (nothing-appended _ o text many.2 some)
-  of-cert book form o p text content rules (inl (c, t, is, ends)) some nothing gives = by (subst (λ (x : Option (List ℕ)). CertGives book x (VerdictGives book (ones book)) p) holds gives)
+  of-cert : (book : Book) (weights : List ℕ) (form : PriceForm) (o p : Outcome) (text : List ℕ) (content : Option (List ℕ)) → IsBidBook book
+      → PriceGives book weights form o → o.appended ≡ cert_file text ∷ []
+      → HoldsNothing content → CertGives book (added content text) (VerdictGives book weights) p → Accepts form o p
+  of-cert book weights form o p text content rules (inr many) some nothing gives = absurd (nothing-appended _ o text many.2 some)
+  of-cert book weights form o p text content rules (inl (c, t, is, ends)) some nothing gives = by (subst (λ (x : Option (List ℕ)). CertGives book x
+      (VerdictGives book weights) p) holds gives)
     where
       same : cert_text c ≡ text
       same = ap first-text (sym (ap (λ (x : Outcome). x.appended) ends) ∙ some)
@@ -169,11 +159,11 @@ module _ (one_cert : (bidders number : ℕ) (bytes : List ℕ) (x y : Said CertV
       holds : added content text ≡ Some (cert_text c)
       holds = just-added content text (subst (λ (x : List ℕ). 0 < length x) same (some-text c)) nothing ∙ ap Some (sym same)
 
-      by : CertGives book (Some (cert_text c)) (VerdictGives book (ones book)) p → Accepts form o p
+      by : CertGives book (Some (cert_text c)) (VerdictGives book weights) p → Accepts form o p
       by (answer, answers, follows) =
-          let e = answered book form c t answer rules is answers in
-          let verdict = subst (λ (a : Answer CertValue). AnswerGives a (VerdictGives book (ones book)) p) e follows in
-          let both = judged book form c t p is verdict in
+          let e = answered book weights form c t answer rules is answers in
+          let verdict = subst (λ (a : Answer CertValue). AnswerGives a (VerdictGives book weights) p) e follows in
+          let both = judged book weights form c t p is verdict in
           (both.0, λ none. both.1 none ∙ ap (λ (x : List ℕ). codes "yes\n" ++ x) (sym (ap (λ (x : Outcome). x.printed) ends)))
 
   -- of the files of `price` and `check`
@@ -181,7 +171,8 @@ module _ (one_cert : (bidders number : ℕ) (bytes : List ℕ) (x y : Said CertV
       → (book cert : List ℕ) (form : PriceForm) (file later : List ℕ → Option (List ℕ)) (o p : Outcome) → FilesGive (price book cert form) file o → HoldsCert (book ∷ []) cert file later o
       → FilesGive (check book cert) later p → Accepts form o p
   accepted one_book book cert form file later o p prices holds checks =
-      two-inputs kinds.Book BOOK_BYTES BookAnswers (λ b. PriceGives b (ones b) form) (λ b. CertGives b (later cert) (VerdictGives b (ones b))) (file book) o p (Accepts form o p) same-book none on prices there
+      value-inputs kinds.Book BOOK_BYTES BookAnswers (λ b. PriceGives b (ones b) form) (λ b. CertGives b (later cert) (VerdictGives b (ones b)))
+      (file book) o p (Accepts form o p) same-book none on prices there
     where
       none : NoStop o
       none status is = nothing-appended status o holds.text is holds.appended
@@ -191,11 +182,48 @@ module _ (one_cert : (bidders number : ℕ) (bytes : List ℕ) (x y : Said CertV
 
       on : (b : Book) (bytes : List ℕ) → BookAnswers bytes (value b) → PriceGives b (ones b) form o → CertGives b (later cert) (VerdictGives b (ones b)) p → Accepts form o p
       on b bytes says x y =
-          of-cert b form o p holds.text (file cert) (book-kept bytes b says) x holds.appended holds.held_nothing
+          of-cert b (ones b) form o p holds.text (file cert) (book-kept bytes b says) x holds.appended holds.held_nothing
           (subst (λ (c : Option (List ℕ)). CertGives b c (VerdictGives b (ones b)) p) holds.cert_holds y)
 
       there : BookGives (file book) (λ b. CertGives b (later cert) (VerdictGives b (ones b))) p
       there = subst (λ (x : Option (List ℕ)). BookGives x (λ b. CertGives b (later cert) (VerdictGives b (ones b))) p) holds.inputs_hold.0 checks
+
+  -- of the files of `weigh` and `weigh-check`
+  module _ (one_book : (bytes : List ℕ) (x y : Said Book Excess) → Says IsBook lines bytes x → Says IsBook lines bytes y → x ≡ y)
+      (one_weighing : (book : Book) (bytes : List ℕ) (x y : Said (List ℕ) ⊥) → IsBook book → WeightsSay book bytes x → WeightsSay book bytes y → x ≡ y)
+      (book weights cert : List ℕ) (form : PriceForm) (file later : List ℕ
+      → Option (List ℕ)) (o p : Outcome) (holds : HoldsCert (book ∷ weights ∷ []) cert file later o) where
+    not-stopped : NoStop o
+    not-stopped status is = nothing-appended status o holds.text is holds.appended
+
+    one-said : (bytes : List ℕ) (x y : Answer Book) → BookAnswers bytes x → BookAnswers bytes y → x ≡ y
+    one-said bytes x y a b = a.2 ∙ ap book_answer (one_book bytes a.0 b.0 a.1 b.1) ∙ sym b.2
+
+    one-weights : (b : Book) → IsBook b → (bytes : List ℕ) (x y : Answer (List ℕ)) → WeightsAnswers b bytes x → WeightsAnswers b bytes y → x ≡ y
+    one-weights b rules bytes x y s t = s.2 ∙ ap weights_answer (one_weighing b bytes s.0 t.0 rules s.1 t.1) ∙ sym t.2
+
+    abbrev Checked : Book → List ℕ → Outcome → Type 0
+    Checked b w x = CertGives b (later cert) (VerdictGives b w) x
+
+    on-weights : (b : Book) (bytes : List ℕ) → BookAnswers bytes (value b) → (w : List ℕ) → PriceGives b w form o → Checked b w p → Accepts form o p
+    on-weights b bytes says w x y =
+        of-cert b w form o p holds.text (file cert) (book-kept bytes b says) x holds.appended holds.held_nothing
+        (subst (λ (c : Option (List ℕ)). CertGives b c (VerdictGives b w) p) holds.cert_holds y)
+
+    on-stated : (b : Book) (bytes : List ℕ) → BookAnswers bytes (value b) → WeightsGive b (file weights) (λ w. PriceGives b w form) o
+        → WeightsGive b (later weights) (Checked b) p → Accepts form o p
+    on-stated b bytes says x y =
+        value-inputs kinds.Weights WEIGHTS_BYTES (WeightsAnswers b) (λ w. PriceGives b w form) (Checked b) (file weights) o p (Accepts form o p)
+        (one-weights b (limits-of bytes b says).form) not-stopped (λ w of told g h. on-weights b bytes says w g h) x
+        (subst (λ (c : Option (List ℕ)). WeightsGive b c (Checked b) p) holds.inputs_hold.1.0 y)
+
+    -- what `weigh-check` gives over the files that `weigh` left accepts what `weigh` gave
+    pub accepted-weighed : FilesGive (weigh book weights cert form) file o → FilesGive (weigh_check book weights cert) later p → Accepts form o p
+    accepted-weighed prices checks =
+        value-inputs kinds.Book BOOK_BYTES BookAnswers (λ b. WeightsGive b (file weights) (λ w. PriceGives b w form)) (λ b. WeightsGive b (later weights)
+        (Checked b))
+        (file book) o p (Accepts form o p) one-said not-stopped on-stated prices
+        (subst (λ (c : Option (List ℕ)). BookGives c (λ b. WeightsGive b (later weights) (Checked b)) p) holds.inputs_hold.0 checks)
 
   -- of the files of `award` and `audit`
   module _ (one_log_answer : (terms : Terms) (bytes : List ℕ) (x y : Answer (List Event)) → LogAnswers terms bytes x → LogAnswers terms bytes y → x ≡ y)
@@ -213,7 +241,7 @@ module _ (one_cert : (bidders number : ℕ) (bytes : List ℕ) (x y : Said CertV
 
     on-book : (t : Terms) (rows : List (List (List ℕ))) (events : List Event) → IsAward t → AreLog t rows events → (b : Book) → end_of t (reverse events) ≡ Ok b → Prices b o → Checks b p → Accepts form o p
     on-book t rows events rules states_all b is x y =
-        of-cert b form o p holds.text (file cert) (rules_log t rows events b rules states_all is) x holds.appended holds.held_nothing
+        of-cert b (ones b) form o p holds.text (file cert) (rules_log t rows events b rules states_all is) x holds.appended holds.held_nothing
         (subst (λ (c : Option (List ℕ)). CertGives b c (VerdictGives b (ones b)) p) holds.cert_holds y)
 
     on-log : (t : Terms) → IsAward t → (events : List Event) (bytes : List ℕ) → LogAnswers t bytes (value events) → BookOfLogGives t events Prices o → BookOfLogGives t events Checks p → Accepts form o p
@@ -223,13 +251,15 @@ module _ (one_cert : (bidders number : ℕ) (bytes : List ℕ) (x y : Said CertV
     on-award : (t : Terms) (bytes : List ℕ) → AwardAnswers bytes (value t) → LogGives t (file log) (λ events. BookOfLogGives t events Prices) o
         → LogGives t (later log) (λ events. BookOfLogGives t events Checks) p → Accepts form o p
     on-award t bytes says x y =
-        two-inputs kinds.Log LOG_BYTES (LogAnswers t) (λ events. BookOfLogGives t events Prices) (λ events. BookOfLogGives t events Checks) (file log) o p (Accepts form o p)
+        value-inputs kinds.Log LOG_BYTES (LogAnswers t) (λ events. BookOfLogGives t events Prices) (λ events. BookOfLogGives t events Checks)
+        (file log) o p (Accepts form o p)
         (one_log_answer t) none-stops (on-log t says.1) x
         (subst (λ (c : Option (List ℕ)). LogGives t c (λ events. BookOfLogGives t events Checks) p) holds.inputs_hold.1.0 y)
 
     -- what `audit` gives over the files that `award` left accepts what `award` gave
     pub accepted-log : FilesGive (award terms log cert form) file o → FilesGive (audit terms log cert) later p → Accepts form o p
     accepted-log prices checks =
-        two-inputs kinds.Award AWARD_BYTES AwardAnswers (λ t. LogGives t (file log) (λ events. BookOfLogGives t events Prices)) (λ t. LogGives t (later log) (λ events. BookOfLogGives t events Checks))
+        value-inputs kinds.Award AWARD_BYTES AwardAnswers (λ t. LogGives t (file log) (λ events. BookOfLogGives t events Prices)) (λ t. LogGives t
+        (later log) (λ events. BookOfLogGives t events Checks))
         (file terms) o p (Accepts form o p) one_award-answer none-stops on-award prices
         (subst (λ (c : Option (List ℕ)). AwardGives c (λ t. LogGives t (later log) (λ events. BookOfLogGives t events Checks)) p) holds.inputs_hold.0 checks)

@@ -2,23 +2,23 @@
 use Rattle.std.proofs.Common.{◌≡◌, ◌∙◌, ℕ, ◌≤◌, ◌<◌, IsTrue, Some, List, [], ◌∷◌, ◌++◌, length, refl, sym, ap, subst, arith}
 use Rattle.std.specs.Prelude.{Result, Ok, Err}
 use Rattle.std.specs.List.{AllByRecursion}
-use Rattle.cca_inputs.specs.cca_base.specs.Faults.{Rose}
+use Rattle.cca_work.specs.cca_inputs.specs.cca_base.specs.Faults.{Rose}
 use Rattle.std.specs.Prelude.{take, drop, ◌-◌}
 use Rattle.std.proofs.Common.{append_assoc, get_or}
 use Rattle.std.proofs.lemmas.List.{take_all}
-use Rattle.cca_inputs.specs.cca_base.specs.Files.{Adds, Folder, KeepsFiles}
-use Rattle.cca_inputs.specs.cca_base.specs.Sink.{HasRoom}
-use Rattle.cca_inputs.specs.cca_base.proofs.Given.{keeps_still}
-use Rattle.cca_inputs.specs.cca_base.specs.declared.write.WriteStop.{WriteStop}
-use Rattle.cca_inputs.specs.cca_base.specs.declared.write.WriteStop.TheVariants.{Fault}
+use Rattle.cca_work.specs.cca_inputs.specs.cca_base.specs.Files.{Adds, Folder, KeepsFiles}
+use Rattle.cca_work.specs.cca_inputs.specs.cca_base.specs.Sink.{HasRoom}
+use Rattle.cca_work.specs.cca_inputs.specs.cca_base.proofs.Given.{keeps_still}
+use Rattle.cca_work.specs.cca_inputs.specs.cca_base.specs.declared.write.WriteStop.{WriteStop}
+use Rattle.cca_work.specs.cca_inputs.specs.cca_base.specs.declared.write.WriteStop.TheVariants.{Fault}
 use Rattle.cca_run.proofs.Moved.{all-on}
-use Rattle.cca_inputs.specs.Command.{CommandValue, files_of, output_as}
-use Rattle.cca_inputs.specs.Words.{KnowsFiles}
-use Rattle.cca_inputs.specs.declared.file_text.FileText.{FileText}
-use Rattle.cca_inputs.specs.declared.status.FileKind.{FileKind}
+use Rattle.cca_work.specs.cca_inputs.specs.Command.{CommandValue, files_of, output_as}
+use Rattle.cca_work.specs.cca_inputs.specs.Words.{KnowsFiles}
+use Rattle.cca_work.specs.cca_inputs.specs.declared.file_text.FileText.{FileText}
+use Rattle.cca_work.specs.cca_inputs.specs.declared.status.FileKind.{FileKind}
 use Rattle.cca_run.specs.Run.{AppendsAll}
-use Rattle.cca_run.specs.Works.{AppendEnds, FailsAt, OnlyAppends}
-use Rattle.cca_run.proofs.Counts.{rose-from}
+use Rattle.cca_run.specs.Ends.{AppendEnds, FailsAt, OnlyAppends}
+use Rattle.cca_work.proofs.Counts.{rose-from}
 
 keeps : (folder : Folder) → KeepsFiles folder folder
 keeps folder = keeps_still folder

@@ -3,28 +3,27 @@ use Rattle.std.proofs.Common.{◌≡◌, ◌∙◌, ℕ, Bool, IsTrue, Option, S
 use Rattle.std.specs.Prelude.{◌+◌, Result, Ok, Err, reverse, if◌then◌else◌}
 use Rattle.std.specs.Option.{option_or}
 use Rattle.std.proofs.lemmas.Bool.{cases_lt}
-use Rattle.outcome.specs.auction_model.specs.Book.{Book}
-use Rattle.big_auction.specs.auction_rules.specs.BookOfLog.{book_of_log, is_complete}
-use Rattle.big_auction.specs.auction_rules.specs.Replies.{reply_to}
-use Rattle.big_auction.specs.auction_rules.specs.Terms.{Terms}
-use Rattle.big_auction.specs.auction_rules.specs.declared.Event.{Event}
-use Rattle.big_auction.specs.auction_rules.specs.declared.Event.TheVariants.{Bid, Draft, Drop, Submit, Close}
-use Rattle.big_auction.specs.auction_rules.specs.declared.Reply.{Reply}
-use Rattle.big_auction.specs.auction_rules.specs.declared.Reply.TheVariants as reply
-use Rattle.log_replay.specs.ReplyLines.{book_or_open, end_of, first_refusal, refusal_of, stopped_or}
-use Rattle.log_replay.specs.declared.results.ReplayStop.{ReplayStop}
-use Rattle.log_replay.specs.declared.results.ReplayStop.TheVariants.{Rounds, Price, Open}
-use Rattle.cca_inputs.specs.limits.specs.declared.LimitKind.TheVariants.{Bytes}
-use Rattle.cca_inputs.specs.limits.specs.declared.TheConstants.{AWARD_BYTES, LOG_BYTES}
-use Rattle.cca_inputs.specs.Answers.{AwardAnswers, LogAnswers, award_answer}
-use Rattle.cca_inputs.specs.Command.{award}
-use Rattle.cca_inputs.specs.Outcome.{Answer, AnswerGives, FileAnswers, InputGives, Outcome, stopped, stops, value}
-use Rattle.cca_inputs.specs.declared.price_form.PriceForm.{PriceForm}
-use Rattle.cca_inputs.specs.declared.status.FileKind.{FileKind}
-use Rattle.cca_inputs.specs.declared.status.FileKind.TheVariants as kinds
-use Rattle.cca_inputs.specs.declared.status.Status.{Status}
-use Rattle.cca_inputs.specs.declared.status.Status.TheVariants.{Limit}
-use Rattle.cca_run.specs.Gives.{BookOfLogGives, EndGives, FilesGive, LogGives, PriceGives, ones}
+use Rattle.cca_work.specs.outcome.specs.auction_model.specs.Book.{Book}
+use Rattle.cca_work.specs.big_auction.specs.auction_rules.specs.BookOfLog.{book_of_log, is_complete}
+use Rattle.cca_work.specs.big_auction.specs.auction_rules.specs.Replies.{reply_to}
+use Rattle.cca_work.specs.big_auction.specs.auction_rules.specs.Terms.{Terms}
+use Rattle.cca_work.specs.big_auction.specs.auction_rules.specs.declared.Event.{Event}
+use Rattle.cca_work.specs.big_auction.specs.auction_rules.specs.declared.Event.TheVariants.{Bid, Draft, Drop, Submit, Close}
+use Rattle.cca_work.specs.big_auction.specs.auction_rules.specs.declared.Reply.{Reply}
+use Rattle.cca_work.specs.big_auction.specs.auction_rules.specs.declared.Reply.TheVariants as reply
+use Rattle.cca_work.specs.log_replay.specs.ReplyLines.{book_or_open, end_of, first_refusal, refusal_of, stopped_or}
+use Rattle.cca_work.specs.log_replay.specs.declared.results.ReplayStop.{ReplayStop}
+use Rattle.cca_work.specs.log_replay.specs.declared.results.ReplayStop.TheVariants.{Rounds, Price, Open}
+use Rattle.cca_work.specs.cca_inputs.specs.limits.specs.declared.LimitKind.TheVariants.{Bytes}
+use Rattle.cca_work.specs.cca_inputs.specs.limits.specs.declared.TheConstants.{AWARD_BYTES, LOG_BYTES}
+use Rattle.cca_work.specs.cca_inputs.specs.Answers.{AwardAnswers, LogAnswers, award_answer}
+use Rattle.cca_work.specs.cca_inputs.specs.Command.{award}
+use Rattle.cca_work.specs.cca_inputs.specs.Outcome.{Answer, AnswerGives, InputGives, Outcome, stopped, value}
+use Rattle.cca_work.specs.cca_inputs.specs.declared.price_form.PriceForm.{PriceForm}
+use Rattle.cca_work.specs.cca_inputs.specs.declared.status.FileKind.{FileKind}
+use Rattle.cca_work.specs.cca_inputs.specs.declared.status.FileKind.TheVariants as kinds
+use Rattle.cca_work.specs.cca_inputs.specs.declared.status.Status.TheVariants.{Limit}
+use Rattle.cca_work.specs.Gives.{BookOfLogGives, EndGives, FilesGive, LogGives, PriceGives, ones}
 use Rattle.cca_run.specs.Headline.{IsAuction, IsDoneOrLimited}
 
 -- an outcome that is told to be this has its status

@@ -1,21 +1,23 @@
 -- How a command ends that has its work, and how a run then ends.
 use Rattle.std.proofs.Common.{inl, inr, ◌≡◌, ◌⊎◌, ◌∙◌, ℕ, ◌≤◌, ◌<◌, Option, Some, List, length, refl, sym, ap, subst}
-use Rattle.cca_inputs.specs.cca_base.specs.Faults.{Rose}
-use Rattle.cca_inputs.specs.cca_base.specs.Files.{Agrees, Folder}
-use Rattle.cca_inputs.specs.cca_base.proofs.Given.{agrees_same, agrees_told, of_same}
-use Rattle.cca_inputs.specs.cca_base.specs.Sink.{HasRoom, Output, Puts}
-use Rattle.cca_inputs.specs.Command.{CommandValue, inputs_of, output_as, outputs_of}
-use Rattle.cca_inputs.specs.Outcome.{Outcome, done}
-use Rattle.cca_inputs.specs.StatusLine.{status_line}
-use Rattle.cca_inputs.specs.Statuses.{IsDecided, IsHindered, KeepsAll}
-use Rattle.cca_inputs.specs.declared.file_text.FileText.{FileText}
-use Rattle.cca_inputs.specs.declared.status.FileKind.{FileKind}
-use Rattle.cca_inputs.specs.declared.status.FileKind.TheVariants.{Award, Log, Book, Cert, Weights, Slots, Edits, Out}
-use Rattle.cca_inputs.specs.declared.status.Status.{Status}
-use Rattle.cca_inputs.specs.declared.status.Status.TheVariants.{Done, Words, ReadFault, WriteFault}
-use Rattle.cca_run.specs.Gives.{FilesGive}
-use Rattle.cca_run.specs.Run.{AppendsAll, CountsAmong, FailsToWrite, IsWriteFault, Prints}
-use Rattle.cca_run.specs.Works.{FailsAt, FinishEnds, OnlyAppends, OnlyReads, RunEnds}
+use Rattle.cca_work.specs.cca_inputs.specs.cca_base.specs.Faults.{Rose}
+use Rattle.cca_work.specs.cca_inputs.specs.cca_base.specs.Files.{Agrees, Folder}
+use Rattle.cca_work.specs.cca_inputs.specs.cca_base.proofs.Given.{agrees_same, agrees_told, of_same}
+use Rattle.cca_work.specs.cca_inputs.specs.cca_base.specs.Sink.{HasRoom, Output, Puts}
+use Rattle.cca_work.specs.cca_inputs.specs.Command.{CommandValue, inputs_of, output_as, outputs_of}
+use Rattle.cca_work.specs.cca_inputs.specs.Outcome.{Outcome, done}
+use Rattle.cca_work.specs.cca_inputs.specs.StatusLine.{status_line}
+use Rattle.cca_work.specs.cca_inputs.specs.Statuses.{IsDecided, IsHindered, KeepsAll}
+use Rattle.cca_work.specs.cca_inputs.specs.declared.file_text.FileText.{FileText}
+use Rattle.cca_work.specs.cca_inputs.specs.declared.status.FileKind.{FileKind}
+use Rattle.cca_work.specs.cca_inputs.specs.declared.status.FileKind.TheVariants.{Award, Log, Book, Cert, Weights, Slots, Edits, Out}
+use Rattle.cca_work.specs.cca_inputs.specs.declared.status.Status.{Status}
+use Rattle.cca_work.specs.cca_inputs.specs.declared.status.Status.TheVariants.{Done, Words, ReadFault, WriteFault}
+use Rattle.cca_work.specs.Gives.{FilesGive}
+use Rattle.cca_work.specs.Works.{CountsAmong}
+use Rattle.cca_run.specs.Run.{AppendsAll, FailsToWrite, IsWriteFault, Prints}
+use Rattle.cca_work.specs.Works.{OnlyReads}
+use Rattle.cca_run.specs.Ends.{FailsAt, FinishEnds, OnlyAppends, RunEnds}
 use Rattle.cca_run.proofs.Moved.{all-on, upto-on}
 use Rattle.cca_run.proofs.Named.{never-out}
 

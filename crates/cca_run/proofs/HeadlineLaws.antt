@@ -3,41 +3,42 @@ use Rattle.std.proofs.Common.{◌≡◌, ◌∙◌, ℕ, Option, Some, None, Lis
 use Rattle.std.specs.Prelude.{◌-◌, ◌<◌, ◌≤◌, Result, Ok, Err, reverse}
 use Rattle.std.proofs.lemmas.Bool.{cases_lt}
 use Rattle.std.proofs.lemmas.List.{get_or-replicate}
-use Rattle.outcome.specs.auction_model.specs.Book.{Book, market_of}
-use Rattle.outcome.specs.auction_model.specs.Greatest.{IsWinning}
-use Rattle.outcome.specs.auction_model.specs.Market.{Market}
-use Rattle.outcome.specs.auction_model.specs.Prices.{AreVickreyPrices, IsCoreOutcome, Point, weight_of}
-use Rattle.outcome.specs.row_laws.specs.Outcome.{IsAuctionOutcome}
-use Rattle.big_auction.specs.auction_rules.specs.Terms.{Terms}
-use Rattle.big_auction.specs.auction_rules.specs.declared.Event.{Event}
-use Rattle.big_auction.specs.award_file.specs.Reading as reading
-use Rattle.big_auction.specs.log_file.specs.LogReading.{AreLog, log_records}
-use Rattle.log_replay.specs.ReplyLines.{end_of}
-use Rattle.log_replay.specs.declared.results.ReplayStop.{ReplayStop}
-use Rattle.log_replay.specs.declared.results.ReplayStop.TheVariants.{Rounds, Price, Open}
-use Rattle.cca_inputs.specs.line_text.specs.LineText.{Said, stated, faulty, beyond}
-use Rattle.cca_inputs.specs.cert_form.specs.Certificate.{CertValue}
-use Rattle.cca_inputs.specs.bid_book.specs.Kept.{IsBidBook}
-use Rattle.big_auction.specs.award_file.specs.Award.{IsAward}
-use Rattle.big_auction.specs.row_laws.specs.Winners.{winners_in}
-use Rattle.cca_inputs.specs.cert_form.specs.CertText.{IsCertificate}
-use Rattle.cca_inputs.specs.cert_form.specs.Says.{CertSays, cert_text}
-use Rattle.place_price.specs.cert_laws.specs.BookSizes.{IsWithinSizes}
-use Rattle.place_price.specs.cert_laws.specs.Priced.{IsPricedCert}
-use Rattle.place_price.specs.cert_laws.specs.Sound.{cert_point, cert_prices}
-use Rattle.place_price.specs.cert_laws.specs.Tests.{bidders_of, states}
-use Rattle.cca_inputs.specs.limits.specs.declared.TheConstants.{AWARD_BYTES, LOG_BYTES, CERT_BYTES, MOST_WINNERS, PRICED_CERT_BYTES}
-use Rattle.cca_inputs.specs.Answers.{AwardAnswers, CertAnswers, LogAnswers, award_answer, cert_answer}
-use Rattle.cca_inputs.specs.Command.{award, audit}
-use Rattle.cca_inputs.specs.Outcome.{Answer, FileAnswers, AnswerGives, InputGives, Outcome, stops, value}
-use Rattle.cca_inputs.specs.declared.price_form.PriceForm.{PriceForm}
-use Rattle.cca_inputs.specs.declared.status.FileKind.{FileKind}
-use Rattle.cca_inputs.specs.declared.status.FileKind.TheVariants as kinds
-use Rattle.cca_inputs.specs.declared.status.Status.{Status}
-use Rattle.cca_inputs.specs.declared.status.Status.TheVariants.{Done}
-use Rattle.cca_run.specs.Gives.{BookOfLogGives, CertGives, EndGives, FilesGive, IsYesText, LogGives, PriceGives, VerdictGives, cert_file, ones}
+use Rattle.cca_work.specs.outcome.specs.auction_model.specs.Book.{Book, market_of}
+use Rattle.cca_work.specs.outcome.specs.auction_model.specs.Greatest.{IsWinning}
+use Rattle.cca_work.specs.outcome.specs.auction_model.specs.Market.{Market}
+use Rattle.cca_work.specs.outcome.specs.auction_model.specs.Prices.{AreVickreyPrices, IsCoreOutcome, Point, weight_of}
+use Rattle.cca_work.specs.outcome.specs.row_laws.specs.Outcome.{IsAuctionOutcome}
+use Rattle.cca_work.specs.big_auction.specs.auction_rules.specs.Terms.{Terms}
+use Rattle.cca_work.specs.big_auction.specs.auction_rules.specs.declared.Event.{Event}
+use Rattle.cca_work.specs.big_auction.specs.award_file.specs.Reading as reading
+use Rattle.cca_work.specs.big_auction.specs.log_file.specs.LogReading.{AreLog, log_records}
+use Rattle.cca_work.specs.log_replay.specs.ReplyLines.{end_of}
+use Rattle.cca_work.specs.log_replay.specs.declared.results.ReplayStop.{ReplayStop}
+use Rattle.cca_work.specs.log_replay.specs.declared.results.ReplayStop.TheVariants.{Rounds, Price, Open}
+use Rattle.cca_work.specs.cca_inputs.specs.line_text.specs.LineText.{Said, stated, faulty, beyond}
+use Rattle.cca_work.specs.cca_inputs.specs.cert_form.specs.Certificate.{CertValue}
+use Rattle.cca_work.specs.cca_inputs.specs.bid_book.specs.Kept.{IsBidBook}
+use Rattle.cca_work.specs.big_auction.specs.award_file.specs.Award.{IsAward}
+use Rattle.cca_work.specs.big_auction.specs.row_laws.specs.Winners.{winners_in}
+use Rattle.cca_work.specs.cca_inputs.specs.cert_form.specs.CertText.{IsCertificate}
+use Rattle.cca_work.specs.cca_inputs.specs.cert_form.specs.Says.{CertSays, cert_text}
+use Rattle.cca_work.specs.place_price.specs.cert_laws.specs.BookSizes.{IsWithinSizes}
+use Rattle.cca_work.specs.place_price.specs.cert_laws.specs.Priced.{IsPricedCert}
+use Rattle.cca_work.specs.place_price.specs.cert_laws.specs.Sound.{cert_point, cert_prices}
+use Rattle.cca_work.specs.place_price.specs.cert_laws.specs.Tests.{bidders_of, states}
+use Rattle.cca_work.specs.cca_inputs.specs.limits.specs.declared.TheConstants.{AWARD_BYTES, LOG_BYTES, CERT_BYTES, MOST_WINNERS, PRICED_CERT_BYTES}
+use Rattle.cca_work.specs.cca_inputs.specs.Answers.{AwardAnswers, CertAnswers, LogAnswers, award_answer, cert_answer}
+use Rattle.cca_work.specs.cca_inputs.specs.Command.{award, audit}
+use Rattle.cca_work.specs.cca_inputs.specs.Outcome.{Answer, FileAnswers, AnswerGives, InputGives, Outcome, stops, value}
+use Rattle.cca_work.specs.cca_inputs.specs.declared.price_form.PriceForm.{PriceForm}
+use Rattle.cca_work.specs.cca_inputs.specs.declared.status.FileKind.{FileKind}
+use Rattle.cca_work.specs.cca_inputs.specs.declared.status.FileKind.TheVariants as kinds
+use Rattle.cca_work.specs.cca_inputs.specs.declared.status.Status.{Status}
+use Rattle.cca_work.specs.cca_inputs.specs.declared.status.Status.TheVariants.{Done}
+use Rattle.cca_work.specs.Gives.{BookOfLogGives, CertGives, EndGives, FilesGive, IsYesText, LogGives, PriceGives, VerdictGives, cert_file, ones}
 use Rattle.cca_run.specs.Headline.{HoldsAdmittedBids, IsAudited, IsAwarded, book_of}
-use Rattle.cca_run.proofs.Accepted.{sizes-of, within-says}
+use Rattle.cca_run.proofs.Accepted.{sizes-of}
+use Rattle.cca_run.proofs.Same.{within-says}
 use Rattle.cca_run.proofs.LogBooks.{logged}
 
 -- an input of a run that is done has a value, from which the run went on

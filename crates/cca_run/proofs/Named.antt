@@ -4,9 +4,11 @@ use Rattle.std.specs.Prelude.{Contains, find, filter}
 use Rattle.std.specs.Option.{option_map}
 use Rattle.std.specs.List.{AllByRecursion}
 use Rattle.std.proofs.lemmas.Bool.{cases_Bool}
-use Rattle.cca_inputs.specs.Command.{CommandValue, win, price, check, weigh, weigh_check, auction, award, audit, make, place, place_check, review, FileUse, appended_files, input_as, inputs_of, is_kind, output_as, outputs_of, read_files}
-use Rattle.cca_inputs.specs.declared.status.FileKind.{FileKind}
-use Rattle.cca_inputs.specs.declared.status.FileKind.TheVariants.{Out}
+use Rattle.cca_work.specs.cca_inputs.specs.Command.{CommandValue, win, two_files, three_files, one_priced, two_priced, make, FileUse}
+use Rattle.cca_work.specs.cca_inputs.specs.Command.{appended_files, input_as, inputs_of, is_kind, output_as, outputs_of, read_files}
+use Rattle.cca_work.specs.cca_inputs.specs.declared.shape.ThreeFiles.TheVariants.{WeighCheck, Auction, Audit}
+use Rattle.cca_work.specs.cca_inputs.specs.declared.status.FileKind.{FileKind}
+use Rattle.cca_work.specs.cca_inputs.specs.declared.status.FileKind.TheVariants.{Out}
 
 -- the name of the file that is found is among the names
 found : (q : FileUse → Bool) (files : List FileUse) (name : List ℕ) → option_map (λ f. f.name) (find q files) ≡ Some name → Contains (map (λ f. f.name) files) name
@@ -43,14 +45,10 @@ input-among command kind name is = found (λ f. is_kind kind f.kind) (read_files
 -- no command appends to the output
 pub never-out : (command : CommandValue) (name : List ℕ) → output_as command Out ≡ Some name → ⊥
 never-out (win book) name is = cc
-never-out (price book cert form) name is = cc
-never-out (check book cert) name is = cc
-never-out (weigh book weights cert form) name is = cc
-never-out (weigh_check book weights cert) name is = cc
-never-out (auction terms log book) name is = cc
-never-out (award terms log cert form) name is = cc
-never-out (audit terms log cert) name is = cc
+never-out (two_files kind first second) name is = cc
+never-out (three_files WeighCheck first second third) name is = cc
+never-out (three_files Auction first second third) name is = cc
+never-out (three_files Audit first second third) name is = cc
+never-out (one_priced kind first cert form) name is = cc
+never-out (two_priced kind first second cert form) name is = cc
 never-out (make number terms log) name is = cc
-never-out (place slots cert rounds) name is = cc
-never-out (place_check slots cert) name is = cc
-never-out (review book edits) name is = cc

@@ -1,34 +1,21 @@
 -- The bytes of an award and of its log give one outcome of an auction.
-use Rattle.std.proofs.Common.{◌≡◌, ◌∙◌, ℕ, Option, Some, None, List, [], ◌∷◌, sym, ap, subst}
+use Rattle.std.proofs.Common.{◌≡◌, ◌∙◌, ℕ, Option, List, [], ◌∷◌, sym, ap}
 use Rattle.std.specs.Prelude.{Result, Ok, Err}
-use Rattle.cca_inputs.specs.limits.specs.declared.TheConstants.{AWARD_BYTES, LOG_BYTES}
-use Rattle.cca_inputs.specs.line_text.specs.LineText.{stated, Says}
-use Rattle.outcome.specs.auction_model.specs.Book.{Book}
-use Rattle.big_auction.specs.auction_rules.specs.Terms.{Terms}
-use Rattle.big_auction.specs.auction_rules.specs.declared.Event.{Event}
-use Rattle.cca_inputs.specs.book_form.specs.BookForm.{IsBook}
-use Rattle.cca_inputs.specs.book_form.specs.BookLines.{lines}
-use Rattle.log_replay.specs.declared.results.ReplayStop.{ReplayStop}
-use Rattle.cca_inputs.specs.Answers.{AwardAnswers, LogAnswers}
-use Rattle.cca_inputs.specs.Command.{auction, contents_of}
-use Rattle.cca_inputs.specs.Outcome.{Answer, AnswerGives, InputGives, Outcome, done, stops, value}
-use Rattle.cca_inputs.specs.declared.status.FileKind.{FileKind}
-use Rattle.cca_inputs.specs.declared.status.FileKind.TheVariants.{Award, Log}
-use Rattle.cca_run.specs.Gives.{AuctionGives, FilesGive, LogGives, RepliesGive, book_file}
+use Rattle.cca_work.specs.cca_inputs.specs.limits.specs.declared.TheConstants.{AWARD_BYTES, LOG_BYTES}
+use Rattle.cca_work.specs.cca_inputs.specs.line_text.specs.LineText.{stated, Says}
+use Rattle.cca_work.specs.outcome.specs.auction_model.specs.Book.{Book}
+use Rattle.cca_work.specs.big_auction.specs.auction_rules.specs.Terms.{Terms}
+use Rattle.cca_work.specs.big_auction.specs.auction_rules.specs.declared.Event.{Event}
+use Rattle.cca_work.specs.cca_inputs.specs.book_form.specs.BookForm.{IsBook}
+use Rattle.cca_work.specs.cca_inputs.specs.book_form.specs.BookLines.{lines}
+use Rattle.cca_work.specs.log_replay.specs.declared.results.ReplayStop.{ReplayStop}
+use Rattle.cca_work.specs.cca_inputs.specs.Answers.{AwardAnswers, LogAnswers}
+use Rattle.cca_work.specs.cca_inputs.specs.Command.{auction, contents_of}
+use Rattle.cca_work.specs.cca_inputs.specs.Outcome.{Answer, Outcome, done}
+use Rattle.cca_work.specs.cca_inputs.specs.declared.status.FileKind.TheVariants.{Award, Log}
+use Rattle.cca_work.specs.Gives.{AuctionGives, FilesGive, LogGives, RepliesGive, book_file}
 use Rattle.cca_run.proofs.OneLog.{one_award-answer}
-use Rattle.cca_run.proofs.Same.{one-answer}
-
--- an input with one answer gives one outcome, where each of its values does
-one-given : {V : Type 0} (kind : FileKind) (most : ℕ) (says : List ℕ → Answer V → Type 0) (follows : V → Outcome → Type 0) → ((bytes : List ℕ) (a b : Answer V) → says bytes a → says bytes b → a ≡ b)
-    → (content : Option (List ℕ)) (o p : Outcome) → ((v : V) → follows v o → follows v p → o ≡ p)
-    → InputGives kind most says content follows o → InputGives kind most says content follows p → o ≡ p
-one-given kind most says follows one None o p same x y = x ∙ sym y
-one-given {V} kind most says follows one (Some bytes) o p same x y =
-    go y.0 (subst (λ (a : Answer V). AnswerGives a follows o) (one-answer most says one bytes x.0 y.0 x.1 y.1) x.2) y.2
-  where
-    go : (a : Answer V) → AnswerGives a follows o → AnswerGives a follows p → o ≡ p
-    go (value v) g h = same v g h
-    go (stops s) g h = g ∙ sym h
+use Rattle.cca_run.proofs.Same.{two-inputs}
 
 -- what the laws of the crates below say
 module _ (one_log_answer : (terms : Terms) (bytes : List ℕ) (x y : Answer (List Event)) → LogAnswers terms bytes x → LogAnswers terms bytes y → x ≡ y)
@@ -42,5 +29,9 @@ module _ (one_log_answer : (terms : Terms) (bytes : List ℕ) (x y : Answer (Lis
   pub one-auction : (award log book : List ℕ) (file : List ℕ → Option (List ℕ)) (o p : Outcome) → FilesGive (auction award log book) file o → FilesGive (auction award log book) file p → o ≡ p
   one-auction award log book file o p x y =
       let contents = contents_of (auction award log book) file in
-      one-given Award AWARD_BYTES AwardAnswers (λ terms. LogGives terms (contents Log) (AuctionGives terms)) one_award-answer (contents Award) o p
-      (λ terms a b. one-given Log LOG_BYTES (LogAnswers terms) (AuctionGives terms) (one_log_answer terms) (contents Log) o p (λ events g h. one-replies _ _ _ o p g h) a b) x y
+      two-inputs Award AWARD_BYTES AwardAnswers (λ terms. LogGives terms (contents Log) (AuctionGives terms)) (λ terms. LogGives terms (contents Log)
+      (AuctionGives terms))
+      (contents Award) o p (o ≡ p) one_award-answer (λ s a b. a ∙ sym b)
+      (λ terms bytes says a b. two-inputs Log LOG_BYTES (LogAnswers terms) (AuctionGives terms) (AuctionGives terms) (contents Log) o p (o ≡ p)
+      (one_log_answer terms)
+      (λ s a b. a ∙ sym b) (λ events of told g h. one-replies _ _ _ o p g h) a b) x y

@@ -1,56 +1,64 @@
 -- The words and the bytes give at most one status and one printed text.
 use Rattle.std.specs.Prelude.{◌≡◌, ℕ, ℤ, Bool, true, false, ◌≤◌, ◌<◌, ◌^◌, Option, Some, None, List, [], ◌∷◌, ◌++◌, codes, length, pos, ◌≤ℤ◌, refl}
 use Rattle.std.proofs.Common.{inl, inr, sym, ◌∙◌, ap, subst, arith}
-use Rattle.std.proofs.lemmas.Bool.{cases_lt}
-use Rattle.cca_inputs.specs.line_text.specs.LineText.{Said, stated, faulty, beyond, Says}
-use Rattle.outcome.specs.auction_model.specs.Market.{Market}
-use Rattle.outcome.specs.auction_model.specs.Greatest.{IsWinning}
-use Rattle.outcome.specs.auction_model.specs.Lawful.{IsMarket}
-use Rattle.outcome.specs.auction_model.specs.Book.{Book, bids_of, net_of, market_of}
-use Rattle.outcome.specs.auction_model.specs.Prices.{Point, AreVickreyPrices, AreWeights, IsCoreOutcome, SamePoint, weight_of}
-use Rattle.outcome.specs.auction_model.specs.PricingRun.{Turn, IsPricingRun}
-use Rattle.cca_inputs.specs.book_form.specs.BookForm.{IsBook}
-use Rattle.cca_inputs.specs.book_form.specs.BookLines.{Excess, IsBookWithinLimits, lines}
-use Rattle.outcome.specs.print_form.specs.WinText.{win_text}
-use Rattle.cca_inputs.specs.bid_book.proofs.Within.{kept}
-use Rattle.cca_inputs.specs.cert_form.specs.Certificate.{CertValue}
-use Rattle.cca_inputs.specs.cert_form.specs.Says.{CertSays, cert_text}
-use Rattle.place_price.specs.cert_laws.specs.Sound.{IsSound, cert_point, cert_prices}
-use Rattle.place_price.specs.cert_laws.specs.Tests.{FailsFirst, Holds, bidders_of, states}
-use Rattle.outcome.specs.print_form.specs.Json.{IsOutcomeJson}
-use Rattle.outcome.specs.print_form.specs.Prices.{IsPriceText}
-use Rattle.outcome.specs.print_form.specs.Turns.{AreTurnLines}
-use Rattle.big_auction.specs.row_laws.specs.Winners.{winners_in}
-use Rattle.big_auction.specs.row_laws.specs.Weights.{FewWin}
+use Rattle.cca_work.specs.cca_inputs.specs.line_text.specs.LineText.{Said, stated, faulty, beyond, Says}
+use Rattle.cca_work.specs.outcome.specs.auction_model.specs.Market.{Market}
+use Rattle.cca_work.specs.outcome.specs.auction_model.specs.Greatest.{IsWinning}
+use Rattle.cca_work.specs.outcome.specs.auction_model.specs.Lawful.{IsMarket}
+use Rattle.cca_work.specs.outcome.specs.auction_model.specs.Book.{Book, bids_of, net_of, market_of}
+use Rattle.cca_work.specs.outcome.specs.auction_model.specs.Prices.{Point, AreVickreyPrices, AreWeights, IsCoreOutcome, SamePoint, weight_of}
+use Rattle.cca_work.specs.outcome.specs.auction_model.specs.PricingRun.{Turn, IsPricingRun}
+use Rattle.cca_work.specs.cca_inputs.specs.book_form.specs.BookForm.{IsBook}
+use Rattle.cca_work.specs.cca_inputs.specs.book_form.specs.BookLines.{Excess, IsBookWithinLimits, lines}
+use Rattle.cca_work.specs.outcome.specs.print_form.specs.WinText.{win_text}
+use Rattle.cca_work.specs.cca_inputs.specs.bid_book.proofs.Within.{kept}
+use Rattle.cca_work.specs.cca_inputs.specs.cert_form.specs.Certificate.{CertValue}
+use Rattle.cca_work.specs.cca_inputs.specs.cert_form.specs.Says.{CertSays, cert_text}
+use Rattle.cca_work.specs.place_price.specs.cert_laws.specs.Sound.{IsSound, cert_point, cert_prices}
+use Rattle.cca_work.specs.place_price.specs.cert_laws.specs.Tests.{FailsFirst, Holds, bidders_of, states}
+use Rattle.cca_work.specs.outcome.specs.print_form.specs.Json.{IsOutcomeJson}
+use Rattle.cca_work.specs.outcome.specs.print_form.specs.Prices.{IsPriceText}
+use Rattle.cca_work.specs.outcome.specs.print_form.specs.Turns.{AreTurnLines}
+use Rattle.cca_work.specs.big_auction.specs.row_laws.specs.Winners.{winners_in}
+use Rattle.cca_work.specs.big_auction.specs.row_laws.specs.Weights.{FewWin}
 use Rattle.std.specs.Prelude.{Result, Ok, Err, reverse}
-use Rattle.big_auction.specs.award_file.specs.Award.{IsAward}
-use Rattle.big_auction.specs.log_file.specs.LogReading.{AreLog, log_records}
-use Rattle.log_replay.specs.ReplyLines.{end_of}
-use Rattle.big_auction.specs.auction_rules.specs.Terms.{Terms}
-use Rattle.big_auction.specs.auction_rules.specs.declared.Event.{Event}
-use Rattle.log_replay.specs.declared.results.ReplayStop.{ReplayStop}
-use Rattle.cca_inputs.specs.weights_file.specs.WeightsForm.{WeightsSay}
-use Rattle.cca_inputs.specs.edits_file.specs.EditsForm.{AreNamedEdits, EditsSay, NamedEdit, add, raise, remove, edits_of}
-use Rattle.outcome.specs.review.specs.Edits.{edit_lots}
+use Rattle.cca_work.specs.big_auction.specs.award_file.specs.Award.{IsAward}
+use Rattle.cca_work.specs.big_auction.specs.log_file.specs.LogReading.{AreLog, log_records}
+use Rattle.cca_work.specs.log_replay.specs.ReplyLines.{end_of}
+use Rattle.cca_work.specs.big_auction.specs.auction_rules.specs.Terms.{Terms}
+use Rattle.cca_work.specs.big_auction.specs.auction_rules.specs.declared.Event.{Event}
+use Rattle.cca_work.specs.log_replay.specs.declared.results.ReplayStop.{ReplayStop}
+use Rattle.cca_work.specs.cca_inputs.specs.weights_file.specs.WeightsForm.{WeightsSay}
+use Rattle.cca_work.specs.cca_inputs.specs.edits_file.specs.EditsForm.{AreNamedEdits, EditsSay, NamedEdit, add, raise, remove, edits_of}
+use Rattle.cca_work.specs.outcome.specs.review.specs.Edits.{edit_lots}
 use Rattle.std.specs.List.{AllByRecursion}
-use Rattle.outcome.specs.review.specs.declared.edit.Edit.{Edit}
-use Rattle.outcome.specs.ReviewText.{IsReviewText}
-use Rattle.cca_run.proofs.Same.{Same, both, equal, one-answer, one-input, printed-same}
+use Rattle.cca_work.specs.outcome.specs.review.specs.declared.edit.Edit.{Edit}
+use Rattle.cca_work.specs.outcome.specs.ReviewText.{IsReviewText}
+use Rattle.cca_run.proofs.Same.{Same, both, equal, one-input, printed-same}
+use Rattle.cca_run.proofs.Stated.{limits-of}
 use Rattle.cca_run.proofs.OneLog.{one_award-answer}
-use Rattle.place_price.specs.book_price.proofs.Ones.{ones-weigh}
+use Rattle.cca_work.specs.place_price.specs.book_price.proofs.Ones.{ones-weigh}
 use Rattle.cca_run.proofs.Ones.{not_few_and_many}
-use Rattle.cca_inputs.specs.Answers.{AwardAnswers, BookAnswers, CertAnswers, EditsAnswers, LogAnswers, WeightsAnswers, book_answer, cert_answer, edits_answer, weights_answer}
-use Rattle.cca_inputs.specs.Command.{CommandValue, win, price, check, weigh, weigh_check, auction, award, audit, make, place, place_check, review, command_of, contents_of}
-use Rattle.cca_inputs.specs.Outcome.{Answer, AnswerGives, FileAnswers, InputGives, Outcome, done, stopped, stops, value}
-use Rattle.cca_inputs.specs.declared.file_text.FileText.{FileText}
-use Rattle.cca_inputs.specs.declared.price_form.PriceForm.{PriceForm}
-use Rattle.cca_inputs.specs.declared.status.CertKind.TheVariants as certs
-use Rattle.cca_inputs.specs.declared.status.FileKind.{FileKind}
-use Rattle.cca_inputs.specs.declared.status.FileKind.TheVariants.{Award, Log, Book as BookFile, Cert, Weights, Slots, Edits}
-use Rattle.cca_inputs.specs.limits.specs.declared.TheConstants.{AWARD_BYTES, LOG_BYTES, BOOK_BYTES, CERT_BYTES, EDITS_BYTES, SLOTS_BYTES, WEIGHTS_BYTES}
-use Rattle.cca_run.specs.Gives.{ArePriceLines, AreRounds, AuctionGives, BookOfLogGives, CertGives, CommandGives, EditsGive, Gives, EndGives, HasTooMany, IsPricing, IsPrinted, IsYesText, LogGives, PriceGives, RepliesGive, ReviewGives, VerdictGives, WeightsGive, WinGives, WordsGive, book_file, cert_file, ones}
-use Rattle.cca_inputs.specs.declared.status.Status.TheVariants.{No, Limit}
-use Rattle.cca_inputs.specs.limits.specs.declared.LimitKind.TheVariants.{Winners}
+use Rattle.cca_work.specs.cca_inputs.specs.Answers.{AwardAnswers, BookAnswers, CertAnswers, EditsAnswers, LogAnswers, WeightsAnswers, book_answer}
+use Rattle.cca_work.specs.cca_inputs.specs.Answers.{cert_answer, edits_answer, weights_answer}
+use Rattle.cca_work.specs.cca_inputs.specs.Command.{CommandValue, win, two_files, three_files, one_priced, two_priced, make, place_check, command_of}
+use Rattle.cca_work.specs.cca_inputs.specs.Command.{contents_of}
+use Rattle.cca_work.specs.cca_inputs.specs.declared.shape.OnePriced.TheVariants as one
+use Rattle.cca_work.specs.cca_inputs.specs.declared.shape.ThreeFiles.TheVariants.{WeighCheck, Auction, Audit}
+use Rattle.cca_work.specs.cca_inputs.specs.declared.shape.TwoFiles.TheVariants.{Check, PlaceCheck, Review}
+use Rattle.cca_work.specs.cca_inputs.specs.declared.shape.TwoPriced.TheVariants as two
+use Rattle.cca_work.specs.cca_inputs.specs.Outcome.{Answer, Outcome, done, stopped, value}
+use Rattle.cca_work.specs.cca_inputs.specs.declared.price_form.PriceForm.{PriceForm}
+use Rattle.cca_work.specs.cca_inputs.specs.declared.status.CertKind.TheVariants as certs
+use Rattle.cca_work.specs.cca_inputs.specs.declared.status.FileKind.{FileKind}
+use Rattle.cca_work.specs.cca_inputs.specs.declared.status.FileKind.TheVariants.{Award, Log, Book as BookFile, Cert, Weights, Edits}
+use Rattle.cca_work.specs.cca_inputs.specs.limits.specs.declared.TheConstants.{AWARD_BYTES, LOG_BYTES, BOOK_BYTES, CERT_BYTES, EDITS_BYTES}
+use Rattle.cca_work.specs.cca_inputs.specs.limits.specs.declared.TheConstants.{WEIGHTS_BYTES}
+use Rattle.cca_work.specs.Gives.{ArePriceLines, AreRounds, AuctionGives, BookOfLogGives, CertGives, CommandGives, EditsGive, Gives, EndGives}
+use Rattle.cca_work.specs.Gives.{HasTooMany, IsPricing, IsPrinted, IsYesText, LogGives, PriceGives, RepliesGive, ReviewGives, VerdictGives}
+use Rattle.cca_work.specs.Gives.{WeightsGive, WinGives, WordsGive, book_file, cert_file, ones}
+use Rattle.cca_work.specs.cca_inputs.specs.declared.status.Status.TheVariants.{No, Limit}
+use Rattle.cca_work.specs.cca_inputs.specs.limits.specs.declared.LimitKind.TheVariants.{Winners}
 
 -- what a log leads to gives one status and one text
 one-end : (records : ℕ) (replies : List ℕ) (end : Result Book ReplayStop) (o p : Outcome) → RepliesGive records replies end o → RepliesGive records replies end p → Same o p
@@ -94,7 +102,8 @@ module _ (one_book : (bytes : List ℕ) (x y : Said Book Excess) → Says IsBook
     → pos 1 ≤ℤ p.den → pos 1 ≤ℤ q.den → SamePoint (market_of book) p q → ((j : ℕ) → 0 < j → j ≤ (market_of book).bidders → v j ≡ w j)
     → IsMarket (market_of book) → IsPricingRun (market_of book) weights z runs → IsPricingRun (market_of book) weights z others
     → IsOutcomeJson book z v p (Some runs) t → IsOutcomeJson book z w q (Some others) u → t ≡ u)
-    (one_placed : (slots cert : List ℕ) (rounds : Bool) (contents : FileKind → Option (List ℕ)) (o p : Outcome) → CommandGives (place slots cert rounds) contents o → CommandGives (place slots cert rounds) contents p → Same o p)
+    (one_placed : (slots cert : List ℕ) (form : PriceForm) (contents : FileKind → Option (List ℕ)) (o p : Outcome)
+    → CommandGives (one_priced one.Place slots cert form) contents o → CommandGives (one_priced one.Place slots cert form) contents p → Same o p)
     (one_tested : (slots cert : List ℕ) (contents : FileKind → Option (List ℕ)) (o p : Outcome) → CommandGives (place_check slots cert) contents o → CommandGives (place_check slots cert) contents p → Same o p)
     (one_edits : (categories : ℕ) (bytes : List ℕ) (x y : Said (List NamedEdit) Excess) → EditsSay categories bytes x → EditsSay categories bytes y → x ≡ y)
     (one_review : (book : Book) (edits : List Edit) (t u : List ℕ) → IsBookWithinLimits book → AllByRecursion (λ e. length (edit_lots e) ≡ length book.supply) edits → IsReviewText book edits t → IsReviewText book edits u → t ≡ u) where
@@ -116,24 +125,6 @@ module _ (one_book : (bytes : List ℕ) (x y : Said Book Excess) → Says IsBook
       by (faulty at) says is = absurd cc
       by (beyond e) says is = absurd cc
 
-  -- a book that bytes state is within the limits
-  limits-of : (bytes : List ℕ) (book : Book) → BookAnswers bytes (value book) → IsBookWithinLimits book
-  limits-of bytes book (said, says, is) = by said says is
-    where
-      by : (said : Said Book Excess) → Says IsBook lines bytes said → value book ≡ book_answer said → IsBookWithinLimits book
-      by (stated b) says is = let same : b ≡ book = cc in subst IsBookWithinLimits same (record { form = says.valid; limits = says.within })
-      by (faulty at) says is = absurd cc
-      by (beyond e) says is = absurd cc
-
-  -- a book that bytes state keeps the rules of its form
-  form-of : (bytes : List ℕ) (book : Book) → BookAnswers bytes (value book) → IsBook book
-  form-of bytes book (said, says, is) = by said says is
-    where
-      by : (said : Said Book Excess) → Says IsBook lines bytes said → value book ≡ book_answer said → IsBook book
-      by (stated b) says is = let same : b ≡ book = cc in subst IsBook same says.valid
-      by (faulty at) says is = absurd cc
-      by (beyond e) says is = absurd cc
-
   one_weights-answer : (book : Book) → IsBook book → (bytes : List ℕ) (x y : Answer (List ℕ)) → WeightsAnswers book bytes x → WeightsAnswers book bytes y → x ≡ y
   one_weights-answer book rules bytes x y a b = a.2 ∙ ap weights_answer (one_weighing book bytes a.0 b.0 rules a.1 b.1) ∙ sym b.2
 
@@ -148,17 +139,9 @@ module _ (one_book : (bytes : List ℕ) (x y : Said Book Excess) → Says IsBook
 
   -- the market of a book that bytes state is lawful
   lawful : (bytes : List ℕ) (book : Book) → BookAnswers bytes (value book) → IsMarket (market_of book)
-  lawful bytes book (said, says, is) = by said says is
-    where
-      of : (b : Book) → Says IsBook lines bytes (stated b) → IsMarket (market_of b)
-      of b text =
-          let rules = kept b (record { form = text.valid; limits = text.within }) in
-          market b (omega (arith, rules.bidders)) rules.not_negative
-
-      by : (said : Said Book Excess) → Says IsBook lines bytes said → value book ≡ book_answer said → IsMarket (market_of book)
-      by (stated b) says is = let same : b ≡ book = cc in subst (λ (x : Book). IsMarket (market_of x)) same (of b says)
-      by (faulty at) says is = absurd cc
-      by (beyond e) says is = absurd cc
+  lawful bytes book says =
+      let rules = kept book (limits-of bytes book says) in
+      market book (omega (arith, rules.bidders)) rules.not_negative
 
   one-rounds : (rounds : Bool) (book : Book) (weights z : List ℕ) (runs others : List Turn) (t u : List ℕ) → IsMarket (market_of book) → IsPricingRun (market_of book) (weight_of weights) z runs
       → IsPricingRun (market_of book) (weight_of weights) z others → AreRounds rounds z runs t → AreRounds rounds z others u → t ≡ u
@@ -229,38 +212,44 @@ module _ (one_book : (bytes : List ℕ) (x y : Said Book Excess) → Says IsBook
       let m = lawful bytes book says in
       let same = one_winning (market_of book) x.0 y.0 m x.1 y.1 in
       both o p (done (win_text book x.0) []) (done (win_text book y.0) []) x.2 y.2 (printed-same (win_text book x.0) (win_text book y.0) [] [] (ap (win_text book) same))) x y
-  one-of (price name cert form) contents o p x y = one-input BookFile BOOK_BYTES BookAnswers (λ book. PriceGives book (ones book) form) one_book-answer (contents BookFile) o p
+  one-of (one_priced one.Price name cert form) contents o p x y = one-input BookFile BOOK_BYTES BookAnswers (λ book. PriceGives book
+      (ones book) form) one_book-answer (contents BookFile) o p
       (λ book bytes says x y. one-priced book (ones book) (ones-weigh (bidders_of book)) form o p (lawful bytes book says) x y) x y
-  one-of (check name cert) contents o p x y = one-input BookFile BOOK_BYTES BookAnswers (λ book. CertGives book (contents Cert) (VerdictGives book (ones book))) one_book-answer (contents BookFile) o p
+  one-of (two_files Check name cert) contents o p x y = one-input BookFile BOOK_BYTES BookAnswers (λ book. CertGives book (contents Cert)
+      (VerdictGives book (ones book))) one_book-answer (contents BookFile) o p
       (λ book bytes says x y. one-input Cert CERT_BYTES (CertAnswers book) (VerdictGives book (ones book)) (one_cert-answer book) (contents Cert) o p
       (λ c of says_it a b. one-judged book (ones book) c o p (lawful bytes book says) a b) x y) x y
-  one-of (weigh name weights cert form) contents o p x y =
+  one-of (two_priced two.Weigh name weights cert form) contents o p x y =
       one-input BookFile BOOK_BYTES BookAnswers (λ b. WeightsGive b (contents Weights) (λ w. PriceGives b w form)) one_book-answer (contents BookFile) o p
-      (λ book bytes says x y. one-input Weights WEIGHTS_BYTES (WeightsAnswers book) (λ w. PriceGives book w form) (one_weights-answer book (form-of bytes book says)) (contents Weights) o p
+      (λ book bytes says x y. one-input Weights WEIGHTS_BYTES (WeightsAnswers book) (λ w. PriceGives book w form) (one_weights-answer book
+      (limits-of bytes book says).form) (contents Weights) o p
       (λ w of says_it a b. one-priced book w (weights-of book of w says_it) form o p (lawful bytes book says) a b) x y) x y
-  one-of (weigh_check name weights cert) contents o p x y =
+  one-of (three_files WeighCheck name weights cert) contents o p x y =
       one-input BookFile BOOK_BYTES BookAnswers (λ b. WeightsGive b (contents Weights) (λ w. CertGives b (contents Cert) (VerdictGives b w))) one_book-answer (contents BookFile) o p
-      (λ book bytes says x y. one-input Weights WEIGHTS_BYTES (WeightsAnswers book) (λ w. CertGives book (contents Cert) (VerdictGives book w)) (one_weights-answer book (form-of bytes book says)) (contents Weights) o p
+      (λ book bytes says x y. one-input Weights WEIGHTS_BYTES (WeightsAnswers book) (λ w. CertGives book (contents Cert) (VerdictGives book w))
+      (one_weights-answer book (limits-of bytes book says).form) (contents Weights) o p
       (λ w of says_it a b. one-input Cert CERT_BYTES (CertAnswers book) (VerdictGives book w) (one_cert-answer book) (contents Cert) o p
       (λ c with_it says_cert g h. one-judged book w c o p (lawful bytes book says) g h) a b) x y) x y
-  one-of (auction terms log book) contents o p x y = one-input Award AWARD_BYTES AwardAnswers (λ terms. LogGives terms (contents Log) (AuctionGives terms)) one_award-answer (contents Award) o p
+  one-of (three_files Auction terms log book) contents o p x y = one-input Award AWARD_BYTES AwardAnswers (λ terms. LogGives terms (contents Log)
+      (AuctionGives terms)) one_award-answer (contents Award) o p
       (λ terms bytes says x y. one-input Log LOG_BYTES (LogAnswers terms) (AuctionGives terms) (one_log_answer terms) (contents Log) o p
       (λ events of says_it a b. one-end _ _ _ o p a b) x y) x y
-  one-of (award terms log cert form) contents o p x y =
+  one-of (two_priced two.Award terms log cert form) contents o p x y =
       one-input Award AWARD_BYTES AwardAnswers (λ t. LogGives t (contents Log) (λ events. BookOfLogGives t events (λ b. PriceGives b (ones b) form))) one_award-answer (contents Award) o p
       (λ t bytes says x y. one-input Log LOG_BYTES (LogAnswers t) (λ events. BookOfLogGives t events (λ b. PriceGives b (ones b) form)) (one_log_answer t) (contents Log) o p
       (λ events of says_it a b. one-ended (length events) (end_of t (reverse events)) (λ b. PriceGives b (ones b) form) o p
       (λ book is. one-priced book (ones book) (ones-weigh (bidders_of book)) form o p (lawful_log t (log_records of) events book says.1 says_it is)) a b) x y) x y
-  one-of (audit terms log cert) contents o p x y =
+  one-of (three_files Audit terms log cert) contents o p x y =
       one-input Award AWARD_BYTES AwardAnswers (λ t. LogGives t (contents Log) (λ events. BookOfLogGives t events (λ b. CertGives b (contents Cert) (VerdictGives b (ones b))))) one_award-answer (contents Award) o p
       (λ t bytes says x y. one-input Log LOG_BYTES (LogAnswers t) (λ events. BookOfLogGives t events (λ b. CertGives b (contents Cert) (VerdictGives b (ones b)))) (one_log_answer t) (contents Log) o p
       (λ events of says_it a b. one-ended (length events) (end_of t (reverse events)) (λ b. CertGives b (contents Cert) (VerdictGives b (ones b))) o p
       (λ book is x y. one-input Cert CERT_BYTES (CertAnswers book) (VerdictGives book (ones book)) (one_cert-answer book) (contents Cert) o p
       (λ c with_it says_cert g h. one-judged book (ones book) c o p (lawful_log t (log_records of) events book says.1 says_it is) g h) x y) a b) x y) x y
   one-of (make number terms log) contents o p x y = equal o p _ x y
-  one-of (place slots cert rounds) contents o p x y = one_placed slots cert rounds contents o p x y
-  one-of (place_check slots cert) contents o p x y = one_tested slots cert contents o p x y
-  one-of (review name edits) contents o p x y = one-input BookFile BOOK_BYTES BookAnswers (λ b. EditsGive b (contents Edits) (ReviewGives b)) one_book-answer (contents BookFile) o p
+  one-of (one_priced one.Place slots cert form) contents o p x y = one_placed slots cert form contents o p x y
+  one-of (two_files PlaceCheck slots cert) contents o p x y = one_tested slots cert contents o p x y
+  one-of (two_files Review name edits) contents o p x y = one-input BookFile BOOK_BYTES BookAnswers (λ b. EditsGive b (contents Edits)
+      (ReviewGives b)) one_book-answer (contents BookFile) o p
       (λ book bytes says x y. one-input Edits EDITS_BYTES (EditsAnswers book) (ReviewGives book) (one_edits-answer book) (contents Edits) o p
       (λ changes of says_it a b. both o p (done a.0 []) (done b.0 []) a.2 b.2 (printed-same a.0 b.0 [] [] (one_review book changes a.0 b.0 (limits-of bytes book says) (lots-in book of changes says_it) a.1 b.1))) x y) x y
 

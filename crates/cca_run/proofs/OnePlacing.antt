@@ -1,33 +1,35 @@
 -- What placements give: one status and one printed text.
 use Rattle.std.proofs.Common.{inl, inr, ◌≡◌, ◌∙◌, ℕ, Bool, true, false, ◌≤◌, ◌<◌, Option, List, [], ◌∷◌, ◌++◌, codes, length, ℤ, pos, refl, sym, ap, subst, arith}
 use Rattle.std.specs.Prelude.{◌^◌, ◌≤ℤ◌}
-use Rattle.cca_inputs.specs.line_text.specs.LineText.{Said, stated, faulty, beyond, Says}
-use Rattle.outcome.specs.auction_model.specs.Lawful.{IsMarket}
-use Rattle.outcome.specs.auction_model.specs.Market.{Market}
-use Rattle.outcome.specs.auction_model.specs.Prices.{Point, AreVickreyPrices, IsCoreOutcome, SamePoint, alike}
-use Rattle.outcome.specs.auction_model.specs.PricingRun.{Turn, IsPricingRun}
-use Rattle.cca_inputs.specs.book_form.specs.BookLines.{Excess}
-use Rattle.cca_inputs.specs.cert_form.specs.PlaceCert.{PlaceCertValue}
-use Rattle.place_price.specs.cert_laws.specs.Sound.{cert_point}
-use Rattle.cca_inputs.specs.limits.specs.declared.TheConstants.{CERT_BYTES, SLOTS_BYTES}
-use Rattle.cca_inputs.specs.place_cert.specs.PlaceSays.{PlaceCertSays, place_text}
-use Rattle.outcome.specs.place_laws.specs.PlacePriced.{IsPricedPlaceCert, IsSamePricing}
-use Rattle.outcome.specs.place_laws.specs.PlaceSound.{IsPlaceSound, prices_in}
-use Rattle.outcome.specs.place_laws.specs.PlaceTests as places
-use Rattle.outcome.specs.PlaceText.{IsPlaceText}
-use Rattle.outcome.specs.print_form.specs.Turns.{AreTurnLines}
-use Rattle.cca_inputs.specs.slot_places.specs.Board.{market_of}
-use Rattle.cca_inputs.specs.slot_places.specs.SlotForm.{IsSlotText, slot_lines}
-use Rattle.cca_inputs.specs.slot_places.specs.Slots.{SlotList}
-use Rattle.cca_inputs.specs.slot_places.proofs.Within.{kept}
-use Rattle.cca_inputs.specs.Answers.{PlaceCertAnswers, SlotsAnswers, place_cert_answer, slots_answer}
-use Rattle.cca_inputs.specs.Command.{place, place_check}
-use Rattle.cca_inputs.specs.Outcome.{Answer, Outcome, done, stopped, value}
-use Rattle.cca_inputs.specs.declared.status.CertKind.TheVariants as certs
-use Rattle.cca_inputs.specs.declared.status.FileKind.{FileKind}
-use Rattle.cca_inputs.specs.declared.status.FileKind.TheVariants.{Cert, Slots}
-use Rattle.cca_inputs.specs.declared.status.Status.TheVariants.{No}
-use Rattle.cca_run.specs.Gives.{ArePlacedLines, AreRounds, CommandGives, IsPlaceYes, IsPlacing, PlaceCertGives, PlaceGives, PlaceVerdictGives, cert_file}
+use Rattle.cca_work.specs.cca_inputs.specs.line_text.specs.LineText.{Said, stated, faulty, beyond, Says}
+use Rattle.cca_work.specs.outcome.specs.auction_model.specs.Lawful.{IsMarket}
+use Rattle.cca_work.specs.outcome.specs.auction_model.specs.Market.{Market}
+use Rattle.cca_work.specs.outcome.specs.auction_model.specs.Prices.{Point, AreVickreyPrices, SamePoint, alike}
+use Rattle.cca_work.specs.outcome.specs.auction_model.specs.PricingRun.{Turn, IsPricingRun}
+use Rattle.cca_work.specs.cca_inputs.specs.book_form.specs.BookLines.{Excess}
+use Rattle.cca_work.specs.cca_inputs.specs.cert_form.specs.PlaceCert.{PlaceCertValue}
+use Rattle.cca_work.specs.place_price.specs.cert_laws.specs.Sound.{cert_point}
+use Rattle.cca_work.specs.cca_inputs.specs.limits.specs.declared.TheConstants.{CERT_BYTES, SLOTS_BYTES}
+use Rattle.cca_work.specs.cca_inputs.specs.place_cert.specs.PlaceSays.{PlaceCertSays, place_text}
+use Rattle.cca_work.specs.outcome.specs.place_laws.specs.PlacePriced.{IsPricedPlaceCert, IsSamePricing}
+use Rattle.cca_work.specs.outcome.specs.place_laws.specs.PlaceSound.{IsPlaceSound, prices_in}
+use Rattle.cca_work.specs.outcome.specs.place_laws.specs.PlaceTests as places
+use Rattle.cca_work.specs.outcome.specs.PlaceText.{IsPlaceText}
+use Rattle.cca_work.specs.outcome.specs.print_form.specs.Turns.{AreTurnLines}
+use Rattle.cca_work.specs.cca_inputs.specs.slot_places.specs.Board.{market_of}
+use Rattle.cca_work.specs.cca_inputs.specs.slot_places.specs.SlotForm.{IsSlotText, slot_lines}
+use Rattle.cca_work.specs.cca_inputs.specs.slot_places.specs.Slots.{SlotList}
+use Rattle.cca_work.specs.cca_inputs.specs.slot_places.proofs.Within.{kept}
+use Rattle.cca_work.specs.cca_inputs.specs.Answers.{PlaceCertAnswers, SlotsAnswers, place_cert_answer, slots_answer}
+use Rattle.cca_work.specs.cca_inputs.specs.Command.{one_priced, place_check}
+use Rattle.cca_work.specs.cca_inputs.specs.declared.price_form.PriceForm.{PriceForm}
+use Rattle.cca_work.specs.cca_inputs.specs.declared.shape.OnePriced.TheVariants.{Place}
+use Rattle.cca_work.specs.cca_inputs.specs.Outcome.{Answer, Outcome, done, stopped, value}
+use Rattle.cca_work.specs.cca_inputs.specs.declared.status.CertKind.TheVariants as certs
+use Rattle.cca_work.specs.cca_inputs.specs.declared.status.FileKind.{FileKind}
+use Rattle.cca_work.specs.cca_inputs.specs.declared.status.FileKind.TheVariants.{Cert, Slots}
+use Rattle.cca_work.specs.cca_inputs.specs.declared.status.Status.TheVariants.{No}
+use Rattle.cca_work.specs.Gives.{AreRounds, CommandGives, IsPlaceYes, IsPlacing, PlaceCertGives, PlaceGives, PlaceVerdictGives, cert_file}
 use Rattle.cca_run.proofs.Same.{Same, both, equal, one-input, printed-same}
 
 -- slots that bytes state are few bidders
@@ -108,9 +110,11 @@ module _ (one_slots : (bytes : List ℕ) (x y : Said SlotList Excess) → Says I
       equal o p (stopped (No certs.Placement y.0 y.1)) (x.3 ∙ ap (λ (t : ℕ). stopped (No certs.Placement t x.1)) is.0 ∙ ap (λ (q : ℕ). stopped (No certs.Placement y.0 q)) is.1) y.3
 
   -- the placement that is worked out
-  pub one-place : (slots cert : List ℕ) (rounds : Bool) (contents : FileKind → Option (List ℕ)) (o p : Outcome) → CommandGives (place slots cert rounds) contents o → CommandGives (place slots cert rounds) contents p → Same o p
-  one-place slots cert rounds contents o p x y = one-input Slots SLOTS_BYTES SlotsAnswers (λ s. PlaceGives s rounds) one_slots-answer (contents Slots) o p
-      (λ s bytes says x y. one-placing s rounds o p (few-placed bytes s says) x y) x y
+  pub one-place : (slots cert : List ℕ) (form : PriceForm) (contents : FileKind → Option (List ℕ)) (o p : Outcome)
+      → CommandGives (one_priced Place slots cert form) contents o → CommandGives (one_priced Place slots cert form) contents p → Same o p
+  one-place slots cert form contents o p x y =
+      one-input Slots SLOTS_BYTES SlotsAnswers (λ s. PlaceGives s form.rounds) one_slots-answer (contents Slots) o p
+      (λ s bytes says x y. one-placing s form.rounds o p (few-placed bytes s says) x y) x y
 
   -- and one that is tested
   pub one-place_check : (slots cert : List ℕ) (contents : FileKind → Option (List ℕ)) (o p : Outcome) → CommandGives (place_check slots cert) contents o → CommandGives (place_check slots cert) contents p → Same o p

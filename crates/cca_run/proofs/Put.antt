@@ -3,13 +3,13 @@ use Rattle.std.proofs.Common.{inr, ◌≡◌, ◌∙◌, ℕ, ◌≤◌, ◌+◌
 use Rattle.std.specs.Option.{option_map, IfSome}
 use Rattle.std.proofs.lemmas.List.{length-append, take-append-le}
 use Rattle.std.proofs.Math.Seq.{take-length, take-append-add}
-use Rattle.cca_inputs.specs.cca_base.specs.Sink.{HasRoom, Output, Puts}
-use Rattle.cca_inputs.specs.declared.status.FileKind.TheVariants.{Out}
-use Rattle.cca_inputs.specs.declared.status.Status.{Status}
-use Rattle.cca_inputs.specs.declared.status.Status.TheVariants.{WriteFault}
+use Rattle.cca_work.specs.cca_inputs.specs.cca_base.specs.Sink.{HasRoom, Output, Puts}
+use Rattle.cca_work.specs.cca_inputs.specs.declared.status.FileKind.TheVariants.{Out}
+use Rattle.cca_work.specs.cca_inputs.specs.declared.status.Status.{Status}
+use Rattle.cca_work.specs.cca_inputs.specs.declared.status.Status.TheVariants.{WriteFault}
 use Rattle.cca_run.specs.Run.{Prints}
-use Rattle.cca_run.specs.Works.{Written}
-use Rattle.cca_run.proofs.Counts.{rose-from}
+use Rattle.cca_run.specs.Ends.{Written}
+use Rattle.cca_work.proofs.Counts.{rose-from}
 
 grown : (a b : List ℕ) (n : ℕ) (x y z : List ℕ) → y ≡ x ++ take (length a) a → z ≡ y ++ take n b → z ≡ x ++ take (length a + n) (a ++ b)
 grown a b n x y z is then =

@@ -1,24 +1,24 @@
 -- Over files and an output with room no fault comes.
-use Rattle.std.proofs.Common.{inl, inr, ◌≡◌, ◌⊎◌, ◌∙◌, ℕ, ◌+◌, ◌-◌, ◌≤◌, Bool, true, false, IsTrue, Option, Some, None, List, [], ◌∷◌, ◌++◌, length, refl, sym, ap, subst, arith}
+use Rattle.std.proofs.Common.{inl, inr, ◌≡◌, ◌⊎◌, ◌∙◌, ℕ, ◌+◌, ◌-◌, ◌≤◌, Bool, true, false, Option, Some, None, List, [], ◌∷◌, ◌++◌, length, refl, sym, ap, subst, arith}
 use Rattle.std.specs.Prelude.{Contains, if◌then◌else◌}
 use Rattle.std.specs.Option.{option_map, option_map_or}
 use Rattle.std.specs.Str.{bytes_eq}
 use Rattle.std.proofs.lemmas.Bool.{true≢false, cases_Bool}
 use Rattle.std.proofs.lemmas.Slice.Eq.{bytes_eq-Decides}
-use Rattle.cca_inputs.specs.cca_base.specs.Files.{Agrees, Folder}
-use Rattle.cca_inputs.specs.cca_base.specs.Sink.{HasRoom, Output}
-use Rattle.cca_inputs.specs.Command.{CommandValue, command_of, output_as}
-use Rattle.cca_inputs.specs.StatusLine.{status_line}
-use Rattle.cca_inputs.specs.Statuses.{IsDecided}
-use Rattle.cca_inputs.specs.declared.file_text.FileText.{FileText}
-use Rattle.cca_inputs.specs.declared.status.FileKind.{FileKind}
-use Rattle.cca_inputs.specs.declared.status.FileKind.TheVariants as kinds
-use Rattle.cca_inputs.specs.declared.status.Status.{Status}
-use Rattle.cca_inputs.specs.declared.status.Status.TheVariants.{Done, No, Words, Refused, ReadFault, WriteFault, Memory, Limit}
-use Rattle.cca_run.specs.Gives.{WordsGive}
+use Rattle.cca_work.specs.cca_inputs.specs.cca_base.specs.Files.{Agrees, Folder}
+use Rattle.cca_work.specs.cca_inputs.specs.cca_base.specs.Sink.{HasRoom, Output}
+use Rattle.cca_work.specs.cca_inputs.specs.Command.{CommandValue, command_of, output_as}
+use Rattle.cca_work.specs.cca_inputs.specs.StatusLine.{status_line}
+use Rattle.cca_work.specs.cca_inputs.specs.Statuses.{IsDecided}
+use Rattle.cca_work.specs.cca_inputs.specs.declared.file_text.FileText.{FileText}
+use Rattle.cca_work.specs.cca_inputs.specs.declared.status.FileKind.{FileKind}
+use Rattle.cca_work.specs.cca_inputs.specs.declared.status.FileKind.TheVariants as kinds
+use Rattle.cca_work.specs.cca_inputs.specs.declared.status.Status.{Status}
+use Rattle.cca_work.specs.cca_inputs.specs.declared.status.Status.TheVariants.{Done, No, Words, Refused, ReadFault, WriteFault, Memory, Limit}
+use Rattle.cca_work.specs.Gives.{WordsGive}
 use Rattle.cca_run.specs.Rooms.{HasRooms, appended_to, goes_to, told_to}
 use Rattle.cca_run.specs.Run.{AppendsAll, AppendsUpTo, FailsToWrite, IsFileFault, IsHindrance, IsReadFault, inputs, outputs}
-use Rattle.cca_run.specs.Works.{RunEnds}
+use Rattle.cca_run.specs.Ends.{RunEnds}
 use Rattle.cca_run.proofs.Named.{input-among, output-among}
 
 -- room for more is room for less

@@ -1,9 +1,11 @@
 -- Outcomes with one status and one text, and how an input gives them.
 use Rattle.std.proofs.Common.{inl, inr, ◌≡◌, ◌∙◌, ℕ, Option, Some, None, List, length, refl, sym, ap, subst}
 use Rattle.std.proofs.lemmas.Bool.{cases_lt}
-use Rattle.cca_inputs.specs.Outcome.{Answer, AnswerGives, FileAnswers, InputGives, Outcome, done, stopped, stops, value}
-use Rattle.cca_inputs.specs.declared.file_text.FileText.{FileText}
-use Rattle.cca_inputs.specs.declared.status.FileKind.{FileKind}
+use Rattle.cca_work.specs.cca_inputs.specs.Outcome.{Answer, AnswerGives, FileAnswers, InputGives, Outcome, done, stopped, stops, value}
+use Rattle.cca_work.specs.cca_inputs.specs.declared.file_text.FileText.{FileText}
+use Rattle.cca_work.specs.cca_inputs.specs.declared.status.FileKind.{FileKind}
+use Rattle.cca_work.specs.cca_inputs.specs.declared.status.Status.{Status}
+use Rattle.cca_work.specs.cca_inputs.specs.declared.status.Status.TheVariants.{ReadFault}
 
 -- both have one status and one text
 abbrev pub Same : Outcome → Outcome → Type 0
@@ -30,18 +32,33 @@ one-answer most says one bytes a b x y =
       | inr short ↦ one bytes a b (x.text short) (y.text short)
     ]
 
--- an input gives one outcome, where each of its values does
-pub one-input : {V : Type 0} (kind : FileKind) (most : ℕ) (says : List ℕ → Answer V → Type 0) (follows : V → Outcome → Type 0) → ((bytes : List ℕ) (a b : Answer V) → says bytes a → says bytes b → a ≡ b)
-    → (content : Option (List ℕ)) (o p : Outcome) → ((v : V) (bytes : List ℕ) → says bytes (value v) → follows v o → follows v p → Same o p)
-    → InputGives kind most says content follows o → InputGives kind most says content follows p → Same o p
-one-input kind most says follows one None o p same x y = equal o p _ x y
-one-input {V} kind most says follows one (Some bytes) o p same x y =
-    go y.0 y.1 (subst (λ (a : Answer V). AnswerGives a follows o) (one-answer most says one bytes x.0 y.0 x.1 y.1) x.2) y.2
+-- a value that stands within the limit of bytes is what the text says
+pub within-says : {V : Type 0} (most : ℕ) (says : List ℕ → Answer V → Type 0) (bytes : List ℕ) (v : V) → FileAnswers most says bytes (value v)
+    → says bytes (value v)
+within-says most says bytes v answers =
+    elim (cases_lt most (length bytes)) [
+      | inl over ↦ (let no = answers.long over in absurd cc)
+      | inr short ↦ answers.text short
+    ]
+
+-- two outcomes of one input are its stop, or follow for one value
+pub two-inputs : {V : Type 0} (kind : FileKind) (most : ℕ) (says : List ℕ → Answer V → Type 0) (follows others : V → Outcome
+    → Type 0) (content : Option (List ℕ))
+    (o p : Outcome) (R : Type 0) → ((bytes : List ℕ) (a b : Answer V) → says bytes a → says bytes b → a ≡ b)
+    → ((s : Status) → o ≡ stopped s → p ≡ stopped s → R) → ((v : V) (bytes : List ℕ) → says bytes (value v) → follows v o → others v p → R)
+    → InputGives kind most says content follows o → InputGives kind most says content others p → R
+two-inputs kind most says follows others None o p R one stop on x y = stop (ReadFault kind) x y
+two-inputs {V} kind most says follows others (Some bytes) o p R one stop on (a, answers, x) (b, same, y) =
+    go a answers x (subst (λ (z : Answer V). AnswerGives z others p) (one-answer most says one bytes b a same answers) y)
   where
-    go : (a : Answer V) → FileAnswers most says bytes a → AnswerGives a follows o → AnswerGives a follows p → Same o p
-    go (value v) answers g h =
-        elim (cases_lt most (length bytes)) [
-          | inl over ↦ (let no = answers.long over in absurd cc)
-          | inr short ↦ same v bytes (answers.text short) g h
-        ]
-    go (stops s) answers g h = equal o p (stopped s) g h
+    go : (a : Answer V) → FileAnswers most says bytes a → AnswerGives a follows o → AnswerGives a others p → R
+    go (value v) answers x y = on v bytes (within-says most says bytes v answers) x y
+    go (stops s) answers x y = stop s x y
+
+-- an input gives one status and one text, where each of its values does
+pub one-input : {V : Type 0} (kind : FileKind) (most : ℕ) (says : List ℕ → Answer V → Type 0) (follows : V → Outcome → Type 0)
+    → ((bytes : List ℕ) (a b : Answer V) → says bytes a → says bytes b → a ≡ b) → (content : Option (List ℕ)) (o p : Outcome)
+    → ((v : V) (bytes : List ℕ) → says bytes (value v) → follows v o → follows v p → Same o p)
+    → InputGives kind most says content follows o → InputGives kind most says content follows p → Same o p
+one-input kind most says follows one content o p same x y =
+    two-inputs kind most says follows follows content o p (Same o p) one (λ s a b. equal o p (stopped s) a b) same x y

@@ -1,14 +1,21 @@
 -- The words of a command name files, no two the same.
-use Rattle.std.proofs.Common.{◌≡◌, ◌≢◌, ◌⊎◌, ℕ, Bool, true, false, Option, Some, None, List, [], ◌∷◌, map, refl, subst, inl, inr}
-use Rattle.std.specs.Prelude.{◌&&◌, ◌||◌, not, codes, filter, if◌then◌else◌}
+use Rattle.std.proofs.Common.{◌≡◌, ◌≢◌, ℕ, Bool, true, false, Option, Some, None, List, [], ◌∷◌, map, refl, subst, inl, inr}
+use Rattle.std.specs.Prelude.{◌&&◌, ◌||◌, not, filter, option_and_then, if◌then◌else◌}
 use Rattle.std.specs.Option.{option_map}
 use Rattle.std.specs.Str.{bytes_eq}
 use Rattle.std.proofs.lemmas.Bool.{cases_Bool}
 use Rattle.std.proofs.lemmas.Slice.Eq.{bytes_eq-Decides}
-use Rattle.cca_inputs.specs.Command.{CommandValue, FileUse, win, price, check, weigh, weigh_check, auction, award, audit, make, place, place_check, review}
-use Rattle.cca_inputs.specs.Command.{win_words, price_words, check_words, weigh_words, weigh_check_words, auction_words, award_words, audit_words, make_words, place_words, place_check_words, review_words}
-use Rattle.cca_inputs.specs.Command.{are_file_words, command_of, files_of, form_asked, inputs_of, is_among, is_file_word, is_read, number_said, rounds_asked}
-use Rattle.cca_inputs.specs.declared.price_form.PriceForm.{PriceForm}
+use Rattle.cca_work.specs.cca_inputs.specs.Command.{CommandValue, FileUse, win, two_files, three_files, one_priced, two_priced, make, award}
+use Rattle.cca_work.specs.cca_inputs.specs.Command.{win_words, two_words, three_words, one_priced_words, two_priced_words, make_words}
+use Rattle.cca_work.specs.cca_inputs.specs.Command.{are_file_words, command_of, files_of, flags_of, form_asked, inputs_of, is_among, is_file_word, is_read}
+use Rattle.cca_work.specs.cca_inputs.specs.Command.{number_said, said_by, shape_named}
+use Rattle.cca_work.specs.cca_inputs.specs.declared.price_form.PriceForm.{PriceForm}
+use Rattle.cca_work.specs.cca_inputs.specs.declared.shape.OnePriced.{OnePriced}
+use Rattle.cca_work.specs.cca_inputs.specs.declared.shape.Shape.{Shape}
+use Rattle.cca_work.specs.cca_inputs.specs.declared.shape.Shape.TheVariants as shape
+use Rattle.cca_work.specs.cca_inputs.specs.declared.shape.ThreeFiles.{ThreeFiles}
+use Rattle.cca_work.specs.cca_inputs.specs.declared.shape.TwoFiles.{TwoFiles}
+use Rattle.cca_work.specs.cca_inputs.specs.declared.shape.TwoPriced.{TwoPriced}
 use Rattle.cca_run.specs.Run.{inputs}
 
 -- both hold
@@ -46,95 +53,57 @@ win-apart [] c is = absurd cc
 win-apart (f ∷ []) c is = one-apart (are_file_words (f ∷ [])) (win f) c (λ h. h) is
 win-apart (f ∷ g ∷ rest) c is = absurd cc
 
-price-apart : (rest : List (List ℕ)) (c : CommandValue) → price_words rest ≡ Some c → AreApart c
-price-apart [] c is = absurd cc
-price-apart (f ∷ []) c is = absurd cc
-price-apart (f ∷ g ∷ flags) c is = asked-apart (are_file_words (f ∷ g ∷ [])) (price f g) (form_asked flags) c (λ x h. h) is
+two-apart : (kind : TwoFiles) (rest : List (List ℕ)) (c : CommandValue) → two_words kind rest ≡ Some c → AreApart c
+two-apart kind [] c is = absurd cc
+two-apart kind (f ∷ []) c is = absurd cc
+two-apart kind (f ∷ g ∷ []) c is = one-apart (are_file_words (f ∷ g ∷ [])) (two_files kind f g) c (λ e. e) is
+two-apart kind (f ∷ g ∷ h ∷ rest) c is = absurd cc
 
-check-apart : (rest : List (List ℕ)) (c : CommandValue) → check_words rest ≡ Some c → AreApart c
-check-apart [] c is = absurd cc
-check-apart (f ∷ []) c is = absurd cc
-check-apart (f ∷ g ∷ []) c is = one-apart (are_file_words (f ∷ g ∷ [])) (check f g) c (λ h. h) is
-check-apart (f ∷ g ∷ h ∷ rest) c is = absurd cc
+three-apart : (kind : ThreeFiles) (rest : List (List ℕ)) (c : CommandValue) → three_words kind rest ≡ Some c → AreApart c
+three-apart kind [] c is = absurd cc
+three-apart kind (f ∷ []) c is = absurd cc
+three-apart kind (f ∷ g ∷ []) c is = absurd cc
+three-apart kind (f ∷ g ∷ h ∷ []) c is = one-apart (are_file_words (f ∷ g ∷ h ∷ [])) (three_files kind f g h) c (λ e. e) is
+three-apart kind (f ∷ g ∷ h ∷ i ∷ rest) c is = absurd cc
 
-weigh-apart : (rest : List (List ℕ)) (c : CommandValue) → weigh_words rest ≡ Some c → AreApart c
-weigh-apart [] c is = absurd cc
-weigh-apart (f ∷ []) c is = absurd cc
-weigh-apart (f ∷ g ∷ []) c is = absurd cc
-weigh-apart (f ∷ g ∷ h ∷ flags) c is = asked-apart (are_file_words (f ∷ g ∷ h ∷ [])) (weigh f g h) (form_asked flags) c (λ x e. e) is
+one_priced-apart : (kind : OnePriced) (rest : List (List ℕ)) (c : CommandValue) → one_priced_words kind rest ≡ Some c → AreApart c
+one_priced-apart kind [] c is = absurd cc
+one_priced-apart kind (f ∷ []) c is = absurd cc
+one_priced-apart kind (f ∷ g ∷ flags) c is =
+    asked-apart (are_file_words (f ∷ g ∷ [])) (one_priced kind f g) (flags_of kind flags) c (λ x e. e) is
 
-weigh_check-apart : (rest : List (List ℕ)) (c : CommandValue) → weigh_check_words rest ≡ Some c → AreApart c
-weigh_check-apart [] c is = absurd cc
-weigh_check-apart (f ∷ []) c is = absurd cc
-weigh_check-apart (f ∷ g ∷ []) c is = absurd cc
-weigh_check-apart (f ∷ g ∷ h ∷ []) c is = one-apart (are_file_words (f ∷ g ∷ h ∷ [])) (weigh_check f g h) c (λ e. e) is
-weigh_check-apart (f ∷ g ∷ h ∷ i ∷ rest) c is = absurd cc
-
-auction-apart : (rest : List (List ℕ)) (c : CommandValue) → auction_words rest ≡ Some c → AreApart c
-auction-apart [] c is = absurd cc
-auction-apart (f ∷ []) c is = absurd cc
-auction-apart (f ∷ g ∷ []) c is = absurd cc
-auction-apart (f ∷ g ∷ h ∷ []) c is = one-apart (are_file_words (f ∷ g ∷ h ∷ [])) (auction f g h) c (λ e. e) is
-auction-apart (f ∷ g ∷ h ∷ i ∷ rest) c is = absurd cc
-
-award-apart : (rest : List (List ℕ)) (c : CommandValue) → award_words rest ≡ Some c → AreApart c
-award-apart [] c is = absurd cc
-award-apart (f ∷ []) c is = absurd cc
-award-apart (f ∷ g ∷ []) c is = absurd cc
-award-apart (f ∷ g ∷ h ∷ flags) c is = asked-apart (are_file_words (f ∷ g ∷ h ∷ [])) (award f g h) (form_asked flags) c (λ x e. e) is
-
-audit-apart : (rest : List (List ℕ)) (c : CommandValue) → audit_words rest ≡ Some c → AreApart c
-audit-apart [] c is = absurd cc
-audit-apart (f ∷ []) c is = absurd cc
-audit-apart (f ∷ g ∷ []) c is = absurd cc
-audit-apart (f ∷ g ∷ h ∷ []) c is = one-apart (are_file_words (f ∷ g ∷ h ∷ [])) (audit f g h) c (λ e. e) is
-audit-apart (f ∷ g ∷ h ∷ i ∷ rest) c is = absurd cc
+two_priced-apart : (kind : TwoPriced) (rest : List (List ℕ)) (c : CommandValue) → two_priced_words kind rest ≡ Some c → AreApart c
+two_priced-apart kind [] c is = absurd cc
+two_priced-apart kind (f ∷ []) c is = absurd cc
+two_priced-apart kind (f ∷ g ∷ []) c is = absurd cc
+two_priced-apart kind (f ∷ g ∷ h ∷ flags) c is =
+    asked-apart (are_file_words (f ∷ g ∷ h ∷ [])) (two_priced kind f g h) (form_asked flags) c (λ x e. e) is
 
 make-apart : (rest : List (List ℕ)) (c : CommandValue) → make_words rest ≡ Some c → AreApart c
 make-apart [] c is = absurd cc
 make-apart (n ∷ []) c is = absurd cc
 make-apart (n ∷ f ∷ []) c is = absurd cc
-make-apart (n ∷ f ∷ g ∷ []) c is = asked-apart (are_file_words (f ∷ g ∷ [])) (λ number. make number f g) (number_said n) c (λ x h. h) is
+make-apart (n ∷ f ∷ g ∷ []) c is =
+    asked-apart (are_file_words (f ∷ g ∷ [])) (λ number. make number f g) (number_said n) c (λ x e. e) is
 make-apart (n ∷ f ∷ g ∷ h ∷ rest) c is = absurd cc
 
-place-apart : (rest : List (List ℕ)) (c : CommandValue) → place_words rest ≡ Some c → AreApart c
-place-apart [] c is = absurd cc
-place-apart (f ∷ []) c is = absurd cc
-place-apart (f ∷ g ∷ flags) c is = asked-apart (are_file_words (f ∷ g ∷ [])) (place f g) (rounds_asked flags) c (λ x h. h) is
-
-place_check-apart : (rest : List (List ℕ)) (c : CommandValue) → place_check_words rest ≡ Some c → AreApart c
-place_check-apart [] c is = absurd cc
-place_check-apart (f ∷ []) c is = absurd cc
-place_check-apart (f ∷ g ∷ []) c is = one-apart (are_file_words (f ∷ g ∷ [])) (place_check f g) c (λ h. h) is
-place_check-apart (f ∷ g ∷ h ∷ rest) c is = absurd cc
-
-review-apart : (rest : List (List ℕ)) (c : CommandValue) → review_words rest ≡ Some c → AreApart c
-review-apart [] c is = absurd cc
-review-apart (f ∷ []) c is = absurd cc
-review-apart (f ∷ g ∷ []) c is = one-apart (are_file_words (f ∷ g ∷ [])) (review f g) c (λ h. h) is
-review-apart (f ∷ g ∷ h ∷ rest) c is = absurd cc
-
--- the words of one of two commands
-either : (b : Bool) (x y : Option CommandValue) (c : CommandValue) → (x ≡ Some c → AreApart c) → (y ≡ Some c → AreApart c) → (if b then x else y) ≡ Some c → AreApart c
-either true x y c one other is = one is
-either false x y c one other is = other is
+-- words of each shape
+said-apart : (s : Shape) (rest : List (List ℕ)) (c : CommandValue) → said_by s rest ≡ Some c → AreApart c
+said-apart shape.Win rest c is = win-apart rest c is
+said-apart (shape.TwoFiles kind) rest c is = two-apart kind rest c is
+said-apart (shape.ThreeFiles kind) rest c is = three-apart kind rest c is
+said-apart (shape.OnePriced kind) rest c is = one_priced-apart kind rest c is
+said-apart (shape.TwoPriced kind) rest c is = two_priced-apart kind rest c is
+said-apart shape.Make rest c is = make-apart rest c is
 
 -- the files that the words of a command name
 pub apart-in : (words : List (List ℕ)) (c : CommandValue) → command_of words ≡ Some c → AreApart c
 apart-in [] c is = absurd cc
-apart-in (w ∷ rest) c is =
-    either (bytes_eq w (codes "win")) (win_words rest) _ c (win-apart rest c)
-    (either (bytes_eq w (codes "price")) (price_words rest) _ c (price-apart rest c)
-    (either (bytes_eq w (codes "check")) (check_words rest) _ c (check-apart rest c)
-    (either (bytes_eq w (codes "weigh")) (weigh_words rest) _ c (weigh-apart rest c)
-    (either (bytes_eq w (codes "weigh-check")) (weigh_check_words rest) _ c (weigh_check-apart rest c)
-    (either (bytes_eq w (codes "auction")) (auction_words rest) _ c (auction-apart rest c)
-    (either (bytes_eq w (codes "award")) (award_words rest) _ c (award-apart rest c)
-    (either (bytes_eq w (codes "audit")) (audit_words rest) _ c (audit-apart rest c)
-    (either (bytes_eq w (codes "make")) (make_words rest) _ c (make-apart rest c)
-    (either (bytes_eq w (codes "place")) (place_words rest) _ c (place-apart rest c)
-    (either (bytes_eq w (codes "place-check")) (place_check_words rest) _ c (place_check-apart rest c)
-    (either (bytes_eq w (codes "review")) (review_words rest) None c (review-apart rest c) (λ no. absurd (let e : None ≡ Some c = no in cc))))))))))))) is
+apart-in (w ∷ rest) c is = by (shape_named w) is
+  where
+    by : (named : Option Shape) → option_and_then (λ s. said_by s rest) named ≡ Some c → AreApart c
+    by None says = absurd cc
+    by (Some s) says = said-apart s rest c says
 
 -- names that aren't the same
 differ : (x y : List ℕ) → bytes_eq x y ≡ false → x ≢ y

@@ -1,29 +1,29 @@
 -- The headline: from the bytes of three files to the book of a log and the outcome of the auction.
 use Rattle.std.specs.Prelude.{◌≡◌, ◌≤◌, ◌<◌, ◌&&◌, ℕ, IsTrue, Option, Some, None, List, length, not, reverse}
 use Rattle.std.specs.List.{AllByRecursion}
-use Rattle.outcome.specs.auction_model.specs.Book.{Book, bids_of, market_of}
-use Rattle.outcome.specs.auction_model.specs.PackageTests.{is_empty}
-use Rattle.outcome.specs.auction_model.specs.Greatest.{IsWinning}
-use Rattle.outcome.specs.row_laws.specs.Outcome.{IsAuctionOutcome}
-use Rattle.big_auction.specs.auction_rules.specs.BookOfLog.{IsGreatestFor, book_of_log, is_complete, pairs_of}
-use Rattle.big_auction.specs.auction_rules.specs.Replies.{admitted, has_entry, standing}
-use Rattle.big_auction.specs.auction_rules.specs.Terms.{Terms}
-use Rattle.big_auction.specs.auction_rules.specs.declared.Event.{Event}
-use Rattle.big_auction.specs.award_file.specs.Reading.{reading, states}
-use Rattle.big_auction.specs.log_file.specs.LogReading.{AreLog, log_records}
-use Rattle.cca_inputs.specs.cert_form.specs.Certificate.{CertValue}
-use Rattle.cca_inputs.specs.cert_form.specs.Says.{CertSays, cert_text}
-use Rattle.place_price.specs.cert_laws.specs.Priced.{IsPricedCert}
-use Rattle.place_price.specs.cert_laws.specs.Sound.{cert_point, cert_prices}
-use Rattle.place_price.specs.cert_laws.specs.Tests as tests
-use Rattle.cca_inputs.specs.line_text.specs.LineText.{stated}
-use Rattle.outcome.specs.auction_model.specs.Prices.{AreVickreyPrices, weight_of}
-use Rattle.cca_inputs.specs.limits.specs.declared.TheConstants.{AWARD_BYTES, LOG_BYTES, MOST_WINNERS, PRICED_CERT_BYTES}
-use Rattle.log_replay.specs.ReplyLines.{first_refusal}
-use Rattle.big_auction.specs.row_laws.specs.Winners.{winners_in}
-use Rattle.cca_inputs.specs.declared.status.Status.{Status}
-use Rattle.cca_inputs.specs.declared.status.Status.TheVariants.{Done, No, Words, Refused, ReadFault, WriteFault, Memory, Limit}
-use Rattle.cca_run.specs.Gives.{IsYesText, ones}
+use Rattle.cca_work.specs.outcome.specs.auction_model.specs.Book.{Book, bids_of, market_of}
+use Rattle.cca_work.specs.outcome.specs.auction_model.specs.PackageTests.{is_empty}
+use Rattle.cca_work.specs.outcome.specs.auction_model.specs.Greatest.{IsWinning}
+use Rattle.cca_work.specs.outcome.specs.row_laws.specs.Outcome.{IsAuctionOutcome}
+use Rattle.cca_work.specs.big_auction.specs.auction_rules.specs.BookOfLog.{IsGreatestFor, book_of_log, is_complete, pairs_of}
+use Rattle.cca_work.specs.big_auction.specs.auction_rules.specs.Replies.{admitted, has_entry, standing}
+use Rattle.cca_work.specs.big_auction.specs.auction_rules.specs.Terms.{Terms}
+use Rattle.cca_work.specs.big_auction.specs.auction_rules.specs.declared.Event.{Event}
+use Rattle.cca_work.specs.big_auction.specs.award_file.specs.Reading.{reading, states}
+use Rattle.cca_work.specs.big_auction.specs.log_file.specs.LogReading.{AreLog, log_records}
+use Rattle.cca_work.specs.cca_inputs.specs.cert_form.specs.Certificate.{CertValue}
+use Rattle.cca_work.specs.cca_inputs.specs.cert_form.specs.Says.{CertSays, cert_text}
+use Rattle.cca_work.specs.place_price.specs.cert_laws.specs.Priced.{IsPricedCert}
+use Rattle.cca_work.specs.place_price.specs.cert_laws.specs.Sound.{cert_point, cert_prices}
+use Rattle.cca_work.specs.place_price.specs.cert_laws.specs.Tests as tests
+use Rattle.cca_work.specs.cca_inputs.specs.line_text.specs.LineText.{stated}
+use Rattle.cca_work.specs.outcome.specs.auction_model.specs.Prices.{AreVickreyPrices, weight_of}
+use Rattle.cca_work.specs.cca_inputs.specs.limits.specs.declared.TheConstants.{AWARD_BYTES, LOG_BYTES, MOST_WINNERS, PRICED_CERT_BYTES}
+use Rattle.cca_work.specs.log_replay.specs.ReplyLines.{first_refusal}
+use Rattle.cca_work.specs.big_auction.specs.row_laws.specs.Winners.{winners_in}
+use Rattle.cca_work.specs.cca_inputs.specs.declared.status.Status.{Status}
+use Rattle.cca_work.specs.cca_inputs.specs.declared.status.Status.TheVariants.{Done, No, Words, Refused, ReadFault, WriteFault, Memory, Limit}
+use Rattle.cca_work.specs.Gives.{IsYesText, ones}
 
 -- the file of this name holds bytes of which this is so
 pub record FileHolds (file : List ℕ → Option (List ℕ)) (name : List ℕ) (says : List ℕ → Type 0) : Type 0 where

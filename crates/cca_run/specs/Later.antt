@@ -1,9 +1,9 @@
 -- The files as they stand later, when a certificate is tested.
 use Rattle.std.specs.Prelude.{◌≡◌, ℕ, Option, List, [], ◌∷◌, drop, length, unwrap_or}
 use Rattle.std.specs.List.{AllByRecursion}
-use Rattle.cca_inputs.specs.cca_base.specs.Files.{Folder, added}
-use Rattle.cca_inputs.specs.Outcome.{Outcome}
-use Rattle.cca_run.specs.Gives.{cert_file}
+use Rattle.cca_work.specs.cca_inputs.specs.cca_base.specs.Files.{Folder, added}
+use Rattle.cca_work.specs.cca_inputs.specs.Outcome.{Outcome}
+use Rattle.cca_work.specs.Gives.{cert_file}
 
 -- the file is missing or empty
 abbrev pub HoldsNothing : Option (List ℕ) → Type 0

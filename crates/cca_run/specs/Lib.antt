@@ -1,9 +1,9 @@
-pub mod Gives
 pub mod Run
-pub mod Works
+pub mod Ends
 pub mod Later
 pub mod Headline
 pub mod Rooms
-pub use Rattle.cca_inputs.specs.cca_base
-pub use Rattle.cca_inputs
-pub use Rattle.outcome.specs.value_table
+pub mod Runs
+pub use Rattle.cca_work.specs.cca_inputs.specs.cca_base
+pub use Rattle.cca_work.specs.cca_inputs
+pub use Rattle.cca_work.specs.outcome.specs.value_table

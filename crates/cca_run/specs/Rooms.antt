@@ -2,14 +2,14 @@
 use Rattle.std.specs.Prelude.{ℕ, ◌+◌, Bool, false, IsSome, Option, Some, None, List, [], ◌∷◌, Contains, length, if◌then◌else◌}
 use Rattle.std.specs.Option.{option_map_or}
 use Rattle.std.specs.Str.{bytes_eq}
-use Rattle.cca_inputs.specs.cca_base.specs.Files.{Folder}
-use Rattle.cca_inputs.specs.cca_base.specs.Sink.{HasRoom, Output}
-use Rattle.cca_inputs.specs.Command.{CommandValue, command_of, output_as}
-use Rattle.cca_inputs.specs.Outcome.{Outcome}
-use Rattle.cca_inputs.specs.StatusLine.{status_line}
-use Rattle.cca_inputs.specs.declared.file_text.FileText.{FileText}
-use Rattle.cca_inputs.specs.declared.status.Status.TheVariants.{Memory}
-use Rattle.cca_run.specs.Gives.{Gives}
+use Rattle.cca_work.specs.cca_inputs.specs.cca_base.specs.Files.{Folder}
+use Rattle.cca_work.specs.cca_inputs.specs.cca_base.specs.Sink.{HasRoom, Output}
+use Rattle.cca_work.specs.cca_inputs.specs.Command.{CommandValue, command_of, output_as}
+use Rattle.cca_work.specs.cca_inputs.specs.Outcome.{Outcome}
+use Rattle.cca_work.specs.cca_inputs.specs.StatusLine.{status_line}
+use Rattle.cca_work.specs.cca_inputs.specs.declared.file_text.FileText.{FileText}
+use Rattle.cca_work.specs.cca_inputs.specs.declared.status.Status.TheVariants.{Memory}
+use Rattle.cca_work.specs.Gives.{Gives}
 use Rattle.cca_run.specs.Run.{inputs, outputs}
 
 -- the text goes to the command's file of this name

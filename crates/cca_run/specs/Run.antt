@@ -1,29 +1,18 @@
 -- How a run ends: the causes of faults, and what is left in the files and in the output.
-use Rattle.std.specs.Prelude.{◌≡◌, ◌⊎◌, ◌<◌, ◌≤◌, ℕ, IsSome, IsTrue, Option, Some, None, List, [], ◌∷◌, ◌++◌, Contains, length}
-use Rattle.cca_inputs.specs.cca_base.specs.Faults.{Rose}
-use Rattle.cca_inputs.specs.cca_base.specs.Files.{Adds, Agrees, Folder, KeepsFiles}
-use Rattle.cca_inputs.specs.cca_base.specs.Sink.{HasRoom, Output, Puts}
-use Rattle.cca_inputs.specs.Command.{CommandValue, command_of, contents_of, input_as, inputs_of, missing, output_as, outputs_of}
-use Rattle.cca_inputs.specs.Outcome.{Outcome, stopped}
-use Rattle.cca_inputs.specs.StatusLine.{status_line}
-use Rattle.cca_inputs.specs.declared.file_text.FileText.{FileText}
-use Rattle.cca_inputs.specs.declared.status.FileKind.{FileKind}
-use Rattle.cca_inputs.specs.declared.status.FileKind.TheVariants.{Award, Log, Book, Cert, Weights, Slots, Edits, Out}
-use Rattle.cca_inputs.specs.declared.status.Status.{Status}
-use Rattle.cca_inputs.specs.declared.status.Status.TheVariants.{Done, No, Words, Refused, ReadFault, WriteFault, Memory, Limit}
-use Rattle.cca_run.specs.Gives.{CommandGives, FilesGive, Gives}
-
--- All steps before the input of this kind is read pass: with that input missing, the command would stop at it.
-abbrev pub IsReached : CommandValue → (FileKind → Option (List ℕ)) → FileKind → Type 0
-IsReached command contents kind = CommandGives command (missing kind contents) (stopped (ReadFault kind))
-
--- the command reads a file of this kind, a load of which failed, where no room is told, and all that comes before it passed
-pub record FailsToRead (command : CommandValue) (old new : Folder) (kind : FileKind) : Type 0 where
-  pub name : List ℕ
-  pub input : input_as command kind ≡ Some name
-  pub rose : Rose (old.load_faults name) (new.load_faults name)
-  pub no_room : IsSome (old.room name) → ⊥
-  pub reached : (files : List ℕ → Option (List ℕ)) → Agrees files old new → IsReached command (contents_of command files) kind
+use Rattle.std.specs.Prelude.{◌≡◌, ◌⊎◌, ◌<◌, ℕ, Option, Some, None, List, [], ◌∷◌, ◌++◌, Contains, length}
+use Rattle.cca_work.specs.cca_inputs.specs.cca_base.specs.Faults.{Rose}
+use Rattle.cca_work.specs.cca_inputs.specs.cca_base.specs.Files.{Adds, Agrees, Folder, KeepsFiles}
+use Rattle.cca_work.specs.cca_inputs.specs.cca_base.specs.Sink.{HasRoom, Output, Puts}
+use Rattle.cca_work.specs.cca_inputs.specs.Command.{CommandValue, command_of, inputs_of, output_as, outputs_of}
+use Rattle.cca_work.specs.cca_inputs.specs.Outcome.{Outcome}
+use Rattle.cca_work.specs.cca_inputs.specs.StatusLine.{status_line}
+use Rattle.cca_work.specs.cca_inputs.specs.declared.file_text.FileText.{FileText}
+use Rattle.cca_work.specs.cca_inputs.specs.declared.status.FileKind.{FileKind}
+use Rattle.cca_work.specs.cca_inputs.specs.declared.status.FileKind.TheVariants.{Award, Log, Book, Cert, Weights, Slots, Edits, Out}
+use Rattle.cca_work.specs.cca_inputs.specs.declared.status.Status.{Status}
+use Rattle.cca_work.specs.cca_inputs.specs.declared.status.Status.TheVariants.{Done, No, Words, Refused, ReadFault, WriteFault, Memory, Limit}
+use Rattle.cca_work.specs.Gives.{FilesGive, Gives}
+use Rattle.cca_work.specs.Works.{FailsToRead}
 
 abbrev pub IsReadFault : Option CommandValue → Folder → Folder → FileKind → Type 0
 IsReadFault None old new kind = ⊥
@@ -130,11 +119,6 @@ inputs (Some command) = inputs_of command
 abbrev pub outputs : Option CommandValue → List (List ℕ)
 outputs None = []
 outputs (Some command) = outputs_of command
-
--- no count falls, and only those of these names may rise
-pub record CountsAmong (names : List (List ℕ)) (old new : List ℕ → ℕ) : Type 0 where
-  pub not_less : (name : List ℕ) → old name ≤ new name
-  pub elsewhere : (name : List ℕ) → (Contains names name → ⊥) → new name ≡ old name
 
 -- the whole text was written and this status answered, or a front of it, for which no room is told that is enough, and a fault of the
 -- output, which was counted

@@ -1,13 +1,14 @@
 // Appends of a command's texts.
 ghost use Rattle.std.specs.Prelude.{IsSome};
-ghost use Rattle.cca_inputs.specs.Command.{output_as};
-ghost use Rattle.cca_inputs.specs.Words.{KnowsFiles, command_value};
-ghost use Rattle.cca_run.specs.Works.{AppendEnds, AreOutputs, OnlyAppends};
+ghost use Rattle.cca_work.specs.cca_inputs.specs.Command.{output_as};
+ghost use Rattle.cca_work.specs.cca_inputs.specs.Words.{KnowsFiles, command_value};
+ghost use Rattle.cca_work.specs.Works.{AreOutputs};
+ghost use Rattle.cca_run.specs.Ends.{AppendEnds, OnlyAppends};
 ghost use Rattle.std.specs.Prelude.{[], ◌∷◌};
 
 use crate::FileKind;
-use cca_inputs::cca_base::{Files, write_file};
-use cca_inputs::{Command, FileText};
+use cca_work::cca_base::{Files, write_file};
+use cca_work::{Command, FileText};
 
 // Appends one text to the command's file of its kind, which the error names.
 fn append_text<F: Files>(

@@ -1,35 +1,27 @@
 // What holds of the definitions of a run, whoever runs it.
 ghost use Rattle.std.specs.Prelude.{◌≡◌, ◌<◌, ◌≤◌, ◌++◌, ◌∷◌, ℕ, false, List, [], Option, codes, length};
-ghost use Rattle.outcome.specs.auction_model.specs.Book.{Book};
-ghost use Rattle.place_price.specs.cert_laws.specs.Tests.{bidders_of};
-ghost use Rattle.big_auction.specs.row_laws.specs.Weights.{FewWin, ManyWin};
-ghost use Rattle.cca_inputs.specs.limits.specs.declared.TheConstants.{MOST_WINNERS};
-ghost use Rattle.big_auction.specs.auction_rules.specs.Terms.{Terms};
-ghost use Rattle.big_auction.specs.auction_rules.specs.declared.Event.{Event};
-ghost use Rattle.big_auction.specs.row_laws.specs.Winners.{winners_in};
-ghost use Rattle.cca_inputs.specs.Command.{form_with, price, check, award, audit};
-ghost use Rattle.cca_inputs.specs.Outcome.{Outcome};
-ghost use Rattle.cca_inputs.specs.declared.price_form.PriceForm.{PriceForm};
-ghost use Rattle.cca_inputs.specs.declared.status.Status.TheVariants.{Done};
-ghost use Rattle.cca_run.specs.Gives.{FilesGive, Gives, cert_file, ones};
+ghost use Rattle.cca_work.specs.outcome.specs.auction_model.specs.Book.{Book};
+ghost use Rattle.cca_work.specs.place_price.specs.cert_laws.specs.Tests.{bidders_of};
+ghost use Rattle.cca_work.specs.big_auction.specs.row_laws.specs.Weights.{FewWin, ManyWin};
+ghost use Rattle.cca_work.specs.cca_inputs.specs.limits.specs.declared.TheConstants.{MOST_WINNERS};
+ghost use Rattle.cca_work.specs.big_auction.specs.auction_rules.specs.Terms.{Terms};
+ghost use Rattle.cca_work.specs.big_auction.specs.auction_rules.specs.declared.Event.{Event};
+ghost use Rattle.cca_work.specs.big_auction.specs.row_laws.specs.Winners.{winners_in};
+ghost use Rattle.cca_work.specs.cca_inputs.specs.Command.{form_with, price, check, weigh, weigh_check, award, audit};
+ghost use Rattle.cca_work.specs.cca_inputs.specs.Outcome.{Outcome};
+ghost use Rattle.cca_work.specs.cca_inputs.specs.declared.price_form.PriceForm.{PriceForm};
+ghost use Rattle.cca_work.specs.cca_inputs.specs.declared.status.Status.TheVariants.{Done};
+ghost use Rattle.cca_work.specs.Gives.{FilesGive, Gives, cert_file, ones};
 ghost use Rattle.cca_run.specs.Headline.{CanBeAwarded, IsAuction, IsAudited, IsAwarded, IsDoneOrLimited};
 ghost use Rattle.cca_run.specs.Later.{HoldsCert};
 
-use big_auction::auction_rules::{bidders_of_book, bids_of_book};
-use big_auction::award_file::book_of_award;
-use big_auction::log_file::{one_reading, packages_of_log};
-use cca_inputs::bid_book::one_book;
-use cca_inputs::cert_form::{one_cert, text_of_cert};
-use cca_inputs::edits_file::one_edits;
-use cca_inputs::place_cert::one_place_cert;
-use cca_inputs::slot_places::{one_slots, slot_market};
-use cca_inputs::weights_file::one_weighing;
-use outcome::place_laws::{one_place_verdict, one_pricing, sound_places};
-use outcome::print_form::{one_outcome_json, one_price_text, one_run_text};
-use outcome::row_laws::auction_model::{book_market, core_outcome, vickrey_prices, winning_choice};
-use outcome::row_laws::plain_outcome;
-use outcome::{one_place_text, one_review_text};
-use place_price::cert_laws::{one_verdict, short_text, sound_yes};
+use cca_work::{
+    bidders_of_book, bids_of_book, book_market, book_of_award, core_outcome, one_book, one_cert,
+    one_edits, one_outcome_json, one_place_cert, one_place_text, one_place_verdict, one_price_text,
+    one_pricing, one_reading, one_review_text, one_run_text, one_slots, one_verdict, one_weighing,
+    packages_of_log, plain_outcome, short_text, slot_market, sound_places, sound_yes, text_of_cert,
+    vickrey_prices, winning_choice,
+};
 
 /// The words and the bytes of the files give at most one status and one printed text. So each status that is decided comes exactly
 /// where they give it.
@@ -84,6 +76,26 @@ pub fn written_cert_passes()
         → p.printed ≡ codes "yes\n" ++ o.printed }
 {
     one_book();
+    one_cert();
+    text_of_cert();
+    short_text();
+    one_verdict();
+    one_price_text();
+}
+
+/// The same of `weigh` and `weigh-check`, by the same weights.
+pub fn weighed_cert_passes()
+    ensures passes { (book weights cert : List ℕ) (form : PriceForm) (file later : List ℕ → Option (List ℕ))
+        (o p : Outcome)
+        → FilesGive (weigh book weights cert form) file o → HoldsCert (book ∷ weights ∷ []) cert file later o
+        → FilesGive (weigh_check book weights cert) later p → p.status ≡ Done }
+    ensures prints { (book weights cert : List ℕ) (file later : List ℕ → Option (List ℕ)) (o p : Outcome)
+        → FilesGive (weigh book weights cert (form_with false false)) file o
+        → HoldsCert (book ∷ weights ∷ []) cert file later o → FilesGive (weigh_check book weights cert) later p
+        → p.printed ≡ codes "yes\n" ++ o.printed }
+{
+    one_book();
+    one_weighing();
     one_cert();
     text_of_cert();
     short_text();

@@ -6,13 +6,11 @@ mod auction_laws;
 mod laws;
 mod print;
 mod top;
-mod work;
 
 pub use auction_laws::one_auction;
-pub use cca_inputs::{CertKind, FileKind, Status, bid_book, cca_base, choices};
+pub use cca_work::{CertKind, FileKind, Status, bid_book, cca_base, choices, value_table};
 pub use laws::{
     awarded_cert_passes, complete_log_ends, complete_log_is_awarded, headline, limit_of_ones,
-    one_outcome, written_cert_passes,
+    one_outcome, weighed_cert_passes, written_cert_passes,
 };
-pub use outcome::value_table;
 pub use top::run;

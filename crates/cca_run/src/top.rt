@@ -1,32 +1,33 @@
 // The top call.
 ghost use Rattle.std.specs.Prelude.{◌≡◌, ◌⊎◌, ◌≤◌, ◌<◌, ◌∷◌, ℕ, List, [], length, map, string_bytes, All, IsTrue, Option, Some, None};
-ghost use Rattle.big_auction.specs.auction_rules.specs.Terms.{Terms};
-ghost use Rattle.big_auction.specs.auction_rules.specs.declared.Event.{Event};
-ghost use Rattle.cca_inputs.specs.cca_base.specs.Files.{Agrees, KeepsFiles};
-ghost use Rattle.cca_inputs.specs.cca_base.specs.Sink.{Puts};
-ghost use Rattle.cca_inputs.specs.Command.{audit, award, command_of};
-ghost use Rattle.cca_inputs.specs.Outcome.{Outcome};
-ghost use Rattle.cca_inputs.specs.StatusLine.{status_line};
-ghost use Rattle.cca_inputs.specs.Statuses.{IsDecided, IsHindered, KeepsAll};
-ghost use Rattle.cca_inputs.specs.Words.{KnowsFiles, command_value};
-ghost use Rattle.cca_inputs.specs.declared.price_form.PriceForm.{PriceForm};
-ghost use Rattle.cca_inputs.specs.declared.status.FileKind.{FileKind};
-ghost use Rattle.cca_inputs.specs.declared.status.Status.{Status};
-ghost use Rattle.cca_run.specs.Gives.{FilesGive, Gives, cert_file};
+ghost use Rattle.cca_work.specs.big_auction.specs.auction_rules.specs.Terms.{Terms};
+ghost use Rattle.cca_work.specs.big_auction.specs.auction_rules.specs.declared.Event.{Event};
+ghost use Rattle.cca_work.specs.cca_inputs.specs.cca_base.specs.Files.{Agrees, KeepsFiles};
+ghost use Rattle.cca_work.specs.cca_inputs.specs.cca_base.specs.Sink.{Puts};
+ghost use Rattle.cca_work.specs.cca_inputs.specs.Command.{audit, award, command_of};
+ghost use Rattle.cca_work.specs.cca_inputs.specs.Outcome.{Outcome};
+ghost use Rattle.cca_work.specs.cca_inputs.specs.StatusLine.{status_line};
+ghost use Rattle.cca_work.specs.cca_inputs.specs.Statuses.{IsDecided, IsHindered, KeepsAll};
+ghost use Rattle.cca_work.specs.cca_inputs.specs.Words.{KnowsFiles, command_value};
+ghost use Rattle.cca_work.specs.cca_inputs.specs.declared.price_form.PriceForm.{PriceForm};
+ghost use Rattle.cca_work.specs.cca_inputs.specs.declared.status.FileKind.{FileKind};
+ghost use Rattle.cca_work.specs.cca_inputs.specs.declared.status.Status.{Status};
+ghost use Rattle.cca_work.specs.Gives.{FilesGive, Gives, cert_file};
 ghost use Rattle.cca_run.specs.Headline.{CanBeAwarded, IsAuction, IsAudited, IsAwarded, IsDoneOrLimited};
 ghost use Rattle.cca_run.specs.Later.{HoldsCert, HoldsNothing, after};
 ghost use Rattle.cca_run.specs.Rooms.{HasRooms};
-ghost use Rattle.cca_run.specs.Run.{Appended, AppendsAll, Changes, CountsAmong, HasNoFault, IsDue, IsReadFault, IsWriteFault, inputs, outputs};
-ghost use Rattle.cca_run.specs.Works.{AreOutputs, FinishEnds, RunEnds};
+ghost use Rattle.cca_run.specs.Runs.{Runs};
+ghost use Rattle.cca_work.specs.Works.{CountsAmong};
+ghost use Rattle.cca_run.specs.Run.{Appended, AppendsAll, Changes, HasNoFault, IsDue, IsReadFault, IsWriteFault, inputs, outputs};
+ghost use Rattle.cca_work.specs.Works.{AreOutputs};
+ghost use Rattle.cca_run.specs.Ends.{FinishEnds, RunEnds};
 
 use crate::append::append_all;
 use crate::laws::{awarded_cert_passes, complete_log_ends, complete_log_is_awarded, headline};
 use crate::print::{print, print_stop};
-use crate::work::Work;
-use crate::work::commands::work_out;
 use crate::{FileKind, Status};
-use cca_inputs::cca_base::{Files, Sink};
-use cca_inputs::{Command, line_of, read_command};
+use cca_work::cca_base::{Files, Sink};
+use cca_work::{Command, Work, line_of, read_command, work_out};
 use std::alloc::Global;
 
 // Appends what is to be appended, and then prints.
@@ -75,6 +76,21 @@ fn tell_words<F: Files, O: Sink>(files: &F, out: &mut O) -> Status
     ensures faults { (O.output out.old).faults ≤ (O.output out.new).faults }
 {
     print(out, b"", line_of(Status::Words).as_slice(), Status::Words)
+}
+
+// Runs the command that the words say.
+fn ran<F: Files, O: Sink>(alloc: Global, words: &[String], files: &mut F, out: &mut O) -> Status
+    requires { All (λ w. IsTrue ((F.folder files.old).knows w)) (map string_bytes words.now) }
+    ensures { Runs (map string_bytes words.now) (F.folder files.old) (F.folder files.new) (O.output out.old) (O.output out.new) result }
+{
+    headline();
+    complete_log_ends();
+    complete_log_is_awarded();
+    awarded_cert_passes();
+    match read_command(words) {
+        Some(command) => run_command(alloc, files, out, command),
+        None => tell_words(files, out),
+    }
 }
 
 /// Runs the command that the words say, the words after the program's name.
@@ -210,12 +226,5 @@ pub fn run<F: Files, O: Sink>(alloc: Global, words: &[String], files: &mut F, ou
         (F.folder files.old).append_faults (F.folder files.new).append_faults }
     ensures faults { (O.output out.old).faults ≤ (O.output out.new).faults }
 {
-    headline();
-    complete_log_ends();
-    complete_log_is_awarded();
-    awarded_cert_passes();
-    match read_command(words) {
-        Some(command) => run_command(alloc, files, out, command),
-        None => tell_words(files, out),
-    }
+    ran(alloc, words, files, out)
 }

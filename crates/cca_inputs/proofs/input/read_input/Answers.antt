@@ -1,4 +1,4 @@
-use Rattle.std.proofs.Common.{◌≡◌, ◌≤◌, ◌∙◌, length, Err, ap, sym, subst, rules}
+use Rattle.std.proofs.Common.{◌≡◌, ◌≤◌, length, Err, ap, sym, subst, rules}
 use Rattle.cca_base.specs.Files.{GaveAll, GaveMore}
 use Rattle.cca_inputs.specs.Reading.{InputStops}
 use Rattle.cca_inputs.specs.Stops.{read_status}

@@ -1,4 +1,4 @@
-use Rattle.cca_inputs.specs.Words.{command_value}
+use Rattle.cca_work.specs.cca_inputs.specs.Words.{command_value}
 use Rattle.cca_run.proofs.Finished.{run-ends}
 use Rattle.cca_run.proofs.Stopped.{stop-ends}
 use Rattle.cca_run.proofs.top.run_command.Goals as goal

@@ -1,4 +1,4 @@
-use Rattle.std.proofs.Common.{refl, sym, ap, Err, subst, ◌⊎◌, ◌≡◌}
+use Rattle.std.proofs.Common.{sym, ap, Err, subst, ◌⊎◌, ◌≡◌}
 use Rattle.place_cert.specs.line_text.specs.LineText.{stated}
 use Rattle.cca_inputs.specs.Answers.{EditsAnswers}
 use Rattle.cca_inputs.specs.Outcome.{stops, value}

@@ -1,0 +1,64 @@
+-- What a run keeps: the clauses of the top call, each by its name. What they say stands there.
+use Rattle.std.specs.Prelude.{◌≡◌, ◌⊎◌, ◌≤◌, ◌<◌, ◌∷◌, ℕ, IsTrue, List, [], length, Option, Some, None}
+use Rattle.cca_work.specs.big_auction.specs.auction_rules.specs.Terms.{Terms}
+use Rattle.cca_work.specs.big_auction.specs.auction_rules.specs.declared.Event.{Event}
+use Rattle.cca_work.specs.cca_inputs.specs.cca_base.specs.Files.{Agrees, Folder, KeepsFiles}
+use Rattle.cca_work.specs.cca_inputs.specs.cca_base.specs.Sink.{Output, Puts}
+use Rattle.cca_work.specs.cca_inputs.specs.Command as command
+use Rattle.cca_work.specs.cca_inputs.specs.Command.{command_of}
+use Rattle.cca_work.specs.cca_inputs.specs.Outcome.{Outcome}
+use Rattle.cca_work.specs.cca_inputs.specs.StatusLine.{status_line}
+use Rattle.cca_work.specs.cca_inputs.specs.Statuses.{IsDecided, IsHindered, KeepsAll}
+use Rattle.cca_work.specs.cca_inputs.specs.declared.price_form.PriceForm.{PriceForm}
+use Rattle.cca_work.specs.cca_inputs.specs.declared.status.FileKind.{FileKind}
+use Rattle.cca_work.specs.cca_inputs.specs.declared.status.FileKind.TheVariants.{Out}
+use Rattle.cca_work.specs.cca_inputs.specs.declared.status.Status.{Status}
+use Rattle.cca_work.specs.cca_inputs.specs.declared.status.Status.TheVariants.{Done, Words, ReadFault, WriteFault, Memory}
+use Rattle.cca_work.specs.Gives.{FilesGive, Gives, cert_file}
+use Rattle.cca_work.specs.Works.{CountsAmong}
+use Rattle.cca_run.specs.Headline.{CanBeAwarded, IsAuction, IsAudited, IsAwarded, IsDoneOrLimited}
+use Rattle.cca_run.specs.Later.{HoldsCert, HoldsNothing, after}
+use Rattle.cca_run.specs.Rooms.{HasRooms}
+use Rattle.cca_run.specs.Run.{Appended, AppendsAll, Changes, HasNoFault, IsDue, IsReadFault, IsWriteFault, inputs, outputs}
+
+-- A run of these words went from these files and this output to those, and ended with this status.
+pub record Runs (said : List (List ℕ)) (old new : Folder) (before now : Output) (result : Status) : Type 0 where
+  pub words : result ≡ Words → command_of said ≡ None
+  pub not_plain : command_of said ≡ None → (result ≡ Words) ⊎ (result ≡ WriteFault Out)
+  pub audit : (terms log cert : List ℕ) → command_of said ≡ Some (command.audit terms log cert) → (given : List ℕ → Option (List ℕ))
+      → Agrees given old new → result ≡ Done → (text : List ℕ) × IsAudited given terms log cert text × Puts before now text (length text)
+  pub award : (terms log cert : List ℕ) (form : PriceForm) → command_of said ≡ Some (command.award terms log cert form)
+      → (given : List ℕ → Option (List ℕ)) → Agrees given old new → result ≡ Done → (text : List ℕ) × IsAwarded given terms log text
+      × AppendsAll (command.award terms log cert form) (cert_file text ∷ []) old new
+  pub every_log : (terms log cert : List ℕ) (form : PriceForm) → command_of said ≡ Some (command.award terms log cert form)
+      → (given : List ℕ → Option (List ℕ)) → Agrees given old new → (t : Terms) (lines : List Event) → IsAuction given terms log t lines
+      → HasNoFault (command_of said) old new before now → IsDoneOrLimited result ⊎ (result ≡ Memory)
+  pub awarded : (terms log cert : List ℕ) (form : PriceForm) → command_of said ≡ Some (command.award terms log cert form)
+      → (given : List ℕ → Option (List ℕ)) → Agrees given old new → CanBeAwarded given terms log
+      → HasNoFault (command_of said) old new before now → (result ≡ Done) ⊎ (result ≡ Memory)
+  pub accepted : (terms log cert : List ℕ) (form : PriceForm) (earlier : List ℕ → Option (List ℕ)) (o : Outcome)
+      → command_of said ≡ Some (command.audit terms log cert) → (given : List ℕ → Option (List ℕ)) → Agrees given old new
+      → FilesGive (command.award terms log cert form) earlier o → HoldsCert (terms ∷ log ∷ []) cert earlier given o
+      → HasNoFault (command_of said) old new before now → (result ≡ Done) ⊎ (result ≡ Memory)
+  pub hands_on : (terms log cert : List ℕ) (form : PriceForm) → command_of said ≡ Some (command.award terms log cert form)
+      → (given : List ℕ → Option (List ℕ)) → Agrees given old new → result ≡ Done → HoldsNothing (given cert) → (o : Outcome)
+      × FilesGive (command.award terms log cert form) given o × HoldsCert (terms ∷ log ∷ []) cert given (after given old new) o
+  pub handed_on : (terms log cert : List ℕ) (form : PriceForm) → command_of said ≡ Some (command.award terms log cert form)
+      → IsTrue old.told → result ≡ Done → HoldsNothing (old.file cert) → (o : Outcome)
+      × FilesGive (command.award terms log cert form) old.file o × HoldsCert (terms ∷ log ∷ []) cert old.file new.file o
+  pub complete : HasNoFault (command_of said) old new before now → (result ≡ Memory) ⊎ IsDecided result
+  pub roomy : IsTrue old.told → HasRooms said old before → (result ≡ Memory) ⊎ IsDecided result
+  pub read_fault : (kind : FileKind) → result ≡ ReadFault kind → IsReadFault (command_of said) old new kind
+  pub write_fault : (kind : FileKind) → result ≡ WriteFault kind → IsWriteFault (command_of said) old new before now kind
+  pub given : (given : List ℕ → Option (List ℕ)) × Agrees given old new
+  pub told : IsTrue old.told → Agrees old.file old new
+  pub answer : (given : List ℕ → Option (List ℕ)) → Agrees given old new → IsDecided result → (o : Outcome) × Gives said given o
+      × (o.status ≡ result) × Puts before now o.printed (length o.printed) × Appended (command_of said) o.appended old new
+  pub line : (result ≡ Words) ⊎ IsHindered result → Puts before now (status_line result) (length (status_line result))
+  pub front : result ≡ WriteFault Out → (text : List ℕ) × (n : ℕ) × (n < length text) × Puts before now text n
+      × ((given : List ℕ → Option (List ℕ)) → Agrees given old new → IsDue said given old new text)
+  pub kept : KeepsAll result → KeepsFiles old new
+  pub files : Changes (command_of said) old new
+  pub loads : CountsAmong (inputs (command_of said)) old.load_faults new.load_faults
+  pub appends : CountsAmong (outputs (command_of said)) old.append_faults new.append_faults
+  pub faults : before.faults ≤ now.faults

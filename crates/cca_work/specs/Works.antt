@@ -1,0 +1,171 @@
+-- From a command to what it prints and appends.
+use Rattle.std.specs.Prelude.{◌≡◌, ◌⊎◌, ◌≤◌, ℕ, IsSome, Option, Some, None, Result, Ok, Err, List, []}
+use Rattle.std.specs.Prelude.{Contains, length, map, reverse, take, unwrap_or}
+use Rattle.std.specs.List.{AllByRecursion}
+use Rattle.outcome.specs.auction_model.specs.Book.{Book}
+use Rattle.big_auction.specs.auction_rules.specs.Terms.{Terms}
+use Rattle.big_auction.specs.auction_rules.specs.declared.Event.{Event}
+use Rattle.log_replay.specs.ReplyLines.{end_of}
+use Rattle.log_replay.specs.declared.results.ReplayStop.{ReplayStop}
+use Rattle.cca_inputs.specs.cca_base.specs.Faults.{Rose}
+use Rattle.cca_inputs.specs.cca_base.specs.Files.{Agrees, Content, Folder, GaveOf, KeepsFiles}
+use Rattle.outcome.specs.core_price.specs.declared.priced.PriceStop.{PriceStop}
+use Rattle.outcome.specs.core_price.specs.declared.priced.PriceStop.TheVariants as price
+use Rattle.cca_inputs.specs.limits.specs.declared.LimitKind.TheVariants.{Winners}
+use Rattle.cca_inputs.specs.limits.specs.declared.TheConstants.{AWARD_BYTES, LOG_BYTES}
+use Rattle.cca_inputs.specs.Answers.{AwardAnswers, LogAnswers}
+use Rattle.cca_inputs.specs.Command.{CommandValue, contents_of, input_as, inputs_of, missing, output_as}
+use Rattle.cca_inputs.specs.Outcome.{Outcome, done, stopped, stopped_after, stops, value}
+use Rattle.cca_inputs.specs.Reading.{InputStops, IsRead, OnlyLoads}
+use Rattle.cca_inputs.specs.Statuses.{IsStop}
+use Rattle.cca_inputs.specs.declared.file_text.FileText.{FileText}
+use Rattle.cca_inputs.specs.declared.status.FileKind.{FileKind}
+use Rattle.cca_inputs.specs.declared.status.FileKind.TheVariants.{Award, Log, Cert}
+use Rattle.cca_inputs.specs.declared.status.Status.{Status}
+use Rattle.cca_inputs.specs.declared.status.Status.TheVariants.{ReadFault, Memory, Limit}
+use Rattle.cca_work.specs.Gives.{CertGives, CommandGives, FilesGive, VerdictGives, replay_status}
+use Rattle.cca_work.specs.declared.work.Stop.{Stop}
+use Rattle.cca_work.specs.declared.work.Work.{Work}
+
+abbrev pub price_status : PriceStop → Status
+price_status (price.Winners count) = Limit Winners count
+price_status price.Memory = Memory
+
+-- a stop of which the line alone is printed
+abbrev pub bare : Status → Stop
+bare status = record { before = None; status = status }
+
+-- the text that is printed before the line of a stop
+abbrev pub text_before : Stop → List ℕ
+text_before stop = unwrap_or stop.before []
+
+-- What is worked out is what this gives, and its texts are of these kinds; a stop is want of memory, or what this gives.
+abbrev pub IsWork : (Outcome → Type 0) → List FileKind → Result Work Stop → Type 0
+IsWork gives kinds (Ok work) = gives (done work.printed work.appended.items)
+    × (map (λ t. t.kind) work.appended.items ≡ kinds)
+IsWork gives kinds (Err stop) = (stop ≡ bare Memory)
+    ⊎ (IsStop stop.status × gives (stopped_after (text_before stop) stop.status))
+
+-- the book that the events of a log lead to; a stop is want of memory, or why they lead to none
+abbrev pub HasBook : Terms → List Event → Result Book Stop → Type 0
+HasBook terms events (Ok book) = end_of terms (reverse events) ≡ Ok book
+HasBook terms events (Err stop) =
+    (stop ≡ bare Memory)
+    ⊎ ((why : ReplayStop) × (end_of terms (reverse events) ≡ Err why)
+    × (stop ≡ bare (replay_status (length events) why)))
+
+-- All steps before the input of this kind is read pass: with that input missing, the command would stop at it.
+abbrev pub IsReached : CommandValue → (FileKind → Option (List ℕ)) → FileKind → Type 0
+IsReached command contents kind = CommandGives command (missing kind contents) (stopped (ReadFault kind))
+
+-- the command reads a file of this kind, a load of which failed, where no room is told, and all that comes before it passed
+pub record FailsToRead (command : CommandValue) (old new : Folder) (kind : FileKind) : Type 0 where
+  pub name : List ℕ
+  pub input : input_as command kind ≡ Some name
+  pub rose : Rose (old.load_faults name) (new.load_faults name)
+  pub no_room : IsSome (old.room name) → ⊥
+  pub reached : (files : List ℕ → Option (List ℕ)) → Agrees files old new → IsReached command (contents_of command files) kind
+
+-- no count falls, and only those of these names may rise
+pub record CountsAmong (names : List (List ℕ)) (old new : List ℕ → ℕ) : Type 0 where
+  pub not_less : (name : List ℕ) → old name ≤ new name
+  pub elsewhere : (name : List ℕ) → (Contains names name → ⊥) → new name ≡ old name
+
+-- how the way from the files to the work stops: for want of memory, by a fault of reading that was counted, or by what the files give
+abbrev pub StopsBy : CommandValue → Folder → Folder → Stop → Type 0
+StopsBy command old new stop =
+    (stop ≡ bare Memory)
+    ⊎ (((kind : FileKind) × (stop ≡ bare (ReadFault kind)) × FailsToRead command old new kind)
+    ⊎ (IsStop stop.status
+    × ((files : List ℕ → Option (List ℕ)) → Agrees files old new → FilesGive command files (stopped_after (text_before stop) stop.status))))
+
+-- the command appends to files of these kinds
+abbrev pub AreOutputs : CommandValue → List FileText → Type 0
+AreOutputs command texts = AllByRecursion (λ t. IsSome (output_as command t.kind)) texts
+
+abbrev pub WorksOut : CommandValue → Folder → Folder → Result Work Stop → Type 0
+WorksOut command old new (Ok work) = AreOutputs command work.appended.items
+    × ((files : List ℕ → Option (List ℕ)) → Agrees files old new → FilesGive command files (done work.printed work.appended.items))
+WorksOut command old new (Err stop) = StopsBy command old new stop
+
+-- What the loads in between gave is what files hold that hold these contents: of the first of these names, one after the other.
+pub record Loaded (names : List (List ℕ)) (old new : Folder) : Type 0 where
+  pub contents : List Content
+  pub first : map (λ c. c.name) contents ≡ take (length contents) names
+  pub gave : GaveOf contents old new
+
+-- No file changed, only counts of failed loads of the command's inputs may have risen, and only these were loaded, each once.
+pub record OnlyReads (command : CommandValue) (old new : Folder) : Type 0 where
+  pub loaded : Loaded (inputs_of command) old new
+  pub kept : KeepsFiles old new
+  pub loads : CountsAmong (inputs_of command) old.load_faults new.load_faults
+  pub appends : new.append_faults ≡ old.append_faults
+
+-- The work of a command was worked out, or the way to it stopped.
+pub record Works (command : CommandValue) (old new : Folder) (result : Result Work Stop) : Type 0 where
+  pub out : WorksOut command old new result
+  pub reads : OnlyReads command old new
+
+-- How the way from one input of this kind and name to the work stops, where its bytes give this: for want of memory, by a fault of reading
+-- that was counted, where no room is told, or by what the bytes give.
+abbrev pub StopsFrom : FileKind → List ℕ → (Option (List ℕ) → Outcome → Type 0) → Folder → Folder → Stop → Type 0
+StopsFrom kind name gives old new stop =
+    (stop ≡ bare Memory)
+    ⊎ (((stop ≡ bare (ReadFault kind)) × Rose (old.load_faults name) (new.load_faults name) × (IsSome (old.room name) → ⊥))
+    ⊎ (IsStop stop.status
+    × ((files : List ℕ → Option (List ℕ)) → Agrees files old new
+    → gives (files name) (stopped_after (text_before stop) stop.status))))
+
+-- what is worked out of one input is what its bytes give, and nothing is appended
+abbrev pub GivesFrom : FileKind → List ℕ → (Option (List ℕ) → Outcome → Type 0) → Folder → Folder → Result Work Stop → Type 0
+GivesFrom kind name gives old new (Ok work) = (map (λ t. t.kind) work.appended.items ≡ [])
+    × ((files : List ℕ → Option (List ℕ)) → Agrees files old new → gives (files name) (done work.printed work.appended.items))
+GivesFrom kind name gives old new (Err stop) = StopsFrom kind name gives old new stop
+
+-- The work that one input of this kind and name gives was worked out, or the way to it stopped, and only this input was loaded.
+pub record WorksFrom (kind : FileKind) (name : List ℕ) (gives : Option (List ℕ) → Outcome → Type 0) (old new : Folder) (result : Result Work Stop) : Type 0 where
+  pub out : GivesFrom kind name gives old new result
+  pub loads : OnlyLoads name old new
+
+-- the same of a certificate of this book, by these weights
+abbrev pub CertWorks : Book → List ℕ → List ℕ → Folder → Folder → Result Work Stop → Type 0
+CertWorks book weights name old new result =
+    WorksFrom Cert name (λ content. CertGives book content (VerdictGives book weights)) old new result
+
+-- an award was read, and only its file was loaded
+pub record AwardIsRead (name : List ℕ) (old new : Folder) (terms : Terms) : Type 0 where
+  pub value : IsRead AWARD_BYTES (λ bytes v. AwardAnswers bytes (value v)) name old new terms
+  pub loads : OnlyLoads name old new
+
+-- an award was read, and behind it a log of it
+pub record LogIsRead (award log : List ℕ) (old new : Folder) (terms : Terms) (events : List Event) : Type 0 where
+  pub mid : Folder
+  pub first : AwardIsRead award old mid terms
+  pub value : IsRead LOG_BYTES (λ bytes v. LogAnswers terms bytes (value v)) log mid new events
+  pub loads : OnlyLoads log mid new
+
+-- the award stopped the run
+pub record StopsAtAward (name : List ℕ) (old new : Folder) (stop : Stop) : Type 0 where
+  pub status : Status
+  pub is : stop ≡ bare status
+  pub why : InputStops Award AWARD_BYTES (λ bytes s. AwardAnswers bytes (stops s)) name old new status
+  pub loads : OnlyLoads name old new
+
+-- an award was read, and the log behind it stopped the run
+pub record StopsAtLog (award log : List ℕ) (old new : Folder) (stop : Stop) : Type 0 where
+  pub mid : Folder
+  pub terms : Terms
+  pub first : AwardIsRead award old mid terms
+  pub status : Status
+  pub is : stop ≡ bare status
+  pub why : InputStops Log LOG_BYTES (λ bytes s. LogAnswers terms bytes (stops s)) log mid new status
+  pub loads : OnlyLoads log mid new
+
+-- An award and its log were read and led to a book, or stopped the run.
+abbrev pub HasLogged : List ℕ → List ℕ → Folder → Folder → Result Book Stop → Type 0
+HasLogged award log old new (Ok book) =
+    (terms : Terms) × (events : List Event) × LogIsRead award log old new terms events × HasBook terms events (Ok book)
+HasLogged award log old new (Err stop) =
+    StopsAtAward award old new stop
+    ⊎ (StopsAtLog award log old new stop
+    ⊎ ((terms : Terms) × (events : List Event) × LogIsRead award log old new terms events × HasBook terms events (Err stop)))

@@ -1,0 +1,57 @@
+// The auction that is made from a number.
+ghost use Rattle.std.specs.Prelude.{◌≡◌, [], ◌∷◌, IfOk};
+ghost use Rattle.big_auction.specs.MadeAward.{made_bidders};
+ghost use Rattle.cca_inputs.specs.declared.status.FileKind.{FileKind};
+ghost use Rattle.cca_work.specs.Gives.{MakeGives, award_file, log_file, made_line};
+ghost use Rattle.cca_work.specs.Works.{IsWork};
+
+use crate::work::{Stop, Work};
+use big_auction::{Made, make};
+use cca_inputs::line_text::add_decimal;
+use cca_inputs::{FileKind, FileText};
+use outcome::wide_num::Text;
+use std::alloc::{AllocError, Global};
+
+// How many bidders each made auction has.
+const BIDDERS: u128 = 12;
+
+// The line of a made auction.
+fn summary(alloc: Global, number: u32, lines: u64) -> Result<Text, AllocError>
+    ensures { IfOk result (λ text. text ≡ made_line number made_bidders lines) }
+{
+    let mut text = Text::new(alloc);
+    text.add(b"made ")?;
+    add_decimal(&mut text, number as u128)?;
+    text.add(b" bidders ")?;
+    add_decimal(&mut text, BIDDERS)?;
+    text.add(b" lines ")?;
+    add_decimal(&mut text, lines as u128)?;
+    text.push(b'\n')?;
+    Ok(text)
+}
+
+// The texts that are appended, the award first.
+fn texts_of(alloc: Global, award: Text, log: Text) -> Result<Vec<FileText>, AllocError>
+    ensures { IfOk result (λ texts. texts.items ≡ award_file award ∷ log_file log ∷ []) }
+{
+    let mut texts = Vec::new(alloc);
+    texts.push(FileText {
+        kind: FileKind::Award,
+        text: award,
+    })?;
+    texts.push(FileText {
+        kind: FileKind::Log,
+        text: log,
+    })?;
+    Ok(texts)
+}
+
+/// The line of the auction of a number, and the texts of its award and its log.
+pub fn made(alloc: Global, number: u32) -> Result<Work, Stop>
+    ensures { IsWork (MakeGives number) (FileKind.Award ∷ FileKind.Log ∷ []) result }
+{
+    let Made { award, log, lines } = make(alloc, number)?;
+    let printed = summary(alloc, number, lines)?;
+    let appended = texts_of(alloc, award, log)?;
+    Ok(Work { printed, appended })
+}

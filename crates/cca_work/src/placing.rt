@@ -1,0 +1,100 @@
+// Placements in a band, with their prices and their certificates.
+ghost use Rattle.std.specs.Prelude.{◌≡◌, ◌<◌, ◌^◌, [], ◌∷◌, IfOk, List, ℕ, length};
+ghost use Rattle.std.specs.List.{AllByRecursion};
+ghost use Rattle.outcome.specs.core_price.specs.Turns.{turns_of};
+ghost use Rattle.outcome.specs.Turns.{CanPrintTurn};
+ghost use Rattle.cca_inputs.specs.place_cert.specs.CertValues.{place_cert_value};
+ghost use Rattle.outcome.specs.place_laws.specs.PlaceTests.{Holds};
+ghost use Rattle.cca_inputs.specs.Outcome.{done};
+ghost use Rattle.cca_inputs.specs.declared.status.FileKind.{FileKind};
+ghost use Rattle.cca_work.specs.Gives.{ArePlacedLines, IsPlaceYes, PlaceGives, PlaceVerdictGives, cert_file};
+ghost use Rattle.cca_work.specs.Works.{IsWork};
+
+use crate::price_text::rounds_part;
+use crate::pricing::{PriceTexts, with_cert};
+use crate::work::{Stop, Work};
+use cca_inputs::place_cert::{PlaceCertificate, write_places};
+use cca_inputs::slot_places::Slots;
+use cca_inputs::{CertKind, Status};
+use outcome::core_price::Turn;
+use outcome::place_check::{Verdict, check_places};
+use outcome::place_text;
+use outcome::wide_num::Text;
+use place_price::priced_places;
+use std::alloc::{AllocError, Global};
+
+// What is printed of a certificate and the turns that led to it, with the lines of the turns where they are asked for.
+fn placed_lines(
+    alloc: Global,
+    slots: &Slots,
+    cert: &PlaceCertificate,
+    turns: &[Turn],
+    rounds: bool,
+) -> Result<Text, AllocError>
+    requires shape { length cert.now.choice ≡ length slots.now.bidders }
+    requires holds { Holds slots.now (place_cert_value cert.now) }
+    requires turns { AllByRecursion (CanPrintTurn cert.now.choice) turns.now }
+    ensures { IfOk result
+        (λ text. ArePlacedLines slots.now rounds (place_cert_value cert.now)
+        (turns_of cert.now.choice turns.now) text) }
+{
+    let _bidders = slots.bidders();
+    let mut text = rounds_part(alloc, &cert.choice, turns, rounds)?;
+    let prices = place_text(alloc, slots, cert)?;
+    text.add(prices.items())?;
+    Ok(text)
+}
+
+fn placed_texts(alloc: Global, slots: &Slots, rounds: bool) -> Result<PriceTexts, AllocError>
+    ensures { IfOk result (λ p. PlaceGives slots.now rounds (done p.printed (cert_file p.cert ∷ []))) }
+{
+    let priced = priced_places(alloc, slots)?;
+    let cert = &priced.cert;
+    let printed = placed_lines(alloc, slots, cert, priced.turns.items(), rounds)?;
+    let cert = write_places(alloc, cert)?;
+    Ok(PriceTexts { printed, cert })
+}
+
+/// The placement of the bidders of a band with its prices, printed with the lines of the turns where they are asked for, and its
+/// certificate.
+pub fn placed(alloc: Global, slots: &Slots, rounds: bool) -> Result<Work, Stop>
+    ensures { IsWork (PlaceGives slots.now rounds) (FileKind.Cert ∷ []) result }
+{
+    match placed_texts(alloc, slots, rounds) {
+        Ok(texts) => with_cert(alloc, texts),
+        Err(error) => Err(Stop::from(error)),
+    }
+}
+
+fn place_yes(alloc: Global, slots: &Slots, cert: &PlaceCertificate) -> Result<Text, AllocError>
+    requires shape { length cert.now.choice ≡ length slots.now.bidders }
+    requires holds { Holds slots.now (place_cert_value cert.now) }
+    ensures { IfOk result (λ text. IsPlaceYes slots.now (place_cert_value cert.now) text) }
+{
+    let mut text = Text::new(alloc);
+    text.add(b"yes\n")?;
+    let prices = place_text(alloc, slots, cert)?;
+    text.add(prices.items())?;
+    Ok(text)
+}
+
+/// What a certificate of a placement gives.
+pub fn place_verdict(alloc: Global, slots: &Slots, cert: &PlaceCertificate) -> Result<Work, Stop>
+    requires shape { length cert.now.choice ≡ length slots.now.bidders }
+    ensures { IsWork (PlaceVerdictGives slots.now (place_cert_value cert.now)) [] result }
+{
+    match check_places(slots, cert) {
+        Verdict::Yes => {
+            let printed = place_yes(alloc, slots, cert)?;
+            Ok(Work {
+                printed,
+                appended: Vec::new(alloc),
+            })
+        }
+        Verdict::No { test, place } => Err(Stop::from(Status::No {
+            of: CertKind::Placement,
+            test,
+            place,
+        })),
+    }
+}

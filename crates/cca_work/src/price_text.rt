@@ -1,0 +1,102 @@
+// What is printed of the prices of a book.
+ghost use Rattle.std.specs.Prelude.{◌<◌, ◌^◌, ℕ, IfOk, length};
+ghost use Rattle.std.specs.List.{AllByRecursion};
+ghost use Rattle.place_price.specs.cert_laws.specs.Sound.{cert_point, cert_prices};
+ghost use Rattle.place_price.specs.cert_laws.specs.Tests.{Holds, bidders_of, states};
+ghost use Rattle.cca_inputs.specs.cert_text.specs.CertValues.{cert_value, IsFor};
+ghost use Rattle.outcome.specs.core_price.specs.Turns.{turns_of};
+ghost use Rattle.outcome.specs.Turns.{CanPrintTurn};
+ghost use Rattle.cca_work.specs.Gives.{ArePriceLines, ArePrinted, AreRounds, IsPriceJson};
+
+use cca_inputs::PriceForm;
+use cca_inputs::bid_book::BidBook;
+use cca_inputs::cert_facts::facts;
+use cca_inputs::cert_text::Certificate;
+use cca_inputs::choices::Choice;
+use outcome::core_price::Turn;
+use outcome::wide_num::Text;
+use outcome::{outcome_json, outcome_text, rounds_text};
+use std::alloc::{AllocError, Global};
+
+/// The lines of the turns, where they are asked for.
+pub fn rounds_part(
+    alloc: Global,
+    winners: &Choice,
+    turns: &[Turn],
+    rounds: bool,
+) -> Result<Text, AllocError>
+    requires turns { AllByRecursion (CanPrintTurn winners.now) turns.now }
+    requires few { length winners.now < 2 ^ 16 }
+    ensures { IfOk result (λ text. AreRounds rounds winners.now (turns_of winners.now turns.now) text) }
+{
+    if rounds {
+        rounds_text(alloc, winners, turns)
+    } else {
+        Ok(Text::new(alloc))
+    }
+}
+
+fn price_lines(
+    alloc: Global,
+    book: &BidBook,
+    cert: &Certificate,
+    turns: &[Turn],
+    rounds: bool,
+) -> Result<Text, AllocError>
+    requires shape { IsFor (bidders_of book.now) (states book.now) cert.now }
+    requires holds { (w : ℕ → ℕ) × Holds book.now w (cert_value cert.now) }
+    requires turns { AllByRecursion (CanPrintTurn cert.now.choice) turns.now }
+    ensures { IfOk result
+        (λ text. ArePriceLines rounds book.now cert.now.choice (cert_prices book.now (cert_value cert.now))
+        (cert_point (cert_value cert.now)) (turns_of cert.now.choice turns.now) text) }
+{
+    book.kept();
+    let mut text = rounds_part(alloc, &cert.choice, turns, rounds)?;
+    let facts = facts(alloc, book, cert)?;
+    let prices = outcome_text(alloc, book, &facts)?;
+    text.add(prices.items())?;
+    Ok(text)
+}
+
+fn price_json(
+    alloc: Global,
+    book: &BidBook,
+    cert: &Certificate,
+    turns: &[Turn],
+    rounds: bool,
+) -> Result<Text, AllocError>
+    requires shape { IsFor (bidders_of book.now) (states book.now) cert.now }
+    requires holds { (w : ℕ → ℕ) × Holds book.now w (cert_value cert.now) }
+    requires turns { AllByRecursion (CanPrintTurn cert.now.choice) turns.now }
+    ensures { IfOk result
+        (λ text. IsPriceJson rounds book.now cert.now.choice (cert_prices book.now (cert_value cert.now))
+        (cert_point (cert_value cert.now)) (turns_of cert.now.choice turns.now) text) }
+{
+    let facts = facts(alloc, book, cert)?;
+    if rounds {
+        outcome_json(alloc, book, &facts, Some(turns))
+    } else {
+        outcome_json(alloc, book, &facts, None)
+    }
+}
+
+/// What is printed of a certificate and the turns that led to it, in this form. The only error is want of memory.
+pub fn price_text(
+    alloc: Global,
+    book: &BidBook,
+    cert: &Certificate,
+    turns: &[Turn],
+    form: PriceForm,
+) -> Result<Text, AllocError>
+    requires shape { IsFor (bidders_of book.now) (states book.now) cert.now }
+    requires holds { (w : ℕ → ℕ) × Holds book.now w (cert_value cert.now) }
+    requires turns { AllByRecursion (CanPrintTurn cert.now.choice) turns.now }
+    ensures { IfOk result
+        (λ text. ArePrinted form book.now (cert_value cert.now) (turns_of cert.now.choice turns.now) text) }
+{
+    if form.json {
+        price_json(alloc, book, cert, turns, form.rounds)
+    } else {
+        price_lines(alloc, book, cert, turns, form.rounds)
+    }
+}

@@ -1,0 +1,93 @@
+// Prices of a book, with their certificate.
+ghost use Rattle.std.specs.Prelude.{◌≡◌, ℕ, [], ◌∷◌, IfOk, Err};
+ghost use Rattle.cca_inputs.specs.limits.specs.declared.LimitKind.{LimitKind};
+ghost use Rattle.outcome.specs.auction_model.specs.Prices.{AreWeights};
+ghost use Rattle.place_price.specs.cert_laws.specs.Tests.{bidders_of};
+ghost use Rattle.outcome.specs.core_price.specs.declared.priced.PriceStop.{PriceStop};
+ghost use Rattle.cca_inputs.specs.Outcome.{done, stopped};
+ghost use Rattle.cca_inputs.specs.declared.status.FileKind.{FileKind};
+ghost use Rattle.cca_inputs.specs.declared.status.Status.{Status};
+ghost use Rattle.cca_work.specs.Gives.{PriceGives, cert_file, ones};
+ghost use Rattle.cca_work.specs.Works.{IsWork};
+
+use crate::price_text::price_text;
+use crate::work::{Stop, Work};
+use cca_inputs::bid_book::BidBook;
+use cca_inputs::cert_text::write_cert;
+use cca_inputs::limits::LimitKind;
+use cca_inputs::{FileKind, FileText, PriceForm};
+use outcome::core_price::PriceStop;
+use outcome::wide_num::Text;
+use place_price::book_price::price_book;
+use std::alloc::{AllocError, Global};
+
+/// The printed prices, and the text of their certificate.
+#[derive(Drop)]
+pub struct PriceTexts {
+    pub printed: Text,
+    pub cert: Text,
+}
+
+/// A weight of 1 for each bidder.
+pub fn ones_of(alloc: Global, book: &BidBook) -> Result<Vec<u32>, AllocError>
+    ensures { IfOk result (λ v. v.items ≡ ones book.now) }
+{
+    vec![in alloc; 1u32; book.bidders()]
+}
+
+fn price_texts(
+    alloc: Global,
+    book: &BidBook,
+    weights: &[u32],
+    form: PriceForm,
+) -> Result<PriceTexts, PriceStop>
+    requires { AreWeights (bidders_of book.now) weights.now }
+    ensures done { IfOk result (λ p. PriceGives book.now weights.now form (done p.printed (cert_file p.cert ∷ []))) }
+    ensures stop { (n : ℕ) → result ≡ Err (PriceStop.Winners n)
+        → PriceGives book.now weights.now form (stopped (Status.Limit LimitKind.Winners n)) }
+{
+    let priced = price_book(alloc, book, weights)?;
+    let cert = &priced.cert;
+    let printed = price_text(alloc, book, cert, priced.turns.items(), form)?;
+    let cert = write_cert(alloc, cert)?;
+    Ok(PriceTexts { printed, cert })
+}
+
+/// The work whose one appended text is a certificate.
+pub fn with_cert(alloc: Global, texts: PriceTexts) -> Result<Work, Stop>
+    ensures { IsWork (λ o. o ≡ done texts.printed (cert_file texts.cert ∷ [])) (FileKind.Cert ∷ []) result }
+{
+    let mut appended = Vec::new(alloc);
+    appended.push(FileText {
+        kind: FileKind::Cert,
+        text: texts.cert,
+    })?;
+    Ok(Work {
+        printed: texts.printed,
+        appended,
+    })
+}
+
+/// The prices of a book by weights, printed in this form, and their certificate.
+pub fn price_weighed(
+    alloc: Global,
+    book: &BidBook,
+    weights: &[u32],
+    form: PriceForm,
+) -> Result<Work, Stop>
+    requires { AreWeights (bidders_of book.now) weights.now }
+    ensures { IsWork (PriceGives book.now weights.now form) (FileKind.Cert ∷ []) result }
+{
+    match price_texts(alloc, book, weights, form) {
+        Ok(texts) => with_cert(alloc, texts),
+        Err(stop) => Err(Stop::from(stop)),
+    }
+}
+
+/// The same with a weight of 1 for each bidder.
+pub fn price_alike(alloc: Global, book: &BidBook, form: PriceForm) -> Result<Work, Stop>
+    ensures { IsWork (PriceGives book.now (ones book.now) form) (FileKind.Cert ∷ []) result }
+{
+    let weights = ones_of(alloc, book)?;
+    price_weighed(alloc, book, &weights, form)
+}

@@ -1,0 +1,41 @@
+// What a certificate gives for which all tests hold.
+ghost use Rattle.std.specs.Prelude.{List, ℕ, [], IfOk};
+ghost use Rattle.outcome.specs.auction_model.specs.Prices.{weight_of};
+ghost use Rattle.cca_inputs.specs.cert_facts.specs.Facts.{AreFacts};
+ghost use Rattle.cca_inputs.specs.cert_form.specs.Certificate.{CertValue};
+ghost use Rattle.place_price.specs.cert_laws.specs.Sound.{IsSound};
+ghost use Rattle.place_price.specs.cert_laws.specs.Tests.{Holds};
+ghost use Rattle.cca_work.specs.Gives.{IsYesText, VerdictGives};
+ghost use Rattle.cca_work.specs.Works.{IsWork};
+
+use crate::work::{Stop, Work};
+use cca_inputs::bid_book::BidBook;
+use cca_inputs::cert_facts::CertFacts;
+use outcome::outcome_text;
+use outcome::wide_num::Text;
+use std::alloc::{AllocError, Global};
+
+fn yes_text(alloc: Global, book: &BidBook, facts: &CertFacts) -> Result<Text, AllocError>
+    requires { (c : CertValue) × AreFacts book.now c facts.now }
+    ensures { (c : CertValue) → AreFacts book.now c facts.now → IfOk result (IsYesText book.now c) }
+{
+    let mut text = Text::new(alloc);
+    text.add(b"yes\n")?;
+    let outcome = outcome_text(alloc, book, facts)?;
+    text.add(outcome.items())?;
+    Ok(text)
+}
+
+/// What a certificate with these facts gives for which all tests hold.
+pub fn accepted(alloc: Global, book: &BidBook, facts: &CertFacts) -> Result<Work, Stop>
+    requires { (c : CertValue) × AreFacts book.now c facts.now }
+    ensures { (weights : List ℕ) (c : CertValue) → Holds book.now (weight_of weights) c
+        → IsSound book.now (weight_of weights) c → AreFacts book.now c facts.now
+        → IsWork (VerdictGives book.now weights c) [] result }
+{
+    let printed = yes_text(alloc, book, facts)?;
+    Ok(Work {
+        printed,
+        appended: Vec::new(alloc),
+    })
+}
