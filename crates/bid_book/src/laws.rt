@@ -13,6 +13,11 @@ pub fn one_book()
         → x ≡ y }
 {}
 
+/// Bytes always say something of a book, whatever they are.
+pub fn some_book()
+    ensures { (bytes : List ℕ) → (said : Said Book Excess) × Says IsBook lines bytes said }
+{}
+
 /// A book within the limits has one text, and a text states one book.
 pub fn one_text()
     ensures text { (bytes other : List ℕ) (book : Book) → Says IsBook lines bytes (stated book)

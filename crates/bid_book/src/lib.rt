@@ -13,7 +13,7 @@ mod write;
 pub use bidders::{BidderBids, Bidders};
 pub use book::BidBook;
 pub use book_form::{Excess, line_text, wide_num};
-pub use laws::{one_book, one_text, rules_with_bid};
+pub use laws::{one_book, one_text, rules_with_bid, some_book};
 pub use lists::{BidList, Reserves};
 pub use lots;
 pub use lots::limits::LimitKind;

@@ -1,3 +1,4 @@
 mod FieldLaws
 mod LineLaws
 mod Reading
+mod EditsDecided

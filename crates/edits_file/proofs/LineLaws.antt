@@ -34,11 +34,13 @@ raise_word = ((λ is. absurd (omega arith)), ((λ is. absurd (omega arith)), ((�
 drop_word : IsLine (codes "drop ")
 drop_word = ((λ is. absurd (omega arith)), ((λ is. absurd (omega arith)), ((λ is. absurd (omega arith)), ((λ is. absurd (omega arith)), ((λ is. absurd (omega arith)), tt)))))
 
-low_small : (ns : List ℕ) → AreLow ns → AreSmall ns
+-- counts that a text may state are below 2 ^ 120
+pub low_small : (ns : List ℕ) → AreLow ns → AreSmall ns
 low_small [] low = tt
 low_small (n ∷ ns) low = (omega (arith, low.0), low_small ns low.1)
 
-bid_small : (ns : List ℕ) (amount : ℕ) → AreLow ns → IsSpelledAmount amount → AreSmall (ns ++ amount ∷ [])
+-- and so are they with an amount that it may state
+pub bid_small : (ns : List ℕ) (amount : ℕ) → AreLow ns → IsSpelledAmount amount → AreSmall (ns ++ amount ∷ [])
 bid_small [] amount low top = (omega (arith, top), tt)
 bid_small (n ∷ ns) amount low top = (omega (arith, low.0), bid_small ns amount low.1 top)
 

@@ -14,6 +14,11 @@ pub fn one_edits()
         → EditsSay categories bytes y → x ≡ y }
 {}
 
+/// Bytes always say something of the edits of a book, whatever they are.
+pub fn some_edits()
+    ensures { (categories : ℕ) (bytes : List ℕ) → (said : Said (List NamedEdit) Excess) × EditsSay categories bytes said }
+{}
+
 /// Each edit that bytes state for a book has a count for each category of the book.
 pub fn edit_counts()
     ensures { (book : Book) (bytes : List ℕ) (named : List NamedEdit)

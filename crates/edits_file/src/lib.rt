@@ -11,7 +11,7 @@ mod line;
 mod read;
 
 pub use edits::Edits;
-pub use laws::{edit_counts, one_edits};
+pub use laws::{edit_counts, one_edits, some_edits};
 pub use read::read_edits;
 pub use review;
 pub use review::limits::LimitKind;

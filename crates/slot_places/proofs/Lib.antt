@@ -20,6 +20,7 @@ pub mod PlainSearch
 mod Growth
 mod LineLaws
 mod Reading
+mod SlotsDecided
 pub mod Within
 mod Added
 mod EntryLaws

@@ -30,3 +30,8 @@ pub fn one_slots()
     ensures text { (bytes other : List ℕ) (slots : SlotList) → Says IsSlotText slot_lines bytes (stated slots)
         → Says IsSlotText slot_lines other (stated slots) → bytes ≡ other }
 {}
+
+/// Bytes always say something of slots, whatever they are.
+pub fn some_slots()
+    ensures { (bytes : List ℕ) → (said : Said SlotList Excess) × Says IsSlotText slot_lines bytes said }
+{}

@@ -1,3 +1,4 @@
 mod Lines
 mod Reading
+mod WeightsDecided
 mod Unmarked

@@ -12,6 +12,11 @@ pub fn one_weighing()
         → WeightsSay book bytes y → x ≡ y }
 {}
 
+/// Bytes always say something of the weights of a book, whatever they are.
+pub fn some_weighing()
+    ensures { (book : Book) (bytes : List ℕ) → IsBook book → (said : Said (List ℕ) ⊥) × WeightsSay book bytes said }
+{}
+
 /// The weights of a book have one text.
 pub fn one_text()
     ensures { (book : Book) (bytes other weights : List ℕ) → WeightsSay book bytes (stated weights)

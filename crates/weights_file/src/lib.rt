@@ -11,7 +11,7 @@ mod weights;
 
 pub use bid_book;
 pub use bid_book::{limits, lots, wide_num};
-pub use laws::{one_text, one_weighing};
+pub use laws::{one_text, one_weighing, some_weighing};
 pub use read::read_weights;
 use std::alloc::{AllocError, AllocFailed};
 pub use weights::Weights;
