@@ -72,8 +72,8 @@ pub fn price_book(alloc: Global, book: &BidBook, weights: &[u32]) -> Result<Pric
     priced_book(alloc, book, winners, &whole, weights)
 }
 
-// Takes much room and gives it back untouched. An allocator that goes by what it was given back then keeps smaller pieces, so that
-// one turn's table has the pages of the last one's, and none is asked of the system anew. Where there is no room, nothing is lost.
+// Takes much room and gives it back untouched. An allocator that goes by what it was given back then keeps smaller
+// pieces, so that a turn's table has the pages of the last one's. Where there is no room, nothing is lost.
 fn keep_pages(alloc: Global) {
     let _room: Result<Vec<u8>, AllocError> = Vec::with_capacity(alloc, ROOM);
 }

@@ -96,7 +96,8 @@ module _ (b s : ℕ) where
     all_rows_range = rows_range c.rows is.rows
 
 -- the parts of a certificate's text, one behind the other
-pub whole_cert : (c : Certificate) (v a e f g h i : List ℕ) → Adds [] v (version_lines (length c.choice) (width_of c.table)) → Adds v a (lines_of_head c) → Adds a e (lines_of_table (codes "table") c.table ++ lines_of_parts c.withouts)
+pub whole_cert : (c : Certificate) (v a e f g h i : List ℕ) → Adds [] v (version_lines (length c.choice) (width_of c.table)) → Adds v a (lines_of_head c)
+    → Adds a e (lines_of_table (codes "table") c.table ++ lines_of_parts c.withouts)
     → Adds e f (line (codes "pay") c.pay ∷ []) → Adds f g (lines_of_rows c.rows) → Adds g h (lines_of_table (codes "lowered") c.lowered) → Adds h i (line (codes "end") [] ∷ []) → i ≡ cert_text (cert_value c)
 whole_cert c v a e f g h i version head to_tables pay rows lowered end =
     let first = version_lines (length c.choice) (width_of c.table) in

@@ -1,5 +1,5 @@
-// Numbers of a line, added to a text piece by piece: the digits of a piece are put into a room from its last number to its
-// first, where each stands before what is there already.
+// Numbers of a line, added to a text piece by piece: the digits of a piece are put into a room from its last number to
+// its first, each before what stands there already.
 ghost use Rattle.std.specs.Prelude.{◌≡◌, ◌≤◌, ◌<◌, ◌+◌, ◌*◌, ◌∷◌, ◌++◌, length, drop, pos, IfSome, OnOk};
 ghost use Rattle.std.specs.Fmt.{decimal};
 ghost use Rattle.cert_form.specs.line_text.specs.Numeral.{numbers_text};
@@ -43,8 +43,8 @@ fn add_piece(text: &mut Text, numbers: &[i128]) -> Result<(), AllocError>
     }
 }
 
-/// Puts numbers at the end of a room, each behind one space, and says where they begin; None where one is below 0 or has more
-/// than 64 bits.
+/// Puts numbers at the end of a room, each behind one space, and says where they begin; None where one is below 0 or
+/// has more than 64 bits.
 fn put_fields(room: &mut [u8], numbers: &[i128]) -> Option<usize>
     requires { 21 * length numbers.now ≤ length room.old }
     ensures within { IfSome result (λ start. start ≤ length room.old) }

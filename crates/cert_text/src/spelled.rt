@@ -93,8 +93,8 @@ fn add_known_table(
     Ok(())
 }
 
-/// Which line of the table of all bids is that of the table without a winner: from its own on each is the same, and the one
-/// before has its bids left out. Before that none is.
+/// Which line of the table of all bids is that of the table without a winner: from its own on each is the same, and the
+/// one before has its bids left out. Before that none is.
 fn same_place(winner: usize, line: usize) -> usize {
     if line >= winner {
         line

@@ -240,9 +240,9 @@ pub fn all_lines(alloc: Global, lowering: &Lowering) -> Result<Grid, AllocError>
     Ok(grid)
 }
 
-/// The exact table without bidder `skip`, from that of all bids for the same worths. A bidder that isn't there counts nothing,
-/// so the lines from `skip` on are those of all bids, and the one before has the same numbers as the first of them: they are
-/// shared.
+/// The exact table without bidder `skip`, from that of all bids for the same worths. A bidder that isn't there counts
+/// nothing, so the lines from `skip` on are those of all bids, and the one before has the numbers of the first of them:
+/// they are shared.
 pub fn lines_without(alloc: Global, lowering: &Lowering, whole: &Grid) -> Result<Grid, AllocError>
     requires bidder { (0 < lowering.now.skip) × (lowering.now.skip ≤ length lowering.now.book.now.bidders) }
     requires idle { counted lowering.now lowering.now.skip 0 ≡ pos 0 }

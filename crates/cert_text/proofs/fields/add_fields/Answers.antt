@@ -7,6 +7,7 @@ add_piece-requires-clause-range c = range-part c.args.numbers.now c.loop-done.do
 
 pub loop-done-preserved : goal.loop-done-preserved
 loop-done-preserved c = record {
-  written = next-piece c.args.numbers.now c.loop-done.done c.min-end.result _ c.loop-done.text c.add_piece.new.text (omega (arith, c.min-end.ensures)) c.loop-done.invariant.written c.in_ok-add_piece.ensures;
+  written = next-piece c.args.numbers.now c.loop-done.done c.min-end.result _ c.loop-done.text c.add_piece.new.text
+      (omega (arith, c.min-end.ensures)) c.loop-done.invariant.written c.in_ok-add_piece.ensures;
   within = omega (arith, c.min-end.ensures);
 }

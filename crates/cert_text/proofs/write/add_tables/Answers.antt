@@ -9,5 +9,6 @@ returns c =
     let cert = c.args.cert.now in
     let parts : Adds c.add_spelled.new.text c.add_parts.new.text (lines_of_parts cert.withouts) =
     subst (λ (l : List WithoutPart). Adds c.add_spelled.new.text c.add_parts.new.text (lines_of_parts l)) c.items.ensures c.in_ok-add_parts.ensures in
-    tables-added c.args.text.now c.add_signed_line.new.text c.add_spelled.new.text c.add_parts.new.text cert.table c.deref.result.now (lines_of_parts cert.withouts) c.in_ok-add_signed_line.ensures
+    tables-added c.args.text.now c.add_signed_line.new.text c.add_spelled.new.text c.add_parts.new.text cert.table c.deref.result.now
+    (lines_of_parts cert.withouts) c.in_ok-add_signed_line.ensures
     (c.deref.ensures.value ∙ c.in_ok-spelled.ensures) c.in_ok-add_spelled.ensures parts

@@ -12,7 +12,8 @@ returns c =
     let made : c.push_line.new.self ≡ c.in_ok-grid.grid ++ c.in_ok-last.last.items ∷ [] =
     c.in_ok-push_line.ensures.pushed ∙ ap (λ (z : List ℤ). c.in_ok-grid.grid ++ z ∷ []) c.from_vec.ensures in
     let all : AreLinesTo m (counted l) supply (suc m.bidders) 0 (c.in_ok-grid.grid ++ c.in_ok-last.last.items ∷ []) =
-    lines-more m (counted l) supply m.bidders 0 c.in_ok-grid.grid c.in_ok-last.last.items (rw c.bidders.ensures.bidders at c.in_ok-grid.ensures) c.in_ok-last.ensures in
+    lines-more m (counted l) supply m.bidders 0 c.in_ok-grid.grid c.in_ok-last.last.items
+    (rw c.bidders.ensures.bidders at c.in_ok-grid.ensures) c.in_ok-last.ensures in
     table-from_lines m (counted l) supply c.push_line.new.self (subst (AreLinesTo m (counted l) supply (suc m.bidders) 0) (sym made) all)
 
 pub lines_before-requires-clause-first : goal.lines_before-requires-clause-first

@@ -16,11 +16,13 @@ grid_of-requires g c =
     let number = g.A.Amount.number in
     let lines = c.in_ok-lines.lines.items in
     let front : AreCountedLines l c.args.top 0 (map (entries number) (take c.args.top lines)) = counted-front l number lines c.args.top c.in_ok-lines.ensures in
-    rw c.deref.ensures.value (subst (λ n. AreCountedLines l n 0 (map (entries number) (take c.args.top lines))) (counted-many l number (take c.args.top lines) c.args.top front) front)
+    rw c.deref.ensures.value (subst (λ n. AreCountedLines l n 0 (map (entries number) (take c.args.top lines)))
+    (counted-many l number (take c.args.top lines) c.args.top front) front)
 
 pub returns : goal.returns
 returns g c =
     let number = g.A.Amount.number in
     let lines = c.in_ok-lines.lines.items in
-    subst (AreCountedLines c.args.lowering.now c.args.top 0) (sym (c.in_ok-grid.ensures ∙ ap (λ (ls : List (Vec _ Global)). map (entries number) (take c.args.top ls)) c.deref.ensures.value))
+    subst (AreCountedLines c.args.lowering.now c.args.top 0) (sym (c.in_ok-grid.ensures
+    ∙ ap (λ (ls : List (Vec _ Global)). map (entries number) (take c.args.top ls)) c.deref.ensures.value))
     (counted-front c.args.lowering.now number lines c.args.top c.in_ok-lines.ensures)

@@ -58,4 +58,5 @@ push_line-requires g c = λ some.
     let inside : c.loop-i.i < length all = omega (arith, length-map lines (entries number)) in
     let width = lines-width (counted_bids l) (counted l) l.book.now.supply (length lines) 0 c.loop-i.i all c.requires inside in
     let made : c.from_vec.result ≡ get_or all c.loop-i.i [] = c.from_vec.ensures ∙ c.in_ok-wide.ensures ∙ c.line_at.ensures in
-    ap (λ (z : List ℤ). length z) made ∙ width ∙ sym (lines-even (counted_bids l) (counted l) l.book.now.supply c.loop-i.i c.loop-i.grid c.loop-i.invariant.done some)
+    ap (λ (z : List ℤ). length z) made ∙ width ∙ sym (lines-even (counted_bids l)
+    (counted l) l.book.now.supply c.loop-i.i c.loop-i.grid c.loop-i.invariant.done some)

@@ -7,7 +7,8 @@ use Rattle.value_table.proofs.turn_lines.TurnLines.grid.Goals as goal
 pub grid_of-requires : goal.grid_of-requires
 grid_of-requires c =
     rw c.deref.ensures.value
-    (counted-lines c.args.lowering.now (λ z. z) c.in-Narrow.lines.items (subst (λ t. IsCountedTable c.args.lowering.now (lines_in t)) c.in-Narrow.is c.requires))
+    (counted-lines c.args.lowering.now (λ z. z) c.in-Narrow.lines.items (subst (λ t. IsCountedTable c.args.lowering.now
+    (lines_in t)) c.in-Narrow.is c.requires))
 
 pub grid_of-requires-in-Wide : goal.grid_of-requires-in-Wide
 grid_of-requires-in-Wide c =
