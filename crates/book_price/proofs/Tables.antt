@@ -1,5 +1,5 @@
 -- The tables of pricing are exact tables of the book, and their numbers are in range.
-use Rattle.std.specs.Prelude.{◌≡◌, ℕ, zero, suc, ◌-◌, ◌^◌, ◌<◌, Bool, List, [], ◌∷◌, length, replicate, get_or, ℤ, pos, unsigned_abs, refl}
+use Rattle.std.specs.Prelude.{◌≡◌, ℕ, suc, ◌-◌, ◌^◌, ◌<◌, Bool, List, [], ◌∷◌, length, replicate, get_or, ℤ, pos, unsigned_abs, refl}
 use Rattle.std.proofs.Common.{sym, ◌∙◌, ap, arith}
 use Rattle.cert_laws.specs.auction_model.specs.Book.{Book, menu_of, net_of}
 use Rattle.cert_laws.specs.auction_model.specs.Greatest.{IsGreatestValue}

@@ -16,7 +16,7 @@ use cert_text::choices::Choice;
 use core_price::{Priced, for_bidders};
 use std::alloc::{AllocError, Global};
 use vickrey::Vickrey;
-use vickrey::value_table::ValueTable;
+use vickrey::value_table::{TurnTable, ValueTable};
 
 /// The certificate of what was found by some weights. It shares the lines of all tables.
 pub(crate) fn certificate(
@@ -25,7 +25,7 @@ pub(crate) fn certificate(
     winners: Choice,
     whole: &ValueTable,
     alone: &Vickrey,
-    priced: &Priced<ValueTable>,
+    priced: &Priced<TurnTable>,
 ) -> Result<Certificate, AllocError>
     requires { (weights : List ℕ) × AreFound book.now winners whole.now alone.now weights priced.now }
     ensures value { IfOk result (λ c. cert_value c ≡ cert_found book.now winners whole.now alone.now priced.now) }
@@ -41,7 +41,7 @@ pub(crate) fn certificate(
     let pay = NumList::from_vec(for_bidders(alloc, &winners, at)?);
     let kept = priced.rows.items();
     let rows = all_rows(alloc, &winners, kept)?;
-    let lowered = shared(alloc, priced.last.table.grid())?;
+    let lowered = priced.last.table.grid(alloc, book)?;
     Ok(Certificate {
         den: priced.den,
         value,

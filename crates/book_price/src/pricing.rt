@@ -21,9 +21,12 @@ use cert_text::Certificate;
 use cert_text::bid_book::BidBook;
 use cert_text::choices::Choice;
 use core_price::{PriceStop, TurnList, count_winners, many_win, price};
-use std::alloc::Global;
+use std::alloc::{AllocError, Global};
 use vickrey::value_table::{BookChooser, ValueTable, plain_table};
 use vickrey::vickrey_from;
+
+// Room for more than the tables of a turn and the text of a certificate.
+const ROOM: usize = 31 << 20;
 
 /// The prices of a book: the certificate that shows them, and the turns that led to them.
 #[derive(Drop)]
@@ -59,6 +62,7 @@ pub fn price_book(alloc: Global, book: &BidBook, weights: &[u32]) -> Result<Pric
         (λ p. IsLastPoint (turns_of p.cert.choice p.turns) (cert_point (cert_value p.cert))) }
     ensures stops { IfErr result (IsBookStop book.now weights.now) }
 {
+    keep_pages(alloc);
     let whole = plain_table(alloc, book)?;
     let winners = whole.trace(alloc, book)?;
     let count = count_winners(&winners);
@@ -66,6 +70,12 @@ pub fn price_book(alloc: Global, book: &BidBook, weights: &[u32]) -> Result<Pric
         return Err(PriceStop::Winners(count as u64));
     }
     priced_book(alloc, book, winners, &whole, weights)
+}
+
+// Takes much room and gives it back untouched. An allocator that goes by what it was given back then keeps smaller
+// pieces, so that a turn's table has the pages of the last one's. Where there is no room, nothing is lost.
+fn keep_pages(alloc: Global) {
+    let _room: Result<Vec<u8>, AllocError> = Vec::with_capacity(alloc, ROOM);
 }
 
 // The prices of the winning choice, from the table of all bids.

@@ -5,7 +5,7 @@ ghost use Rattle.vickrey.specs.value_table.specs.SideValues.{AreSidesOf};
 
 use slot_places::choices::{Chooser, Found, first_by_listing, value};
 use std::alloc::{AllocError, Global};
-use vickrey::value_table::{BookChooser, Sides, ValueTable, win};
+use vickrey::value_table::{BookChooser, Sides, TurnTable, win};
 use weights_file::bid_book::{BidBook, read_book};
 
 /// One lot of each of two categories; b1 and b2 win it.
@@ -38,7 +38,7 @@ fn search(
     alloc: Global,
     chooser: &BookChooser,
     surplus: &[i128],
-) -> Result<Option<Found<ValueTable>>, AllocError> {
+) -> Result<Option<Found<TurnTable>>, AllocError> {
     if !are_surpluses(chooser, surplus) {
         return Ok(None);
     }

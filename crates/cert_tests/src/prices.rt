@@ -4,7 +4,7 @@ use place_price::bid_book::{BidBook, read_book};
 use place_price::blocking::{Looked, find_block};
 use place_price::book_price::{PricedBook, price_book};
 use place_price::core_price::{PriceStop, count_winners, for_bidders};
-use place_price::value_table::{BookChooser, ValueTable, win};
+use place_price::value_table::{BookChooser, TurnTable, win};
 use std::alloc::{AllocError, Global};
 use std::process::Abort;
 
@@ -165,7 +165,7 @@ fn look(
     alloc: Global,
     chooser: &BookChooser,
     paid: &[i128],
-) -> Result<Looked<ValueTable>, AllocError> {
+) -> Result<Looked<TurnTable>, AllocError> {
     let _bidders = chooser.book.bidders();
     let count = count_winners(&chooser.winners);
     assert!(rt; count <= 6);

@@ -8,3 +8,4 @@ mod StageSteps
 mod WholeText
 pub mod Written
 mod PartsFound
+mod SpelledLaws

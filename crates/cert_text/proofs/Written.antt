@@ -96,16 +96,16 @@ module _ (b s : ℕ) where
     all_rows_range = rows_range c.rows is.rows
 
 -- the parts of a certificate's text, one behind the other
-pub whole_cert : (c : Certificate) (v a d e f g h i : List ℕ) → Adds [] v (version_lines (length c.choice) (width_of c.table)) → Adds v a (lines_of_head c) → Adds a d (lines_of_table (codes "table") c.table) → Adds d e (lines_of_parts c.withouts)
+pub whole_cert : (c : Certificate) (v a e f g h i : List ℕ) → Adds [] v (version_lines (length c.choice) (width_of c.table)) → Adds v a (lines_of_head c)
+    → Adds a e (lines_of_table (codes "table") c.table ++ lines_of_parts c.withouts)
     → Adds e f (line (codes "pay") c.pay ∷ []) → Adds f g (lines_of_rows c.rows) → Adds g h (lines_of_table (codes "lowered") c.lowered) → Adds h i (line (codes "end") [] ∷ []) → i ≡ cert_text (cert_value c)
-whole_cert c v a d e f g h i version head table parts pay rows lowered end =
+whole_cert c v a e f g h i version head to_tables pay rows lowered end =
     let first = version_lines (length c.choice) (width_of c.table) in
     let tables = lines_of_table (codes "table") c.table ++ lines_of_parts c.withouts in
     let last = lines_of_table (codes "lowered") c.lowered ++ line (codes "end") [] ∷ [] in
     let tail = (line (codes "pay") c.pay ∷ []) ++ (lines_of_rows c.rows ++ last) in
     let to_last : Adds g i last = adds_both g h i (lines_of_table (codes "lowered") c.lowered) (line (codes "end") [] ∷ []) lowered end in
     let to_tail : Adds e i tail = adds_both e f i (line (codes "pay") c.pay ∷ []) (lines_of_rows c.rows ++ last) pay (adds_both f g i (lines_of_rows c.rows) last rows to_last) in
-    let to_tables : Adds a e tables = adds_both a d e (lines_of_table (codes "table") c.table) (lines_of_parts c.withouts) table parts in
     let to_head : Adds v i (lines_of_head c ++ (tables ++ tail)) = adds_both v a i (lines_of_head c) (tables ++ tail) head (adds_both a e i tables tail to_tables to_tail) in
     adds_both [] v i first (lines_of_head c ++ (tables ++ tail)) version to_head
     ∙ ap (λ (n : ℕ). bytes_of (first ++ (lines_of_head c ++ (tables ++ line (codes "pay") c.pay ∷ line (codes "rows") (pos n ∷ []) ∷ (row_lines (map row_value c.rows) ++ last))))) (sym (length-map c.rows row_value))

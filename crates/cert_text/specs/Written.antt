@@ -15,6 +15,10 @@ abbrev pub bytes_of : List Line → List ℕ
 bytes_of [] = []
 bytes_of (l ∷ ls) = spell l ++ 10 ∷ bytes_of ls
 
+-- a line of a table, with its line feed
+abbrev pub line_bytes : List ℤ → List ℕ
+line_bytes numbers = bytes_of (line (codes "t") numbers ∷ [])
+
 -- the text behind is the text before with these lines added
 abbrev pub Adds : List ℕ → List ℕ → List Line → Type 0
 Adds before behind ls = behind ≡ before ++ bytes_of ls

@@ -6,8 +6,10 @@
 #![tactic(auto)]
 
 mod certificate;
+mod fields;
 mod lists;
 mod read;
+mod spelled;
 mod stop;
 mod version;
 mod write;

@@ -1,5 +1,5 @@
 // From a certificate to its text.
-ghost use Rattle.std.specs.Prelude.{◌≡◌, ◌≤◌, ◌<◌, ◌∷◌, ◌++◌, [], length, take, IfOk, OnOk};
+ghost use Rattle.std.specs.Prelude.{◌≡◌, ◌≤◌, ◌<◌, ◌∷◌, ◌++◌, [], codes, length, take, IfOk, OnOk};
 ghost use Rattle.std.specs.List.{AllByRecursion};
 ghost use Rattle.cert_form.specs.CertText.{as_numbers, choice_line, line};
 ghost use Rattle.cert_form.specs.line_text.specs.Range.{AllInRange};
@@ -10,10 +10,12 @@ ghost use Rattle.cert_form.specs.Says.{cert_text};
 ghost use Rattle.cert_text.specs.CertValues.{cert_value};
 ghost use Rattle.cert_text.specs.Written.{lines_of_head, lines_of_part, lines_of_parts, lines_of_row, lines_of_rows, lines_of_table, Adds, ArePartsInRange, IsRowInRange, IsTableInRange};
 
+use crate::fields::add_fields;
+use crate::spelled::{add_parts, add_spelled, spelled_lines};
 use crate::version::has_first_version;
-use crate::{CertRow, Certificate, WithoutPart};
+use crate::{CertRow, Certificate};
 use cert_form::limits::{MOST_BIDDERS, MOST_STATES};
-use cert_form::line_text::{add_numbers, add_signed_numbers};
+use cert_form::line_text::add_numbers;
 use cert_form::wide_num::Text;
 use choices::{Choice, Grid};
 use std::alloc::{AllocError, Global};
@@ -28,8 +30,7 @@ pub fn write_cert(alloc: Global, cert: &Certificate) -> Result<Text, AllocError>
     let mut text = Text::with_capacity(alloc, room_for(cert))?;
     add_version(&mut text, cert.choice.numbers().len(), cert.table.width())?;
     add_head(&mut text, cert)?;
-    add_table(&mut text, b"table", &cert.table)?;
-    add_parts(&mut text, cert.withouts.items())?;
+    add_tables(alloc, &mut text, cert)?;
     add_signed_line(&mut text, b"pay", cert.pay.items())?;
     add_rows(&mut text, cert.rows.items())?;
     add_table(&mut text, b"lowered", &cert.lowered)?;
@@ -57,7 +58,7 @@ fn table_room(table: &Grid) -> usize {
 }
 
 // The room of a line whose longest number is the first or the last one.
-fn line_room(line: &[i128]) -> usize {
+pub(crate) fn line_room(line: &[i128]) -> usize {
     let longest = match line {
         [] => 0,
         [only] => number_room(*only),
@@ -104,24 +105,17 @@ fn add_head(text: &mut Text, cert: &Certificate) -> Result<(), AllocError>
     Ok(())
 }
 
-// The parts without each winner.
-fn add_parts(text: &mut Text, parts: &[WithoutPart]) -> Result<(), AllocError>
-    requires { ArePartsInRange parts.now }
-    ensures { OnOk result (Adds text.old text.new (lines_of_parts parts.now)) }
+// The table, and the parts without each winner. The text of a line that they share is put together once.
+fn add_tables(alloc: Global, text: &mut Text, cert: &Certificate) -> Result<(), AllocError>
+    requires table { IsTableInRange cert.now.table }
+    requires parts { ArePartsInRange cert.now.withouts }
+    ensures { OnOk result
+        (Adds text.old text.new (lines_of_table (codes "table") cert.now.table ++ lines_of_parts cert.now.withouts)) }
 {
-    for part in parts {
-        add_part(text, part)?;
-    }
-    Ok(())
-}
-
-fn add_part(text: &mut Text, part: &WithoutPart) -> Result<(), AllocError>
-    requires { IsTableInRange part.now.table }
-    ensures { OnOk result (Adds text.old text.new (lines_of_part part.now)) }
-{
-    add_number_line(text, b"without", &[part.winner])?;
-    add_choice(text, &part.choice)?;
-    add_table(text, b"table", &part.table)?;
+    let spelled = spelled_lines(alloc, &cert.table)?;
+    add_signed_line(text, b"table", &[])?;
+    add_spelled(text, &spelled)?;
+    add_parts(text, cert.withouts.items(), &cert.table, &spelled)?;
     Ok(())
 }
 
@@ -174,7 +168,7 @@ pub fn add_signed_line(text: &mut Text, word: &[u8], numbers: &[i128]) -> Result
     ensures { OnOk result (Adds text.old text.new (line word.now numbers.now ∷ [])) }
 {
     text.add(word)?;
-    add_signed_numbers(text, numbers)?;
+    add_fields(text, numbers)?;
     text.push(b'\n')?;
     Ok(())
 }

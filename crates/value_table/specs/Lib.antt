@@ -4,6 +4,7 @@ pub mod Growing
 pub mod SideLines
 pub mod SideValues
 pub mod TableValue
+pub mod TurnLines
 pub mod Turned
 pub use Rattle.choices.specs.auction_model
 pub use Rattle.choices.specs.bid_book

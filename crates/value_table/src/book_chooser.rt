@@ -4,7 +4,7 @@ ghost use Rattle.choices.specs.auction_model.specs.Book.{market_of};
 ghost use Rattle.choices.specs.auction_model.specs.Greatest.{IsWinning};
 ghost use Rattle.choices.specs.auction_model.specs.Lawful.{IsMarket};
 
-use crate::ValueTable;
+use crate::TurnTable;
 use choices::auction_model::book_market;
 use choices::bid_book::BidBook;
 use choices::{Choice, Chooser, Found};
@@ -39,7 +39,7 @@ impl<'a> Chooser for BookChooser<'a> {
     ghost use Rattle.choices.specs.auction_model.specs.Book.{market_of};
     ghost use Rattle.value_table.specs.TableValue.{IsLoweredTable};
 
-    type Table = ValueTable;
+    type Table = TurnTable;
 
     ghost market = { λ s. market_of s.book.now };
 
@@ -69,9 +69,9 @@ impl<'a> Chooser for BookChooser<'a> {
         alloc: Global,
         den: i128,
         surplus: &[i128],
-    ) -> Result<Found<ValueTable>, AllocError> {
+    ) -> Result<Found<TurnTable>, AllocError> {
         self.book.kept();
-        let table = ValueTable::build(alloc, self.book, 0, den, surplus)?;
+        let table = TurnTable::build(alloc, self.book, den, surplus)?;
         let choice = table.trace(alloc, self.book)?;
         let sum = table.most(self.book);
         Ok(Found { choice, sum, table })

@@ -11,6 +11,8 @@ mod side_lines;
 mod sides;
 mod table;
 mod tracing;
+mod turn_lines;
+mod turn_table;
 
 pub use book_chooser::BookChooser;
 pub use choices;
@@ -18,3 +20,4 @@ pub use choices::{auction_model, bid_book, limits, line_text, lots, wide_num};
 pub use side_lines::{left_line, narrow_left_line, narrow_right_line, right_line, right_number};
 pub use sides::Sides;
 pub use table::{ValueTable, plain_table, win};
+pub use turn_table::TurnTable;

@@ -9,6 +9,7 @@ use crate::amount::Amount;
 use crate::lowering::Lowering;
 use crate::narrow::{narrow_into, narrowed, widen_into, widened};
 use crate::runs::add_bid;
+use crate::tracing::line_at;
 use choices::Grid;
 use choices::wide_num::NumList;
 use std::alloc::{AllocError, Global};
@@ -50,6 +51,18 @@ fn count_bids<A: Amount>(lowering: &Lowering, j: u16, line: &mut [A], below: &[A
     }
 }
 
+/// Makes of a copy of line `j` line `j - 1`.
+fn turn_line<A: Amount>(lowering: &Lowering, j: u16, below: &[A], line: &mut [A])
+    requires range { IsWithin lowering.now A.most }
+    requires bidder { (0 < j) × (j ≤ length lowering.now.book.now.bidders) }
+    requires below { IsCountedLine lowering.now j (map A.number below.now) }
+    requires copied { line.old ≡ below.now }
+    ensures { IsCountedLine lowering.now (j - 1) (map A.number line.new) }
+{
+    add_idle(lowering, j, line);
+    count_bids(lowering, j, line, below);
+}
+
 /// Makes `line` line `j - 1`, from line `j`. It takes no memory.
 pub fn put_line<A: Amount>(lowering: &Lowering, j: u16, below: &[A], line: &mut [A])
     requires range { IsWithin lowering.now A.most }
@@ -59,8 +72,7 @@ pub fn put_line<A: Amount>(lowering: &Lowering, j: u16, below: &[A], line: &mut 
     ensures { IsCountedLine lowering.now (j - 1) (map A.number line.new) }
 {
     line.copy_from_slice(below);
-    add_idle(lowering, j, line);
-    count_bids(lowering, j, line, below);
+    turn_line(lowering, j, below, line);
 }
 
 /// The same where bids count their net amounts, worked out in 64 bits in two lists of room.
@@ -100,7 +112,7 @@ fn next_line<A: Amount>(
     ensures { IfOk result (λ v. IsCountedLine lowering.now (j - 1) (map A.number v.items)) }
 {
     let mut line = Vec::from_slice(alloc, below)?;
-    put_line(lowering, j, below, &mut line);
+    turn_line(lowering, j, below, &mut line);
     Ok(line)
 }
 
@@ -128,25 +140,24 @@ pub fn lines_down<A: Amount>(
 }
 
 /// The grid of the lines.
-fn grid_of<A: Amount>(
+pub fn grid_of<A: Amount>(
     alloc: Global,
     lowering: &Lowering,
-    last: usize,
-    lines: Vec<Vec<A>>,
+    lines: &[Vec<A>],
 ) -> Result<Grid, AllocError>
-    requires { AreCountedLines lowering.now last 0 (map (λ l. map A.number l.items) lines.items) }
-    ensures { IfOk result (λ g. AreCountedLines lowering.now last 0 g) }
+    requires { AreCountedLines lowering.now (length lines.now) 0 (map (λ l. map A.number l.items) lines.now) }
+    ensures { IfOk result (λ g. g ≡ map (λ l. map A.number l.items) lines.now) }
 {
     lowering.book.kept();
     let mut grid = Grid::new(alloc);
-    for line in lines {
-        let wide = widened(alloc, &line)?;
+    for i in 0..lines.len() {
+        let wide = widened(alloc, line_at(lines, i))?;
         grid.push_line(NumList::from_vec(wide))?;
     }
     Ok(grid)
 }
 
-/// The grid of the lines from line 0 to line `top`, which is given.
+/// The grid of the lines from line 0 to the one before line `top`, which is given.
 fn grid_down<A: Amount>(
     alloc: Global,
     lowering: &Lowering,
@@ -156,16 +167,15 @@ fn grid_down<A: Amount>(
     requires range { IsWithin lowering.now A.most }
     requires top { top ≤ length lowering.now.book.now.bidders }
     requires first { IsCountedLine lowering.now top (map A.number first.items) }
-    ensures { IfOk result (λ g. AreCountedLines lowering.now (suc top) 0 g) }
+    ensures { IfOk result (λ g. AreCountedLines lowering.now top 0 g) }
 {
-    lowering.book.kept();
     let lines = lines_down(alloc, lowering, top, first)?;
-    let grid = grid_of(alloc, lowering, top + 1, lines)?;
+    let grid = grid_of(alloc, lowering, &lines[..top])?;
     Ok(grid)
 }
 
-/// The lines from line 0 to line `top`, of which `first` has the numbers: worked out in 64 bits where no sum is larger.
-fn lines_to(
+/// The lines before line `top`, of which `first` has the numbers: worked out in 64 bits where no sum is larger.
+fn lines_before(
     alloc: Global,
     lowering: &Lowering,
     top: usize,
@@ -173,7 +183,7 @@ fn lines_to(
 ) -> Result<Grid, AllocError>
     requires top { top ≤ length lowering.now.book.now.bidders }
     requires first { IsCountedLine lowering.now top first.now }
-    ensures { IfOk result (λ g. AreCountedLines lowering.now (suc top) 0 g) }
+    ensures { IfOk result (λ g. AreCountedLines lowering.now top 0 g) }
 {
     lowering.book.kept();
     if lowering.is_narrow() {
@@ -196,11 +206,28 @@ fn zero_line(alloc: Global, states: usize) -> Result<Vec<i128>, AllocError>
 }
 
 /// The line of no bidder.
-fn last_line(alloc: Global, lowering: &Lowering) -> Result<Vec<i128>, AllocError>
+pub fn last_line(alloc: Global, lowering: &Lowering) -> Result<Vec<i128>, AllocError>
     ensures { IfOk result (λ v. IsCountedLine lowering.now (length lowering.now.book.now.bidders) v.items) }
 {
     let line = zero_line(alloc, lowering.book.supply().states())?;
     Ok(line)
+}
+
+/// The same in 64 bits.
+pub fn last_narrow_line(alloc: Global, lowering: &Lowering) -> Result<Vec<i64>, AllocError>
+    ensures { IfOk result (λ v. IsCountedLine lowering.now (length lowering.now.book.now.bidders) v.items) }
+{
+    let line = zero_narrow_line(alloc, lowering.book.supply().states())?;
+    Ok(line)
+}
+
+/// So many zeros of 64 bits.
+fn zero_narrow_line(alloc: Global, states: usize) -> Result<Vec<i64>, AllocError>
+    requires { states ≤ MOST_STATES }
+    ensures places { IfOk result (λ v. length v.items ≡ states) }
+    ensures zeros { IfOk result (λ v. (s : ℕ) → s < states → slice_index_or v.items s (pos 0) ≡ pos 0) }
+{
+    vec![in alloc; 0i64; states]
 }
 
 /// The exact table.
@@ -208,12 +235,14 @@ pub fn all_lines(alloc: Global, lowering: &Lowering) -> Result<Grid, AllocError>
     ensures { IfOk result (λ g. IsCountedTable lowering.now g) }
 {
     let last = last_line(alloc, lowering)?;
-    let grid = lines_to(alloc, lowering, lowering.book.bidders(), &last)?;
+    let mut grid = lines_before(alloc, lowering, lowering.book.bidders(), &last)?;
+    grid.push_line(NumList::from_vec(last))?;
     Ok(grid)
 }
 
-/// The exact table without bidder `skip`, from that of all bids for the same worths. A bidder that isn't there counts nothing,
-/// so the lines from `skip` on are those of all bids, and are shared.
+/// The exact table without bidder `skip`, from that of all bids for the same worths. A bidder that isn't there counts
+/// nothing, so the lines from `skip` on are those of all bids, and the one before has the numbers of the first of them:
+/// they are shared.
 pub fn lines_without(alloc: Global, lowering: &Lowering, whole: &Grid) -> Result<Grid, AllocError>
     requires bidder { (0 < lowering.now.skip) × (lowering.now.skip ≤ length lowering.now.book.now.bidders) }
     requires idle { counted lowering.now lowering.now.skip 0 ≡ pos 0 }
@@ -221,7 +250,8 @@ pub fn lines_without(alloc: Global, lowering: &Lowering, whole: &Grid) -> Result
     ensures { IfOk result (λ g. IsCountedTable lowering.now g) }
 {
     let skip = lowering.skip as usize;
-    let mut grid = lines_to(alloc, lowering, skip - 1, whole.line(skip))?;
+    let mut grid = lines_before(alloc, lowering, skip - 1, whole.line(skip))?;
+    grid.push_shared(whole, skip)?;
     for k in skip..whole.lines() {
         grid.push_shared(whole, k)?;
     }

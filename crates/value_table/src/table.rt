@@ -6,12 +6,12 @@ ghost use Rattle.choices.specs.auction_model.specs.Greatest.{IsFirstGreatest, Is
 ghost use Rattle.choices.specs.auction_model.specs.Book.{net_of, market_of};
 ghost use Rattle.choices.specs.auction_model.specs.Lowered.{lowered};
 ghost use Rattle.choices.specs.auction_model.specs.Table.{entry_at, IsEntry};
-ghost use Rattle.choices.specs.limits.specs.declared.TheConstants.{MOST_BIDDERS, MOST_STATES};
+ghost use Rattle.choices.specs.limits.specs.declared.TheConstants.{MOST_BIDDERS};
 ghost use Rattle.value_table.specs.Counted.{counted_bids, counted, IsCountedLine};
 ghost use Rattle.value_table.specs.BookTable.{menu_without, IsInRange};
 ghost use Rattle.value_table.specs.TableValue.{IsTableOf, IsPlain, IsPlainWithout};
 
-use crate::lines::{all_lines, last_entry, lines_down, lines_without};
+use crate::lines::{all_lines, last_entry, last_narrow_line, lines_down, lines_without};
 use crate::lowering::Lowering;
 use crate::tracing::{trace_lines, trace_slices};
 use choices::bid_book::BidBook;
@@ -202,21 +202,4 @@ fn narrow_choice(alloc: Global, lowering: &Lowering) -> Result<Numbers, AllocErr
     let lines = lines_down(alloc, lowering, lowering.book.bidders(), last)?;
     let numbers = trace_slices(alloc, lowering, &lines)?;
     Ok(numbers)
-}
-
-/// The line of no bidder in 64 bits.
-fn last_narrow_line(alloc: Global, lowering: &Lowering) -> Result<Vec<i64>, AllocError>
-    ensures { IfOk result (λ v. IsCountedLine lowering.now (length lowering.now.book.now.bidders) v.items) }
-{
-    let line = zero_narrow_line(alloc, lowering.book.supply().states())?;
-    Ok(line)
-}
-
-/// So many zeros of 64 bits.
-fn zero_narrow_line(alloc: Global, states: usize) -> Result<Vec<i64>, AllocError>
-    requires { states ≤ MOST_STATES }
-    ensures places { IfOk result (λ v. length v.items ≡ states) }
-    ensures zeros { IfOk result (λ v. (s : ℕ) → s < states → slice_index_or v.items s (pos 0) ≡ pos 0) }
-{
-    vec![in alloc; 0i64; states]
 }

@@ -125,7 +125,7 @@ pub fn trace_lines(alloc: Global, lowering: &Lowering, lines: &Grid) -> Result<N
 }
 
 /// The numbers of a line.
-fn line_at<A: Amount>(lines: &[Vec<A>], line: usize) -> &[A]
+pub fn line_at<A: Amount>(lines: &[Vec<A>], line: usize) -> &[A]
     requires { line < length lines.now }
     ensures { map A.number result.now ≡ slice_index_or (map (λ l. map A.number l.items) lines.now) line [] }
 {

@@ -2,28 +2,27 @@ use Rattle.std.proofs.Common.{◌∙◌, ap, subst, sym, ◌++◌, ◌∷◌, []
 use Rattle.std.specs.List.{AllByRecursion}
 use Rattle.cert_form.specs.CertText.{line}
 use Rattle.cert_form.specs.Lines.{version_lines}
-use Rattle.cert_text.specs.Written.{bytes_of, lines_of_parts, lines_of_rows, Adds, ArePartsInRange, IsRowInRange}
+use Rattle.cert_text.specs.Written.{bytes_of, lines_of_rows, Adds, IsRowInRange}
 use Rattle.cert_text.specs.declared.certificate.CertRow.{CertRow}
-use Rattle.cert_text.specs.declared.certificate.WithoutPart.{WithoutPart}
 use Rattle.cert_text.proofs.Written.{all_rows_range, lowered_range, table_range, whole_cert, withouts_range}
 use Rattle.cert_text.proofs.write.write_cert.Goals as goal
 
-pub add_table-requires : goal.add_table-requires
-add_table-requires c = table_range _ _ c.args.cert.now c.args.cert.now.rules
+pub add_tables-requires-clause-table : goal.add_tables-requires-clause-table
+add_tables-requires-clause-table c = table_range _ _ c.args.cert.now c.args.cert.now.rules
 
-pub add_parts-requires : goal.add_parts-requires
-add_parts-requires c = subst ArePartsInRange (sym c.items.ensures) (withouts_range _ _ c.args.cert.now c.args.cert.now.rules)
+pub add_tables-requires-clause-parts : goal.add_tables-requires-clause-parts
+add_tables-requires-clause-parts c = withouts_range _ _ c.args.cert.now c.args.cert.now.rules
 
 pub add_rows-requires-clause-range : goal.add_rows-requires-clause-range
-add_rows-requires-clause-range c = subst (AllByRecursion IsRowInRange) (sym c.items-3.ensures) (all_rows_range _ _ c.args.cert.now c.args.cert.now.rules)
+add_rows-requires-clause-range c = subst (AllByRecursion IsRowInRange) (sym c.items-2.ensures) (all_rows_range _ _ c.args.cert.now c.args.cert.now.rules)
 
-pub add_table-requires-2 : goal.add_table-requires-2
-add_table-requires-2 c = lowered_range _ _ c.args.cert.now c.args.cert.now.rules
+pub add_table-requires : goal.add_table-requires
+add_table-requires c = lowered_range _ _ c.args.cert.now c.args.cert.now.rules
 
 pub returns : goal.returns
 returns c =
     let cert = c.args.cert.now in
-    whole_cert cert _ _ _ _ _ _ _ c.add_signed_line-2.new.text
+    whole_cert cert _ _ _ _ _ _ c.add_signed_line-2.new.text
     (
     c.in_ok-add_version.ensures
     ∙ ap (λ (t : List ℕ). t ++ bytes_of (version_lines (length c.numbers.result.now) c.width.result)) c.in_ok-text.ensures
@@ -31,9 +30,8 @@ returns c =
     ∙ ap (λ (n : ℕ). bytes_of (version_lines (length cert.choice) n)) c.width.ensures
     )
     c.in_ok-add_head.ensures
+    c.in_ok-add_tables.ensures
+    (subst (λ (l : List ℤ). Adds c.add_tables.new.text c.add_signed_line.new.text (line (codes "pay") l ∷ [])) c.items.ensures c.in_ok-add_signed_line.ensures)
+    (subst (λ (l : List CertRow). Adds c.add_signed_line.new.text c.add_rows.new.text (lines_of_rows l)) c.items-2.ensures c.in_ok-add_rows.ensures)
     c.in_ok-add_table.ensures
-    (subst (λ (l : List WithoutPart). Adds c.add_table.new.text c.add_parts.new.text (lines_of_parts l)) c.items.ensures c.in_ok-add_parts.ensures)
-    (subst (λ (l : List ℤ). Adds c.add_parts.new.text c.add_signed_line.new.text (line (codes "pay") l ∷ [])) c.items-2.ensures c.in_ok-add_signed_line.ensures)
-    (subst (λ (l : List CertRow). Adds c.add_signed_line.new.text c.add_rows.new.text (lines_of_rows l)) c.items-3.ensures c.in_ok-add_rows.ensures)
-    c.in_ok-add_table-2.ensures
     c.in_ok-add_signed_line-2.ensures

@@ -1,53 +1,62 @@
-use Rattle.std.proofs.Common.{◌≡◌, ◌∙◌, sym, ap, subst, arith, refl, length, map, List, [], ◌∷◌, ◌++◌, ℤ, suc, length-append}
-use Rattle.std.proofs.lemmas.List.{length-map, map-append}
-use Rattle.choices.specs.auction_model.specs.Table.{AreLinesTo}
-use Rattle.choices.specs.auction_model.proofs.LinesLaws.{lines-more}
+use Rattle.std.proofs.Common.{◌≡◌, ◌∙◌, ◌+◌, ◌<◌, sym, ap, subst, arith, refl, length, map, get_or, List, [], ◌∷◌, ◌++◌, ℤ, suc}
+use Rattle.std.proofs.lemmas.List.{length-map, take_all, take_more}
+use Rattle.choices.specs.auction_model.specs.Table.{IsLine, AreLinesTo}
+use Rattle.choices.specs.auction_model.proofs.LinesLaws.{line-at, lines-more, lines-width}
 use Rattle.value_table.specs.Counted.{counted_bids, counted}
-use Rattle.value_table.proofs.TableLines.{entries}
+use Rattle.value_table.proofs.TableLines.{entries, lines-even}
 use Rattle.value_table.proofs.lines.grid_of.Goals as goal
 
-pub loop-line-init : goal.loop-line-init
-loop-line-init g c =
-    let entries_of = entries g.A.Amount.number in
-    let l = c.args.lowering.now in
-    let rest : AreLinesTo (counted_bids l) (counted l) l.book.now.supply c.args.last 0 (map entries_of c.into_iter-line-iterator.result.rest.items) =
-    subst (λ (items : List _). AreLinesTo (counted_bids l) (counted l) l.book.now.supply c.args.last 0 (map entries_of items))
-    (sym c.into_iter-line-iterator.ensures.into_iter_gives.0) c.requires in
-    rw c.new-grid.ensures (record { made = refl; done = refl; rest = rest })
-
-pub loop-line-preserved : goal.loop-line-preserved
-loop-line-preserved g c =
-    let entries_of = entries g.A.Amount.number in
-    let m = counted_bids c.args.lowering.now in
-    let counts = counted c.args.lowering.now in
-    let supply = c.args.lowering.now.book.now.supply in
-    let grid = c.loop-line.grid in
-    let line = c.in-Some.line in
-    let rest = c.next.new.self.rest.items in
-    let was : AreLinesTo m counts supply c.args.last (length grid) (map entries_of (line ∷ rest)) =
-    subst (λ (items : List _). AreLinesTo m counts supply c.args.last (length grid) (map entries_of items)) c.in-Some.ensures.steps.0
-    c.loop-line.invariant.rest in
-    let made : c.push_line.new.self ≡ grid ++ entries_of line ∷ [] = c.in_ok-push_line.ensures.pushed ∙ ap (λ (l : List ℤ). grid ++ l ∷ [])
-    (c.from_vec.ensures ∙ c.in_ok-wide.ensures ∙ ap (map g.A.Amount.number) c.deref.ensures.value) in
-    let count : length c.push_line.new.self ≡ suc (length grid) = ap (λ (h : List (List ℤ)). length h) made
-    ∙ length-append grid (entries_of line ∷ []) ∙ omega arith in
-    let done : AreLinesTo m counts supply (suc (length grid)) 0 c.push_line.new.self = subst (AreLinesTo m counts supply (suc (length grid)) 0)
-    (sym made) (lines-more m counts supply (length grid) 0 grid (entries_of line) c.loop-line.invariant.done was.0) in
-    record {
-      made = made ∙ ap (λ (h : List (List ℤ)). h ++ entries_of line ∷ []) c.loop-line.invariant.made
-          ∙ sym (map-append entries_of c.loop-line.yielded (line ∷ []));
-      done = subst (λ n. AreLinesTo m counts supply n 0 c.push_line.new.self) (sym count) done;
-      rest = subst (λ n. AreLinesTo m counts supply c.args.last n (map entries_of rest)) (sym count) was.1;
-    }
+pub loop-i-init : goal.loop-i-init
+loop-i-init g c = rw c.new-grid.ensures (record { made = refl; done = refl })
 
 pub widened-requires : goal.widened-requires
 widened-requires g c =
     let l = c.args.lowering.now in
     let number = g.A.Amount.number in
-    let entries_of = entries number in
-    let line = c.in-Some.line in
-    let was : AreLinesTo (counted_bids l) (counted l) l.book.now.supply c.args.last (length c.loop-line.grid)
-    (map entries_of (line ∷ c.next.new.self.rest.items)) =
-    subst (λ (items : List _). AreLinesTo (counted_bids l) (counted l) l.book.now.supply c.args.last (length c.loop-line.grid)
-    (map entries_of items)) c.in-Some.ensures.steps.0 c.loop-line.invariant.rest in
-    omega (arith, was.0.places, length-map line.items number, c.kept.ensures.supply.states)
+    let lines = c.args.lines.now in
+    let all = map (entries number) lines in
+    let inside : c.loop-i.i < length all = omega (arith, length-map lines (entries number)) in
+    let width = lines-width (counted_bids l) (counted l) l.book.now.supply (length c.args.lines.now) 0 c.loop-i.i all c.requires inside in
+    let own : length (map number c.line_at.result.now) ≡ length (get_or all c.loop-i.i []) = ap (λ (z : List ℤ). length z) c.line_at.ensures in
+    omega (arith, width, own, length-map c.line_at.result.now number, c.kept.ensures.supply.states)
+
+pub loop-i-preserved : goal.loop-i-preserved
+loop-i-preserved g c =
+    let l = c.args.lowering.now in
+    let m = counted_bids l in
+    let counts = counted l in
+    let supply = l.book.now.supply in
+    let lines = c.args.lines.now in
+    let all = map (entries g.A.Amount.number) lines in
+    let i = c.loop-i.i in
+    let line = get_or all i [] in
+    let inside : i < length all = omega (arith, length-map lines (entries g.A.Amount.number)) in
+    let up : suc i ≡ i + 1 = omega arith in
+    let made : c.push_line.new.self ≡ c.loop-i.grid ++ line ∷ [] = c.in_ok-push_line.ensures.pushed
+    ∙ ap (λ (z : List ℤ). c.loop-i.grid ++ z ∷ []) (c.from_vec.ensures ∙ c.in_ok-wide.ensures ∙ c.line_at.ensures) in
+    let from : 0 + i ≡ i = omega arith in
+    let own : IsLine m counts supply i line = rw from at (line-at m counts supply (length c.args.lines.now) 0 i all c.requires inside) in
+    let more : AreLinesTo m counts supply (suc i) 0 c.push_line.new.self =
+    subst (AreLinesTo m counts supply (suc i) 0) (sym made) (lines-more m counts supply i 0 c.loop-i.grid line c.loop-i.invariant.done own) in
+    record {
+      made = made ∙ ap (λ (h : List (List ℤ)). h ++ line ∷ []) c.loop-i.invariant.made ∙ sym (take_more all i [] inside);
+      done = subst (λ n. AreLinesTo m counts supply n 0 c.push_line.new.self) up more;
+    }
+
+pub returns : goal.returns
+returns g c =
+    let lines = c.args.lines.now in
+    let all = map (entries g.A.Amount.number) lines in
+    c.loop-i.invariant.made ∙ take_all c.loop-i.i all (omega (arith, length-map lines (entries g.A.Amount.number)))
+
+pub push_line-requires : goal.push_line-requires
+push_line-requires g c = λ some.
+    let l = c.args.lowering.now in
+    let lines = c.args.lines.now in
+    let number = g.A.Amount.number in
+    let all = map (entries number) lines in
+    let inside : c.loop-i.i < length all = omega (arith, length-map lines (entries number)) in
+    let width = lines-width (counted_bids l) (counted l) l.book.now.supply (length lines) 0 c.loop-i.i all c.requires inside in
+    let made : c.from_vec.result ≡ get_or all c.loop-i.i [] = c.from_vec.ensures ∙ c.in_ok-wide.ensures ∙ c.line_at.ensures in
+    ap (λ (z : List ℤ). length z) made ∙ width ∙ sym (lines-even (counted_bids l)
+    (counted l) l.book.now.supply c.loop-i.i c.loop-i.grid c.loop-i.invariant.done some)

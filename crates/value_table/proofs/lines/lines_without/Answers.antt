@@ -1,27 +1,29 @@
-use Rattle.std.proofs.Common.{◌≡◌, ◌≤◌, ◌+◌, ◌-◌, ◌++◌, [], ◌∷◌, sym, subst, refl, arith, get_or, suc}
+use Rattle.std.proofs.Common.{◌≡◌, ◌≤◌, ◌+◌, ◌-◌, ◌++◌, [], ◌∷◌, sym, subst, arith, get_or, suc}
 use Rattle.choices.specs.auction_model.specs.Book.{menu_of}
 use Rattle.choices.specs.auction_model.specs.Table.{IsLine, AreLinesTo}
 use Rattle.choices.specs.auction_model.proofs.LinesLaws.{lines-more, table-from_lines}
-use Rattle.choices.specs.auction_model.proofs.SkipLaws.{line-past_skip, line-at_skip}
+use Rattle.choices.specs.auction_model.proofs.SkipLaws.{line-past_skip}
 use Rattle.value_table.specs.Turned.{in_order}
 use Rattle.value_table.specs.Counted.{counted_bids, counted}
+use Rattle.value_table.proofs.TableLines.{line-left_out}
 use Rattle.value_table.proofs.lines.lines_without.Goals as goal
 
-pub lines_to-requires-clause-first : goal.lines_to-requires-clause-first
-lines_to-requires-clause-first c =
-    let l = c.args.lowering.now in
-    let j = l.skip in
-    let line = get_or c.args.whole.now j [] in
-    let own : IsLine (counted_bids l) (counted l) l.book.now.supply j line =
-    line-past_skip (in_order l.turned (menu_of l.book.now)) (counted l) l.book.now.supply j j line (omega arith) (c.requires.whole.exact j c.requires.bidder.1) in
-    rw c.line.ensures.line (line-at_skip (in_order l.turned (menu_of l.book.now)) (counted l) l.book.now.supply j line c.requires.bidder.0
-    c.requires.bidder.1 refl c.requires.idle own)
+pub lines_before-requires-clause-first : goal.lines_before-requires-clause-first
+lines_before-requires-clause-first c =
+    rw c.line.ensures.line (line-left_out c.args.lowering.now c.args.whole.now c.requires.bidder.0 c.requires.bidder.1 c.requires.idle c.requires.whole)
 
 pub loop-k-init : goal.loop-k-init
 loop-k-init c =
     let l = c.args.lowering.now in
-    let up : suc (l.skip - 1) ≡ l.skip = omega (arith, c.requires.bidder.0) in
-    rw up at c.in_ok-grid.ensures
+    let j = l.skip in
+    let m = counted_bids l in
+    let line = get_or c.args.whole.now j [] in
+    let up : suc (j - 1) ≡ j = omega (arith, c.requires.bidder.0) in
+    let own = line-left_out l c.args.whole.now c.requires.bidder.0 c.requires.bidder.1 c.requires.idle c.requires.whole in
+    let all : AreLinesTo m (counted l) l.book.now.supply (suc (j - 1)) 0 c.push_shared.new.self =
+    subst (AreLinesTo m (counted l) l.book.now.supply (suc (j - 1)) 0) (sym c.in_ok-push_shared.ensures.pushed)
+    (lines-more m (counted l) l.book.now.supply (j - 1) 0 c.in_ok-grid.grid line c.in_ok-grid.ensures own) in
+    rw up at all
 
 pub loop-k-preserved : goal.loop-k-preserved
 loop-k-preserved c =
@@ -36,9 +38,10 @@ loop-k-preserved c =
     let inside : k ≤ m.bidders = omega (arith, c.requires.whole.lines, c.lines-k-end.ensures) in
     let past : j ≤ k = omega (arith, c.requires.bidder.0) in
     let own : IsLine m counts supply k line = line-past_skip (in_order l.turned (menu_of l.book.now)) counts supply j k line past (c.requires.whole.exact k inside) in
-    let made : c.push_shared.new.self ≡ c.loop-k.grid ++ line ∷ [] = c.in_ok-push_shared.ensures.pushed in
-    let all : AreLinesTo m counts supply (suc k) 0 c.push_shared.new.self = subst (AreLinesTo m counts supply (suc k) 0) (sym made) (lines-more m counts supply k 0 c.loop-k.grid line c.loop-k.invariant own) in
-    subst (λ n. AreLinesTo m counts supply n 0 c.push_shared.new.self) (sym up) all
+    let made : c.push_shared-in-loop-k.new.self ≡ c.loop-k.grid ++ line ∷ [] = c.in_ok-push_shared-2.ensures.pushed in
+    let all : AreLinesTo m counts supply (suc k) 0 c.push_shared-in-loop-k.new.self = subst (AreLinesTo m counts supply (suc k) 0) (sym made)
+    (lines-more m counts supply k 0 c.loop-k.grid line c.loop-k.invariant own) in
+    subst (λ n. AreLinesTo m counts supply n 0 c.push_shared-in-loop-k.new.self) (sym up) all
 
 pub returns : goal.returns
 returns c =

@@ -2,7 +2,7 @@ use Rattle.std.proofs.Common.{◌≡◌, ◌∙◌, ap, arith, refl}
 use Rattle.choices.specs.auction_model.specs.Place.{states_of}
 use Rattle.choices.specs.auction_model.proofs.LineLaws.{line-last}
 use Rattle.value_table.specs.Counted.{counted_bids, counted}
-use Rattle.value_table.proofs.table.last_narrow_line.Goals as goal
+use Rattle.value_table.proofs.lines.last_narrow_line.Goals as goal
 
 pub returns : goal.returns
 returns c =

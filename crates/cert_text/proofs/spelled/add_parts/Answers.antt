@@ -1,5 +1,5 @@
 use Rattle.cert_text.proofs.Written.{next_part}
-use Rattle.cert_text.proofs.write.add_parts.Goals as goal
+use Rattle.cert_text.proofs.spelled.add_parts.Goals as goal
 
 pub loop-part-preserved : goal.loop-part-preserved
 loop-part-preserved c =

@@ -1,0 +1,137 @@
+// The texts of a table's lines, which are added again where another table has the same line.
+ghost use Rattle.std.specs.Prelude.{◌≡◌, ◌<◌, ◌∷◌, ◌++◌, [], codes, length, map, slice_index_or, IfOk, IsTrue, OnOk};
+ghost use Rattle.std.specs.List.{concat};
+ghost use Rattle.cert_form.specs.CertText.{line};
+ghost use Rattle.cert_form.specs.line_text.specs.Range.{AllInRange};
+ghost use Rattle.cert_text.specs.Written.{line_bytes, lines_of_part, lines_of_parts, lines_of_table, Adds, ArePartsInRange, IsTableInRange};
+
+use crate::WithoutPart;
+use crate::write::{add_choice, add_number_line, add_signed_line, line_room};
+use cert_form::wide_num::Text;
+use choices::Grid;
+use std::alloc::{AllocError, Global};
+
+/// The text of each line of a table, with its line feed.
+pub(crate) fn spelled_lines(alloc: Global, table: &Grid) -> Result<Vec<Text>, AllocError>
+    requires { IsTableInRange table.now }
+    ensures { IfOk result (λ v. v.items ≡ map line_bytes table.now) }
+{
+    let mut lines = Vec::new(alloc);
+    for i in 0..table.lines() {
+        lines.push(spelled(alloc, table.line(i))?)?;
+    }
+    Ok(lines)
+}
+
+fn spelled(alloc: Global, numbers: &[i128]) -> Result<Text, AllocError>
+    requires { AllInRange numbers.now }
+    ensures { IfOk result (λ text. text ≡ line_bytes numbers.now) }
+{
+    let mut text = Text::with_capacity(alloc, line_room(numbers))?;
+    add_signed_line(&mut text, b"t", numbers)?;
+    Ok(text)
+}
+
+/// Adds the texts of lines one behind the other.
+pub(crate) fn add_spelled(text: &mut Text, spelled: &[Text]) -> Result<(), AllocError>
+    ensures { OnOk result (text.new ≡ text.old ++ concat spelled.now) }
+{
+    for line in spelled {
+        text.add(line.items())?;
+    }
+    Ok(())
+}
+
+/// Adds the parts without each winner.
+pub(crate) fn add_parts(
+    text: &mut Text,
+    parts: &[WithoutPart],
+    whole: &Grid,
+    spelled: &[Text],
+) -> Result<(), AllocError>
+    requires range { ArePartsInRange parts.now }
+    requires spelled { spelled.now ≡ map line_bytes whole.now }
+    ensures { OnOk result (Adds text.old text.new (lines_of_parts parts.now)) }
+{
+    for part in parts {
+        add_part(text, part, whole, spelled)?;
+    }
+    Ok(())
+}
+
+fn add_part(
+    text: &mut Text,
+    part: &WithoutPart,
+    whole: &Grid,
+    spelled: &[Text],
+) -> Result<(), AllocError>
+    requires range { IsTableInRange part.now.table }
+    requires spelled { spelled.now ≡ map line_bytes whole.now }
+    ensures { OnOk result (Adds text.old text.new (lines_of_part part.now)) }
+{
+    add_number_line(text, b"without", &[part.winner])?;
+    add_choice(text, &part.choice)?;
+    add_known_table(text, part, whole, spelled)?;
+    Ok(())
+}
+
+fn add_known_table(
+    text: &mut Text,
+    part: &WithoutPart,
+    whole: &Grid,
+    spelled: &[Text],
+) -> Result<(), AllocError>
+    requires range { IsTableInRange part.now.table }
+    requires spelled { spelled.now ≡ map line_bytes whole.now }
+    ensures { OnOk result (Adds text.old text.new (lines_of_table (codes "table") part.now.table)) }
+{
+    add_signed_line(text, b"table", &[])?;
+    for i in 0..part.table.lines() {
+        let same = same_place(part.winner as usize, i);
+        add_known_line(text, part.table.line(i), whole, spelled, same)?;
+    }
+    Ok(())
+}
+
+/// Which line of the table of all bids is that of the table without a winner: from its own on each is the same, and the
+/// one before has its bids left out. Before that none is.
+fn same_place(winner: usize, line: usize) -> usize {
+    if line >= winner {
+        line
+    } else if line + 1 == winner {
+        winner
+    } else {
+        usize::MAX
+    }
+}
+
+/// Adds a line of a table, by its text where it is this line of the other table.
+fn add_known_line(
+    text: &mut Text,
+    numbers: &[i128],
+    whole: &Grid,
+    spelled: &[Text],
+    same: usize,
+) -> Result<(), AllocError>
+    requires range { AllInRange numbers.now }
+    requires spelled { spelled.now ≡ map line_bytes whole.now }
+    ensures { OnOk result (Adds text.old text.new (line (codes "t") numbers.now ∷ [])) }
+{
+    if is_line(whole, same, numbers) {
+        text.add(spelled[same].items())?;
+        return Ok(());
+    }
+    add_signed_line(text, b"t", numbers)?;
+    Ok(())
+}
+
+/// Whether the table has this line with these numbers.
+fn is_line(table: &Grid, line: usize, numbers: &[i128]) -> bool
+    ensures inside { IsTrue result → line < length table.now }
+    ensures same { IsTrue result → slice_index_or table.now line [] ≡ numbers.now }
+{
+    if line >= table.lines() {
+        return false;
+    }
+    table.line(line) == numbers
+}

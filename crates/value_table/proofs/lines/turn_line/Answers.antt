@@ -1,0 +1,4 @@
+use Rattle.value_table.proofs.lines.turn_line.Goals as goal
+
+pub add_idle-requires-clause-line : goal.add_idle-requires-clause-line
+add_idle-requires-clause-line g c = rw c.requires.copied c.requires.below
