@@ -11,7 +11,8 @@ ghost use Rattle.cert_check.specs.Corners.{BothGrow, KeepsBlock};
 ghost use Rattle.cert_check.specs.Growth.{Grows};
 ghost use Rattle.cert_check.specs.Narrow.{IsSmall};
 
-use crate::tables::blocks::{block_holds, covers_all};
+use crate::tables::blocks::covers_all;
+use crate::tables::coarse::{put_coarse, rule_holds, shift_of};
 use crate::tables::growth::{is_growing, is_growing_narrow};
 use crate::tables::offers::Offers;
 use crate::tables::rule::{LinePair, LineRule, NarrowRule};
@@ -85,14 +86,13 @@ fn bid_kept(supply: &Supply, lots: &Package, lines: &LinePair, grow: bool, worth
     };
     let counts = lots.counts();
     let used = used_categories(counts);
-    block_holds(
+    rule_holds(
         &rule,
+        lines,
         radices,
         supply.widths(),
         &counts[..used],
         supply.place(lots),
-        lines.narrow_line,
-        lines.narrow_below,
     )
 }
 
@@ -221,14 +221,24 @@ fn roomy_fault<const N: usize>(offers: &Offers, j: u16, line: &[i128], below: &[
 {
     let mut numbers = [0i64; N];
     let mut rests = [0i64; N];
+    let mut lows = [0u16; N];
+    let mut highs = [0u16; N];
     let narrow_line = &mut numbers[..line.len()];
     let narrow_below = &mut rests[..line.len()];
+    let low = &mut lows[..line.len()];
+    let high = &mut highs[..line.len()];
+    let is_narrow = narrow_into(narrow_line, line) && narrow_into(narrow_below, below);
+    let shift = shift_of(narrow_line);
     let lines = LinePair {
         line,
         below,
-        is_narrow: narrow_into(narrow_line, line) && narrow_into(narrow_below, below),
+        is_narrow,
+        is_coarse: put_coarse(low, high, narrow_line, narrow_below, shift),
+        shift,
         narrow_line,
         narrow_below,
+        low,
+        high,
     };
     pair_fault(offers, j, &lines)
 }

@@ -10,8 +10,8 @@ used_categories-used-requires c =
     let same : length c.counts-counts.result.now ≡ length c.args.lots.now = ap length c.counts-counts.ensures in
     omega (arith, same, c.requires.categories, c.counts-radices.ensures.kept.some)
 
-pub block_holds-requires-clause-corners : goal.block_holds-requires-clause-corners
-block_holds-requires-clause-corners c =
+pub rule_holds-requires-clause-corners : goal.rule_holds-requires-clause-corners
+rule_holds-requires-clause-corners c =
     let pair = c.args.lines.now in
     lots-corners c.used_categories-used.result c.place.result c.args.supply.now c.counts-radices.result.now c.args.lots.now c.counts-counts.result.now c.args.grow pair.line.now pair.below.now pair.narrow_line.now pair.narrow_below.now
     c.counts-radices.ensures.counts c.counts-counts.ensures c.used_categories-used.ensures.rest c.place.ensures.place c.requires.fits
@@ -27,4 +27,4 @@ returns c = λ h.
     let is : to_z w64 (of_z w64 (to_z w128 (of_z w128 z))) ≡ z = ap (λ (n : ℤ). to_z w64 (of_z w64 n)) (to_z-of_z w128 z given) ∙ to_z-of_z w64 z made in
     lots-keep c.used_categories-used.result c.args.supply.now c.counts-radices.result.now c.args.lots.now c.counts-counts.result.now pair.line.now pair.below.now pair.narrow_line.now pair.narrow_below.now
     (to_z w64 (of_z w64 (to_z w128 (of_z w128 z)))) z c.counts-radices.ensures.counts c.counts-counts.ensures c.used_categories-used.ensures.rest
-    (pair.narrow c.if-not-lines.false) is (c.block_holds.ensures h)
+    (pair.narrow c.if-not-lines.false) is (c.rule_holds.ensures h)
