@@ -1,5 +1,5 @@
 // The rules of one line of a table.
-ghost use Rattle.std.specs.Prelude.{◌≡◌, ℕ, suc, ◌^◌, ◌≤◌, ◌<◌, IsTrue, List, [], length, slice_index_or, ℤ, pos, unsigned_abs};
+ghost use Rattle.std.specs.Prelude.{◌≡◌, ◌↔◌, ℕ, suc, ◌^◌, ◌≤◌, ◌<◌, IsTrue, List, [], length, slice_index_or, ℤ, pos, unsigned_abs};
 ghost use Rattle.cert_laws.specs.auction_model.specs.Book.{bids_of};
 ghost use Rattle.cert_laws.specs.cert_form.specs.CertText.{IsTable};
 ghost use Rattle.cert_laws.specs.Tests.{bidders_of, states};
@@ -21,10 +21,17 @@ use cert_text::limits::MOST_STATES;
 use cert_text::lots::{Package, Supply, used_categories};
 
 /// The greatest number with which the rules are tested in 64 bits.
-const MOST_NARROW: u128 = 1 << 60;
+const MOST_NARROW: i128 = 1 << 60;
 
 /// Room for the longest line.
 const MOST_ROOM: usize = MOST_STATES as usize;
+
+/// Whether a number is so small that no sum of four leaves 64 bits.
+fn is_narrow(number: i128) -> bool
+    ensures { IsTrue result ↔ (unsigned_abs number ≤ 2 ^ 60) }
+{
+    -MOST_NARROW <= number && number <= MOST_NARROW
+}
 
 /// The first place at which the last line is below 0, and its length where there is none.
 fn last_fault(line: &[i128]) -> usize
@@ -77,7 +84,7 @@ fn bid_kept(supply: &Supply, lots: &Package, lines: &LinePair, grow: bool, worth
     if !lines.is_narrow {
         return false;
     }
-    if worth.unsigned_abs() > MOST_NARROW {
+    if !is_narrow(worth) {
         return false;
     }
     let rule = NarrowRule {
@@ -200,7 +207,7 @@ fn narrow_into(numbers: &mut [i64], line: &[i128]) -> bool
     ensures small { IsTrue result → IsSmall line.now }
 {
     for i in 0..line.len() {
-        if line[i].unsigned_abs() > MOST_NARROW {
+        if !is_narrow(line[i]) {
             return false;
         }
         numbers[i] = line[i] as i64;
