@@ -261,8 +261,12 @@ fn line_fault(offers: &Offers, j: u16, line: &[i128], below: &[i128]) -> usize
         (length line.now) result }
 {
     let _states = offers.book.supply().states();
-    if line.len() <= 1024 {
+    if line.len() <= 256 {
+        roomy_fault::<256>(offers, j, line, below)
+    } else if line.len() <= 1024 {
         roomy_fault::<1024>(offers, j, line, below)
+    } else if line.len() <= 2048 {
+        roomy_fault::<2048>(offers, j, line, below)
     } else if line.len() <= 4096 {
         roomy_fault::<4096>(offers, j, line, below)
     } else {
