@@ -25,13 +25,15 @@ part-length xs from n room = let long = length-drop from xs in length-take-le n 
 units-length : (xs : List ℕ) (from n : ℕ) → from + n ≤ length xs → length (take n (drop from xs)) ≡ n
 units-length xs from n room = let long = length-drop from xs in length-take-le n (drop from xs) (omega (arith, long, room))
 
-floor-part : (unit : ℕ) (line : List ℤ) (low : List ℕ) (a k : ℕ) → a + k ≤ length line → IsFloor unit line low → IsFloor unit (take k (drop a line)) (take k (drop a low))
+floor-part : (unit : ℕ) (line : List ℤ) (low : List ℕ) (a k : ℕ) → a + k ≤ length line → IsFloor unit line low
+    → IsFloor unit (take k (drop a line)) (take k (drop a low))
 floor-part unit line low a k room floor s inside =
     let long = part-length line a k room in
     let lt : s < k = omega (arith, inside, long) in
     rw (read-units low a k s lt, read-part line a k s lt) (floor (a + s) (omega (arith, lt, room)))
 
-ceiling-part : (unit : ℕ) (line : List ℤ) (high : List ℕ) (a k : ℕ) → a + k ≤ length line → IsCeiling unit line high → IsCeiling unit (take k (drop a line)) (take k (drop a high))
+ceiling-part : (unit : ℕ) (line : List ℤ) (high : List ℕ) (a k : ℕ) → a + k ≤ length line → IsCeiling unit line high
+    → IsCeiling unit (take k (drop a line)) (take k (drop a high))
 ceiling-part unit line high a k room c = record {
   above = λ s inside. let lt : s < k = omega (arith, inside, part-length line a k room) in
       rw (read-units high a k s lt, read-part line a k s lt) (c.above (a + s) (omega (arith, lt, room)));
@@ -40,7 +42,8 @@ ceiling-part unit line high a k room c = record {
 }
 
 -- a part of both lines
-pub coarse-part : (unit : ℕ) (line below : List ℤ) (low high : List ℕ) (a b k m : ℕ) → a + k ≤ length line → b + m ≤ length below → AreCoarse unit line below low high
+pub coarse-part : (unit : ℕ) (line below : List ℤ) (low high : List ℕ) (a b k m : ℕ) → a + k ≤ length line → b + m ≤ length below
+    → AreCoarse unit line below low high
     → AreCoarse unit (take k (drop a line)) (take m (drop b below)) (take k (drop a low)) (take m (drop b high))
 coarse-part unit line below low high a b k m room room_below c = record {
   floor = floor-part unit line low a k room c.floor;
@@ -50,25 +53,31 @@ coarse-part unit line below low high a b k m room room_below c = record {
 }
 
 -- the last categories are those of the rest
-rest-lots : (level : ℕ) (supply lots : List ℕ) → 0 < length lots → level ≤ length (drop 1 lots) → drop (length lots - level) lots ≡ drop (length (drop 1 lots) - level) (drop 1 lots)
+rest-lots : (level : ℕ) (supply lots : List ℕ) → 0 < length lots → level ≤ length (drop 1 lots)
+    → drop (length lots - level) lots ≡ drop (length (drop 1 lots) - level) (drop 1 lots)
 rest-lots level supply [] some le = absurd (omega (arith, some))
-rest-lots level supply (a ∷ lots) some le = let step : suc (length lots) - level ≡ suc (length lots - level) = omega (arith, le) in ap (λ (n : ℕ). drop n (a ∷ lots)) step
+rest-lots level supply (a ∷ lots) some le = let step : suc (length lots) - level ≡ suc (length lots - level) = omega (arith, le) in ap (λ (n : ℕ). drop n
+    (a ∷ lots)) step
 
-rest-supply : (level : ℕ) (supply lots : List ℕ) → 0 < length lots → 0 < length supply → level ≤ length (drop 1 lots) → drop (length lots - level) supply ≡ drop (length (drop 1 lots) - level) (drop 1 supply)
+rest-supply : (level : ℕ) (supply lots : List ℕ) → 0 < length lots → 0 < length supply → level ≤ length (drop 1 lots)
+    → drop (length lots - level) supply ≡ drop (length (drop 1 lots) - level) (drop 1 supply)
 rest-supply level supply [] some few le = absurd (omega (arith, some))
 rest-supply level [] (a ∷ lots) some few le = absurd (omega (arith, few))
-rest-supply level (b ∷ supply) (a ∷ lots) some few le = let step : suc (length lots) - level ≡ suc (length lots - level) = omega (arith, le) in ap (λ (n : ℕ). drop n (b ∷ supply)) step
+rest-supply level (b ∷ supply) (a ∷ lots) some few le = let step : suc (length lots) - level ≡ suc (length lots - level) = omega (arith, le) in ap (λ
+    (n : ℕ). drop n (b ∷ supply)) step
 
 rest-length : (lots : List ℕ) → length (drop 1 lots) ≤ length lots
 rest-length lots = omega (arith, length-drop 1 lots)
 
 -- the mask of a package serves for the blocks of the rest
-pub mask-down : (level : ℕ) (supply lots mask : List ℕ) → 0 < length lots → 0 < length supply → HasMask level supply lots mask → HasMask level (drop 1 supply) (drop 1 lots) mask
+pub mask-down : (level : ℕ) (supply lots mask : List ℕ) → 0 < length lots → 0 < length supply → HasMask level supply lots mask
+    → HasMask level (drop 1 supply) (drop 1 lots) mask
 mask-down level supply lots mask some few has = λ deep le.
     rw (sym (rest-supply level supply lots some few le), sym (rest-lots level supply lots some le)) (has deep (omega (arith, le, rest-length lots)))
 
 -- and the other way round
-pub mask-up : (level : ℕ) (supply lots mask : List ℕ) → 0 < length lots → 0 < length supply → level ≤ length (drop 1 lots) → HasMask level (drop 1 supply) (drop 1 lots) mask → HasMask level supply lots mask
+pub mask-up : (level : ℕ) (supply lots mask : List ℕ) → 0 < length lots → 0 < length supply → level ≤ length (drop 1 lots)
+    → HasMask level (drop 1 supply) (drop 1 lots) mask → HasMask level supply lots mask
 mask-up level supply lots mask some few le has = λ deep _.
     rw (rest-supply level supply lots some few le, rest-lots level supply lots some le) (has deep le)
 
@@ -114,11 +123,13 @@ marks-parts (b ∷ supply) (a ∷ p) part mask W some few width marks parts n lo
     let q_low : q < b + 1 = div_below n S (b + 1) positive (omega (arith, low, whole)) in
     let both = and_parts (nat_le a q) (is_within p (left_at supply r)) fits in
     let up : a ≤ q = leb-true a q both.0 in
-    let here : get_or mask (q * S + r) 0 ≡ get_or part r 0 = subst (λ (w : ℕ). get_or mask (q * w + r) 0 ≡ get_or part r 0) width (parts q r up q_low (omega (arith, r_low, width))) in
+    let here : get_or mask (q * S + r) 0 ≡ get_or part r 0 = subst (λ (w : ℕ). get_or mask (q * w + r) 0 ≡ get_or part r 0) width (parts q r up q_low
+    (omega (arith, r_low, width))) in
     sym (ap (λ (m : ℕ). get_or mask m 0) n_is) ∙ here ∙ marks r r_low both.1
 
 -- what holds in units holds
-units-keep : (unit h w l : ℕ) (above worth own : ℤ) → h + w ≤ l → above ≤ℤ pos (h * unit) → worth ≤ℤ pos (w * unit) → pos (l * unit) ≤ℤ own → (worth +ℤ above) ≤ℤ own
+units-keep : (unit h w l : ℕ) (above worth own : ℤ) → h + w ≤ l → above ≤ℤ pos (h * unit) → worth ≤ℤ pos (w * unit) → pos (l * unit) ≤ℤ own
+    → (worth +ℤ above) ≤ℤ own
 units-keep unit h w l above worth own test over size floor =
     let product : (h + w) * unit ≤ l * unit = mul-le (h + w) unit l unit test (omega arith) in
     let apart : (h + w) * unit ≡ h * unit + w * unit = omega arith in
@@ -126,7 +137,8 @@ units-keep unit h w l above worth own test over size floor =
 
 -- a block keeps the rule where it does so in units at each place that its mask names
 pub coarse-keeps : (unit : ℕ) (supply p : List ℕ) (first w : ℕ) (line below : List ℤ) (low high mask : List ℕ) (worth : ℤ)
-    → first ≡ place_of supply p → length line ≡ states_of supply → length below ≡ states_of supply → AreCoarse unit line below low high → worth ≤ℤ pos (w * unit) → Marks supply p mask
+    → first ≡ place_of supply p → length line ≡ states_of supply → length below ≡ states_of supply → AreCoarse unit line below low high
+    → worth ≤ℤ pos (w * unit) → Marks supply p mask
     → ((s : ℕ) → first + s < length low → get_or mask (first + s) 0 ≡ 2 ^ 16 - 1 → get_or high s 0 + w ≤ get_or low (first + s) 0)
     → KeepsBlock supply p line below worth
 coarse-keeps unit supply p first w line below low high mask worth is places places_below c size marks test n inside fits =

@@ -1,5 +1,6 @@
-// Whether a line is seen to keep the rule of a bid in 16 bits: both lines are counted in a unit, the line rounded down, and the line
-// below and the worth rounded up. A block of the last few categories is tested in one run, with a mask of the places that count.
+// Whether a line is seen to keep the rule of a bid in 16 bits: both lines are counted in one unit, the line rounded down, and the
+// line below and the worth rounded up. A block of the last few categories is tested in one run, with a mask of the places at which
+// the package fits. A yes is a yes of the exact numbers; where units are too coarse to tell, 64 bits are.
 ghost use Rattle.std.specs.Prelude.{◌≡◌, ℕ, ◌+◌, ◌-◌, ◌*◌, ◌^◌, ◌≤◌, ◌<◌, IsTrue, length, slice_index_or, pos, ◌≤ℤ◌};
 ghost use Rattle.cert_laws.specs.auction_model.specs.Place.{states_of, widths_of};
 ghost use Rattle.cert_check.specs.Narrow.{IsSmall};
@@ -165,7 +166,8 @@ pub fn put_deep_mask(supply: &[u16], widths: &[usize], lots: &[u16], mask: &mut 
     put_deep_mask(&supply[1..], &widths[1..], &lots[1..], mask)
 }
 
-/// The same for a block, of which the mask names the places where the package fits, whose lots have the place `first`.
+/// Whether a block is seen to keep the rule in these units, where its mask names the places at which the package fits. The lots of
+/// the package have the place `first`.
 fn mask_holds(coarse: &CoarseRule, first: usize, low: &[u16], high: &[u16]) -> bool
     requires places { length high.now ≡ length low.now }
     requires first { first ≤ length low.now }
