@@ -74,6 +74,12 @@ grows-last [] line W one is places rises = absurd (omega (arith, one))
 grows-last (b ∷ []) line W one is places rises = grows-cons b [] line places (subst (λ (n : ℕ). RisesBy n line) is rises) (λ q low. grows-one (take 1 (drop (q * 1) line)))
 grows-last (b ∷ c ∷ supply) line W one is places rises = absurd (omega (arith, one))
 
+-- behind the last category there is one place
+pub last-width : (supply : List ℕ) → length supply ≡ 1 → 1 ≡ states_of (drop 1 supply)
+last-width [] one = absurd (omega (arith, one))
+last-width (b ∷ []) one = refl
+last-width (b ∷ c ∷ supply) one = absurd (omega (arith, one))
+
 -- a line that rises from block to block, of which each never falls, never falls
 pub grows-list : (supply : List ℕ) (line : List ℤ) (W n : ℕ) → 0 < length supply → W ≡ states_of (drop 1 supply) → length line ≡ states_of supply → get_or supply 0 0 + 1 ≤ n → RisesBy W line
     → ((q : ℕ) → q < n → Grows (drop 1 supply) (take W (drop (q * W) line))) → Grows supply line

@@ -11,6 +11,7 @@ ghost use Rattle.cert_check.specs.Places.{IsFirstFailing};
 ghost use Rattle.cert_text.specs.limits.specs.declared.TheConstants.{MOST_BIDDERS};
 
 pub(crate) mod blocks;
+pub(crate) mod coarse;
 pub(crate) mod earlier;
 pub(crate) mod gains;
 pub(crate) mod grids;

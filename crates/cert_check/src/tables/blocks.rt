@@ -106,7 +106,7 @@ fn two_hold(
 
 /// Whether the lowest entry of a block at which a package fits, at the place `first` of its lots, is at least the worth and the
 /// highest entry of the line below that is read there. Where no line falls the rule then holds in the whole block.
-fn is_reached(rule: &NarrowRule, first: usize, line: &[i64], below: &[i64]) -> bool
+pub fn is_reached(rule: &NarrowRule, first: usize, line: &[i64], below: &[i64]) -> bool
     requires places { length below.now ≡ length line.now }
     requires first { first < length line.now }
     requires small_below { IsSmall below.now }

@@ -1,6 +1,6 @@
 // Lines that never fall: where more is left of each category, they have at least as much. On such a line the rule of a bid follows
 // from that of a bid that is no larger and worth at least as much.
-ghost use Rattle.std.specs.Prelude.{◌≡◌, ◌≤◌, ◌<◌, length, IsTrue};
+ghost use Rattle.std.specs.Prelude.{◌≡◌, ℕ, ◌+◌, ◌*◌, ◌≤◌, ◌<◌, length, slice_index_or, take, drop, IsTrue};
 ghost use Rattle.cert_laws.specs.auction_model.specs.Place.{states_of, widths_of};
 ghost use Rattle.cert_check.specs.Growth.{Grows, RisesBy};
 ghost use Rattle.cert_check.specs.Narrow.{IsSmall};
@@ -56,6 +56,25 @@ fn rises_narrow(line: &[i64], width: usize) -> bool
     covers_all(&line[width..], &line[..all - width], 0)
 }
 
+/// Whether no line of the second of two categories falls, without a call for each.
+fn rows_grow(supply: &[u16], width: usize, line: &[i64]) -> bool
+    requires two { length supply.now ≡ 2 }
+    requires width { width ≡ states_of (drop 1 supply.now) }
+    requires states { states_of supply.now ≤ MOST_STATES }
+    requires places { length line.now ≡ states_of supply.now }
+    requires small { IsSmall line.now }
+    ensures { IsTrue result → (q : ℕ) → q < slice_index_or supply.now 0 0 + 1
+        → Grows (drop 1 supply.now) (take width (drop (q * width) line.now)) }
+{
+    for row in 0..supply[0] as usize + 1 {
+        let from = row * width;
+        if !rises_narrow(&line[from..from + width], 1) {
+            return false;
+        }
+    }
+    true
+}
+
 /// The same as `is_growing` in 64 bits.
 pub fn is_growing_narrow(supply: &[u16], widths: &[usize], line: &[i64]) -> bool
     requires widths { widths.now ≡ widths_of supply.now }
@@ -71,6 +90,9 @@ pub fn is_growing_narrow(supply: &[u16], widths: &[usize], line: &[i64]) -> bool
     }
     if supply.len() == 1 {
         return true;
+    }
+    if supply.len() == 2 {
+        return rows_grow(supply, width, line);
     }
     for block in 0..supply[0] as usize + 1 {
         let from = block * width;

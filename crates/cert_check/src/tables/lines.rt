@@ -1,5 +1,5 @@
 // The rules of one line of a table.
-ghost use Rattle.std.specs.Prelude.{◌≡◌, ℕ, suc, ◌^◌, ◌≤◌, ◌<◌, IsTrue, List, [], length, slice_index_or, ℤ, pos, unsigned_abs};
+ghost use Rattle.std.specs.Prelude.{◌≡◌, ◌↔◌, ℕ, suc, ◌^◌, ◌≤◌, ◌<◌, IsTrue, List, [], length, slice_index_or, ℤ, pos, unsigned_abs};
 ghost use Rattle.cert_laws.specs.auction_model.specs.Book.{bids_of};
 ghost use Rattle.cert_laws.specs.cert_form.specs.CertText.{IsTable};
 ghost use Rattle.cert_laws.specs.Tests.{bidders_of, states};
@@ -11,7 +11,8 @@ ghost use Rattle.cert_check.specs.Corners.{BothGrow, KeepsBlock};
 ghost use Rattle.cert_check.specs.Growth.{Grows};
 ghost use Rattle.cert_check.specs.Narrow.{IsSmall};
 
-use crate::tables::blocks::{block_holds, covers_all};
+use crate::tables::blocks::covers_all;
+use crate::tables::coarse::{put_coarse, rule_holds, shift_of};
 use crate::tables::growth::{is_growing, is_growing_narrow};
 use crate::tables::offers::Offers;
 use crate::tables::rule::{LinePair, LineRule, NarrowRule};
@@ -20,10 +21,17 @@ use cert_text::limits::MOST_STATES;
 use cert_text::lots::{Package, Supply, used_categories};
 
 /// The greatest number with which the rules are tested in 64 bits.
-const MOST_NARROW: u128 = 1 << 60;
+const MOST_NARROW: i128 = 1 << 60;
 
 /// Room for the longest line.
 const MOST_ROOM: usize = MOST_STATES as usize;
+
+/// Whether a number is so small that no sum of four leaves 64 bits.
+fn is_narrow(number: i128) -> bool
+    ensures { IsTrue result ↔ (unsigned_abs number ≤ 2 ^ 60) }
+{
+    -MOST_NARROW <= number && number <= MOST_NARROW
+}
 
 /// The first place at which the last line is below 0, and its length where there is none.
 fn last_fault(line: &[i128]) -> usize
@@ -76,7 +84,7 @@ fn bid_kept(supply: &Supply, lots: &Package, lines: &LinePair, grow: bool, worth
     if !lines.is_narrow {
         return false;
     }
-    if worth.unsigned_abs() > MOST_NARROW {
+    if !is_narrow(worth) {
         return false;
     }
     let rule = NarrowRule {
@@ -85,14 +93,13 @@ fn bid_kept(supply: &Supply, lots: &Package, lines: &LinePair, grow: bool, worth
     };
     let counts = lots.counts();
     let used = used_categories(counts);
-    block_holds(
+    rule_holds(
         &rule,
+        lines,
         radices,
         supply.widths(),
         &counts[..used],
         supply.place(lots),
-        lines.narrow_line,
-        lines.narrow_below,
     )
 }
 
@@ -200,7 +207,7 @@ fn narrow_into(numbers: &mut [i64], line: &[i128]) -> bool
     ensures small { IsTrue result → IsSmall line.now }
 {
     for i in 0..line.len() {
-        if line[i].unsigned_abs() > MOST_NARROW {
+        if !is_narrow(line[i]) {
             return false;
         }
         numbers[i] = line[i] as i64;
@@ -221,14 +228,24 @@ fn roomy_fault<const N: usize>(offers: &Offers, j: u16, line: &[i128], below: &[
 {
     let mut numbers = [0i64; N];
     let mut rests = [0i64; N];
+    let mut lows = [0u16; N];
+    let mut highs = [0u16; N];
     let narrow_line = &mut numbers[..line.len()];
     let narrow_below = &mut rests[..line.len()];
+    let low = &mut lows[..line.len()];
+    let high = &mut highs[..line.len()];
+    let is_narrow = narrow_into(narrow_line, line) && narrow_into(narrow_below, below);
+    let shift = shift_of(narrow_line);
     let lines = LinePair {
         line,
         below,
-        is_narrow: narrow_into(narrow_line, line) && narrow_into(narrow_below, below),
+        is_narrow,
+        is_coarse: put_coarse(low, high, narrow_line, narrow_below, shift),
+        shift,
         narrow_line,
         narrow_below,
+        low,
+        high,
     };
     pair_fault(offers, j, &lines)
 }
@@ -244,8 +261,12 @@ fn line_fault(offers: &Offers, j: u16, line: &[i128], below: &[i128]) -> usize
         (length line.now) result }
 {
     let _states = offers.book.supply().states();
-    if line.len() <= 1024 {
+    if line.len() <= 256 {
+        roomy_fault::<256>(offers, j, line, below)
+    } else if line.len() <= 1024 {
         roomy_fault::<1024>(offers, j, line, below)
+    } else if line.len() <= 2048 {
+        roomy_fault::<2048>(offers, j, line, below)
     } else if line.len() <= 4096 {
         roomy_fault::<4096>(offers, j, line, below)
     } else {

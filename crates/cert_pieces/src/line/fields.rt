@@ -1,8 +1,9 @@
 // Whole numbers of a piece, one behind the other.
-ghost use Rattle.std.specs.Prelude.{◌≡◌, ◌≤◌, ◌<◌, ◌^◌, ℕ, List, ◌++◌, length, get_or, ℤ, Bool, IfSome, IsTrue};
+ghost use Rattle.std.specs.Prelude.{◌≡◌, ◌+◌, ◌≤◌, ◌<◌, ◌^◌, ℕ, List, ◌++◌, length, get_or, ℤ, Bool, IfSome, IsTrue};
 ghost use Rattle.cert_pieces.specs.declared.line.form.Form.{Form};
 ghost use Rattle.cert_text.specs.line_text.specs.LineText.{IsLine};
-ghost use Rattle.cert_pieces.specs.Fields.{IsField, behind_space};
+ghost use Rattle.cert_pieces.specs.Fields.{AreFour, IsField, behind_space};
+ghost use Rattle.cert_text.specs.line_text.specs.Numeral.{numeral};
 ghost use Rattle.cert_pieces.specs.LineParts.{IsPart};
 ghost use Rattle.cert_pieces.specs.Pieces.{between};
 
@@ -13,6 +14,56 @@ use crate::line::digits::SMALL;
 pub(crate) struct Field {
     pub(crate) size: u64,
     pub(crate) end: usize,
+}
+
+/// The number that four digits of a piece spell, where four stand there.
+fn four_digits(piece: &[u8], at: usize) -> Option<u64>
+    requires { at + 4 ≤ length piece.now }
+    ensures { IfSome result (AreFour piece.now at) }
+{
+    let first = piece[at];
+    let second = piece[at + 1];
+    let third = piece[at + 2];
+    let last = piece[at + 3];
+    if !first.is_ascii_digit() || !second.is_ascii_digit() {
+        return None;
+    }
+    if !third.is_ascii_digit() || !last.is_ascii_digit() {
+        return None;
+    }
+    let front = 10 * (first - b'0') as u64 + (second - b'0') as u64;
+    let back = 10 * (third - b'0') as u64 + (last - b'0') as u64;
+    Some(100 * front + back)
+}
+
+/// Whether four more digits may stand behind those of a number: not behind 0, nor where its size might leave 64 bits.
+fn may_take_four(size: u64) -> bool
+    ensures some { IsTrue result → 0 < size }
+    ensures small { IsTrue result → size < 10 ^ 14 }
+{
+    0 < size && size < 100_000_000_000_000
+}
+
+/// Reads on in a number that begins at a place, behind its first digit, four digits at a time. It may stop before any four.
+fn read_fours(piece: &[u8], at: usize, first: u64) -> Field
+    requires at { at < length piece.now }
+    requires first { between at (at + 1) piece.now ≡ numeral first }
+    requires digit { first < 10 }
+    ensures spelled { between at result.end piece.now ≡ numeral result.size }
+    ensures from { at < result.end }
+    ensures to { result.end ≤ length piece.now }
+    ensures low { result.size < 10 ^ 19 }
+{
+    let mut size = first;
+    let mut end = at + 1;
+    while may_take_four(size) && piece.len() - end >= 4 {
+        let Some(four) = four_digits(piece, end) else {
+            return Field { size, end };
+        };
+        size = 10_000 * size + four;
+        end += 4;
+    }
+    Field { size, end }
 }
 
 /// Reads a number of at most nineteen digits and without a minus from a place of a piece on, up to the space behind it. Gives `None`
@@ -28,8 +79,9 @@ fn read_field(piece: &[u8], at: usize) -> Option<Field>
     if !first.is_ascii_digit() {
         return None;
     }
-    let mut size = (first - b'0') as u64;
-    for i in at + 1..piece.len() {
+    let front = read_fours(piece, at, (first - b'0') as u64);
+    let mut size = front.size;
+    for i in front.end..piece.len() {
         let byte = piece[i];
         if !byte.is_ascii_digit() {
             if byte != b' ' {

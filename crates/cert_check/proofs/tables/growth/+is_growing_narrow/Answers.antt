@@ -16,6 +16,13 @@ returns-then-supply-eq1 t c = λ _.
     let width : get_or c.args.widths.now 0 0 ≡ states_of (drop 1 supply) = ap (λ (l : List ℕ). get_or l 0 0) c.requires.widths ∙ width-first supply c.requires.some in
     grows-last supply c.args.line.now (get_or c.args.widths.now 0 0) c.if-supply-eq1.true width c.requires.places (c.if-not-rises_narrow.ensures refl)
 
+pub returns-then-supply-eq2 : goal.returns-then-supply-eq2
+returns-then-supply-eq2 t c = λ yes.
+    let supply = c.args.supply.now in
+    let W = get_or c.args.widths.now 0 0 in
+    let width : W ≡ states_of (drop 1 supply) = ap (λ (l : List ℕ). get_or l 0 0) c.requires.widths ∙ width-first supply c.requires.some in
+    grows-list supply c.args.line.now W (get_or supply 0 0 + 1) c.requires.some width c.requires.places (omega arith) (c.if-not-rises_narrow.ensures refl) (c.rows_grow.ensures yes)
+
 pub loop-block-preserved : goal.loop-block-preserved
 loop-block-preserved t c =
     let supply = c.args.supply.now in

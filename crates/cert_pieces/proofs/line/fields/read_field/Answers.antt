@@ -4,13 +4,16 @@ use Rattle.cert_text.specs.wide_num.proofs.Decimal.{IsDigit}
 use Rattle.cert_pieces.proofs.WholeFields.{field_first, field_more}
 use Rattle.cert_pieces.proofs.line.fields.read_field.Goals as goal
 
-pub loop-i-init : goal.loop-i-init
-loop-i-init c =
+pub read_fours-front-requires-clause-first : goal.read_fours-front-requires-clause-first
+read_fours-front-requires-clause-first c =
     let digit : IsDigit (get_or c.args.piece.now c.args.at 0) = (grind (arith, nat_tests), grind (arith, nat_tests)) in
-    record {
-      spelled = field_first c.args.piece.now c.args.at (omega arith) digit;
-      low = omega (arith, digit.1);
-    }
+    field_first c.args.piece.now c.args.at (omega arith) digit
+
+pub loop-i-init : goal.loop-i-init
+loop-i-init c = record {
+  spelled = c.read_fours-front.ensures.spelled;
+  low = c.read_fours-front.ensures.low;
+}
 
 pub loop-i-preserved : goal.loop-i-preserved
 loop-i-preserved c =
