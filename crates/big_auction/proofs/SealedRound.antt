@@ -118,14 +118,34 @@ draft-goes rounds prices eligibility held last k n lots amount s known few due w
     ∷ when (nat_lt (entrant made_terms k).eligibility (cost_of made_terms.points lots)) (reply.Points (entrant made_terms k).eligibility)
     ∷ when (is_empty lots) reply.Empty ∷ when (nat_lt amount (cost_of made_terms.reserves lots)) (reply.BelowReserve (cost_of made_terms.reserves lots))
     ∷ when (nat_lt amount clock) (reply.BelowClock clock) ∷ when (not (has_entry lots own) && nat_le 300 (length own)) (reply.Full 300)
-    ∷ when (nat_lt MOST_AMOUNT amount) (reply.AmountTop MOST_AMOUNT) ∷ [])
-    (refl, (ap (λ (b : Bool). when b reply.Unknown) known.known, (ap supply_reply due.within, (refl,
-    (ap (λ (b : Bool). when b (reply.Points (entrant made_terms k).eligibility)) (le-ltb _ _ (omega (arith, due.points, known.eligible))),
-    (ap (λ (b : Bool). when b reply.Empty) due.some,
-    (ap (λ (b : Bool). when b (reply.BelowReserve (cost_of made_terms.reserves lots))) (le-ltb _ _ due.reserve),
-    (ap (λ (b : Bool). when b (reply.BelowClock clock)) (le-ltb _ _ due.clock),
-    (ap (λ (b : Bool). when b (reply.Full 300)) (and_right (not (has_entry lots own)) (nat_le 300 (length own)) (lt-leb _ _ (omega (arith, w.few, few)))),
-    (ap (λ (b : Bool). when b (reply.AmountTop MOST_AMOUNT)) (le-ltb _ _ due.top), tt)))))))))) in
+    ∷ when (nat_lt MOST_AMOUNT amount) (reply.AmountTop MOST_AMOUNT) ∷ []) (
+      refl,
+      (
+        ap (λ (b : Bool). when b reply.Unknown) known.known,
+        (
+          ap supply_reply due.within,
+          (
+            refl,
+            (
+              ap (λ (b : Bool). when b (reply.Points (entrant made_terms k).eligibility)) (le-ltb _ _ (omega (arith, due.points, known.eligible))),
+              (
+                ap (λ (b : Bool). when b reply.Empty) due.some,
+                (
+                  ap (λ (b : Bool). when b (reply.BelowReserve (cost_of made_terms.reserves lots))) (le-ltb _ _ due.reserve),
+                  (
+                    ap (λ (b : Bool). when b (reply.BelowClock clock)) (le-ltb _ _ due.clock),
+                    (
+                      ap (λ (b : Bool). when b (reply.Full 300)) (and_right (not (has_entry lots own)) (nat_le 300 (length own)) (lt-leb _ _ (omega (arith, w.few, few)))),
+                      (ap (λ (b : Bool). when b (reply.AmountTop MOST_AMOUNT)) (le-ltb _ _ due.top), tt),
+                    ),
+                  ),
+                ),
+              ),
+            ),
+          ),
+        ),
+      ),
+    ) in
     let here : get_or (set w.drafts (k - 1) (with_entry lots amount own)) (k - 1) [] ≡ with_entry lots amount own = get_or-set_same w.drafts (k - 1) (with_entry lots amount own) [] low in
     let next : Within rounds prices eligibility held last k (suc n) (taken st (Draft k lots amount)) = record {
       drafts = set w.drafts (k - 1) (with_entry lots amount own);
