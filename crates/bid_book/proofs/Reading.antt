@@ -4,7 +4,7 @@ use Rattle.std.specs.Prelude.{codes}
 use Rattle.std.specs.List.{AllByRecursion}
 use Rattle.std.proofs.lemmas.List.{append-nil, take_at, take_all, length-replicate}
 use Rattle.book_form.specs.line_text.specs.Reading.{Runs}
-use Rattle.book_form.specs.line_text.proofs.Runs.{FrontOf, Reads, StepsBehind, front_reached, runs_append}
+use Rattle.book_form.specs.line_text.proofs.Runs.{FrontOf, Reads, StepsBehind, StepsOnce, front_reached, runs_append}
 use Rattle.lots.specs.auction_model.specs.Book.{BookBid, Bidder, Book, bidder_with, with_bidders}
 use Rattle.book_form.specs.BookForm.{IsOffer, IsBid, AreBids, empty_package, IsBidder, AreBidders, IsBook}
 use Rattle.book_form.specs.BookLines.{Line, bidder_excess, bid_excess, bid_line, bid_lines, bidder_line, bidder_lines, supply_line, reserve_line, head_lines, lines}
@@ -161,7 +161,7 @@ complete book valid =
     runs_append Step excess begin (Listing book) (finish book) (head_lines book ++ bidder_lines 0 book.bidders) ((codes "end", None) ∷ [])
     (runs_append Step excess begin (Listing free) (Listing book) (head_lines book) (bidder_lines 0 book.bidders) head body) last
 
-one_step : (s t u : Stage) (l : List ℕ) → IsSound s → Step s l t → Step s l u → t ≡ u
+one_step : StepsOnce IsSound Step
 one_step s t u l = by_stage s
   where
     by_stage : (s : Stage) → IsSound s → Step s l t → Step s l u → t ≡ u

@@ -8,28 +8,24 @@ use Rattle.clock_stage.specs.limits.specs.declared.TheConstants.{MOST_AMOUNT}
 use Rattle.row_laws.specs.auction_model.specs.Book.{BookBid}
 use Rattle.row_laws.specs.auction_model.specs.Package.{cost_of}
 use Rattle.clock_stage.specs.auction_rules.specs.declared.Event.TheVariants.{Draft, Submit}
+use Rattle.clock_stage.specs.auction_rules.specs.declared.Reply.{Reply}
 use Rattle.clock_stage.specs.auction_rules.specs.declared.Reply.TheVariants as reply
 use Rattle.row_laws.specs.auction_model.specs.PackageTests.{first_over, is_empty}
 use Rattle.clock_stage.specs.auction_rules.specs.Terms.{entrant}
 use Rattle.clock_stage.specs.auction_rules.specs.Rounds.{OwnRound}
 use Rattle.clock_stage.specs.auction_rules.specs.Caps.{clock_bid, greatest, list_fault}
 use Rattle.row_laws.specs.auction_model.specs.Entries.{with_entry}
-use Rattle.clock_stage.specs.auction_rules.specs.Replies.{first_reply, when, supply_reply, spectrum_reply, cap_reply, has_entry}
+use Rattle.clock_stage.specs.auction_rules.specs.Replies.{first_reply, when, supply_reply, cap_reply, has_entry}
 use Rattle.clock_stage.specs.auction_rules.specs.State.{Round, DeskState, own_of, reply_in, taken}
 use Rattle.big_auction.specs.MadeAward.{made_terms}
 use Rattle.big_auction.proofs.Caps.{IsFair, no-fault, each-with_entry, length-with_entry}
 use Rattle.big_auction.proofs.ClockRounds.{sealed_state}
 use Rattle.big_auction.proofs.Forward.{Goes, goes-one}
 
--- where no condition holds, a draft is answered Ok
-none-holds : (out strange : Bool) (over : Option ℕ) (rule : Option (ℕ × ℕ)) (short : Bool) (e : ℕ) (empty low : Bool) (r : ℕ) (below : Bool) (c : ℕ) (full above : Bool) (t : ℕ)
-    → out ≡ false → strange ≡ false → over ≡ None → rule ≡ None → short ≡ false → empty ≡ false → low ≡ false → below ≡ false → full ≡ false → above ≡ false
-    → first_reply (when out reply.Stage ∷ when strange reply.Unknown ∷ supply_reply over ∷ spectrum_reply rule ∷ when short (reply.Points e) ∷ when empty reply.Empty
-    ∷ when low (reply.BelowReserve r) ∷ when below (reply.BelowClock c) ∷ when full (reply.Full 300) ∷ when above (reply.AmountTop t) ∷ []) ≡ reply.Ok
-none-holds out strange over rule short e empty low r below c full above t a b d f g h i j k l = rw (a, b, d, f, g, h, i, j, k, l) refl
-
-none-submits : (out strange : Bool) (fault : Option (ℕ × ℕ)) → out ≡ false → strange ≡ false → fault ≡ None → first_reply (when out reply.Stage ∷ when strange reply.Unknown ∷ cap_reply fault ∷ []) ≡ reply.Ok
-none-submits out strange fault a b c = rw (a, b, c) refl
+-- where no condition holds, the reply is Ok
+none-holds : (replies : List (Option Reply)) → AllByRecursion (λ (r : Option Reply). r ≡ None) replies → first_reply replies ≡ reply.Ok
+none-holds [] none = refl
+none-holds (r ∷ replies) none = rw none.0 (none-holds replies none.1)
 
 -- an entry of a package with a lot of the first category
 abbrev pub HasLot : BookBid → Type 0
@@ -116,14 +112,40 @@ draft-goes rounds prices eligibility held last k n lots amount s known few due w
     let own : List BookBid = get_or w.drafts (k - 1) [] in
     let low : k - 1 < length w.drafts = omega (arith, known.few, w.long) in
     let st : DeskState = sealed_state rounds prices eligibility held w.drafts w.submitted in
+    let clock : ℕ = greatest lots (map clock_bid (map (own_of k) rounds)) in
     let ok : reply_in st (Draft k lots amount) ≡ reply.Ok =
-    none-holds false (not (nat_lt 0 k && nat_le k 12)) (first_over 1 lots made_terms.supply) None
-    (nat_lt (entrant made_terms k).eligibility (cost_of made_terms.points lots)) (entrant made_terms k).eligibility (is_empty lots)
-    (nat_lt amount (cost_of made_terms.reserves lots)) (cost_of made_terms.reserves lots)
-    (nat_lt amount (greatest lots (map clock_bid (map (own_of k) rounds)))) (greatest lots (map clock_bid (map (own_of k) rounds)))
-    (not (has_entry lots own) && nat_le 300 (length own)) (nat_lt MOST_AMOUNT amount) MOST_AMOUNT
-    refl known.known due.within refl (le-ltb _ _ (omega (arith, due.points, known.eligible))) due.some (le-ltb _ _ due.reserve) (le-ltb _ _ due.clock)
-    (and_right (not (has_entry lots own)) (nat_le 300 (length own)) (lt-leb _ _ (omega (arith, w.few, few)))) (le-ltb _ _ due.top) in
+    none-holds (when false reply.Stage ∷ when (not (nat_lt 0 k && nat_le k 12)) reply.Unknown ∷ supply_reply (first_over 1 lots made_terms.supply) ∷ None
+    ∷ when (nat_lt (entrant made_terms k).eligibility (cost_of made_terms.points lots)) (reply.Points (entrant made_terms k).eligibility)
+    ∷ when (is_empty lots) reply.Empty ∷ when (nat_lt amount (cost_of made_terms.reserves lots)) (reply.BelowReserve (cost_of made_terms.reserves lots))
+    ∷ when (nat_lt amount clock) (reply.BelowClock clock) ∷ when (not (has_entry lots own) && nat_le 300 (length own)) (reply.Full 300)
+    ∷ when (nat_lt MOST_AMOUNT amount) (reply.AmountTop MOST_AMOUNT) ∷ []) (
+      refl,
+      (
+        ap (λ (b : Bool). when b reply.Unknown) known.known,
+        (
+          ap supply_reply due.within,
+          (
+            refl,
+            (
+              ap (λ (b : Bool). when b (reply.Points (entrant made_terms k).eligibility)) (le-ltb _ _ (omega (arith, due.points, known.eligible))),
+              (
+                ap (λ (b : Bool). when b reply.Empty) due.some,
+                (
+                  ap (λ (b : Bool). when b (reply.BelowReserve (cost_of made_terms.reserves lots))) (le-ltb _ _ due.reserve),
+                  (
+                    ap (λ (b : Bool). when b (reply.BelowClock clock)) (le-ltb _ _ due.clock),
+                    (
+                      ap (λ (b : Bool). when b (reply.Full 300)) (and_right (not (has_entry lots own)) (nat_le 300 (length own)) (lt-leb _ _ (omega (arith, w.few, few)))),
+                      (ap (λ (b : Bool). when b (reply.AmountTop MOST_AMOUNT)) (le-ltb _ _ due.top), tt),
+                    ),
+                  ),
+                ),
+              ),
+            ),
+          ),
+        ),
+      ),
+    ) in
     let here : get_or (set w.drafts (k - 1) (with_entry lots amount own)) (k - 1) [] ≡ with_entry lots amount own = get_or-set_same w.drafts (k - 1) (with_entry lots amount own) [] low in
     let next : Within rounds prices eligibility held last k (suc n) (taken st (Draft k lots amount)) = record {
       drafts = set w.drafts (k - 1) (with_entry lots amount own);
@@ -151,7 +173,8 @@ submit-goes rounds prices eligibility held last k n s known rounds_are w =
     let none : list_fault false made_terms.points (map (own_of k) rounds) own ≡ None =
     ap (λ (rs : List OwnRound). list_fault false made_terms.points rs own) rounds_are.are ∙ no-fault rounds_are.before last own w.fair in
     let ok : reply_in st (Submit k) ≡ reply.Ok =
-    none-submits false (not (nat_lt 0 k && nat_le k 12)) (list_fault false made_terms.points (map (own_of k) rounds) own) refl known.known none in
+    none-holds (when false reply.Stage ∷ when (not (nat_lt 0 k && nat_le k 12)) reply.Unknown ∷ cap_reply (list_fault false made_terms.points (map (own_of k) rounds) own) ∷ [])
+    (refl, (ap (λ (b : Bool). when b reply.Unknown) known.known, (ap cap_reply none, tt))) in
     let next : Between rounds prices eligibility held k (taken st (Submit k)) = record {
       drafts = w.drafts;
       submitted = set w.submitted (k - 1) own;

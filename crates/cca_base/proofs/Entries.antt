@@ -96,50 +96,42 @@ place_is p xs o i known at is =
     let some : position p xs ≡ Some (position_or_len p xs) = grind arith in
     is ∙ ap (λ (r : Option ℕ). unwrap_or r (length xs)) (at ∙ some)
 
--- what reads both entries alike reads all look-ups alike
-view_same : {A B : Type 0} (view : Option A → B) (name : List ℕ) (before after : List ℕ → Option A) (old new : A)
-    → ChangesOne name before after old new → view (Some new) ≡ view (Some old) → (n : List ℕ) → view (after n) ≡ view (before n)
-view_same view name before after old new change same n =
-    elim (bytes_eq n name) as (λ (b : Bool). bytes_eq n name ≡ b → view (after n) ≡ view (before n)) [
+module _ {A : Type 0} (count : A → ℕ) (name : List ℕ) (before after : List ℕ → Option A) (old new : A) (change : ChangesOne name before after old new) where
+  -- a count that rose, of an entry that was changed
+  pub counts_only : count old ≤ count new → CountsOnly name (λ n. option_map_or count (before n) 0) (λ n. option_map_or count (after n) 0)
+  counts_only le =
+      let view : Option A → ℕ = λ o. option_map_or count o 0 in
+      record {
+        here = omega (arith, ap view change.was, ap view change.is);
+        elsewhere = λ other ne. ap view (change.others other ne);
+      }
+
+  -- if the count of the changed entry rose, so did the count that its name looks up
+  pub counts_rose : Rose (count old) (count new) → Rose (option_map_or count (before name) 0) (option_map_or count (after name) 0)
+  counts_rose rose =
+      let view : Option A → ℕ = λ o. option_map_or count o 0 in
+      let was : view (before name) ≡ count old = ap view change.was in
+      let is : view (after name) ≡ count new = ap view change.is in
+      λ below. omega (arith, rose (omega arith))
+
+  -- if the count of the changed entry became one more, so did the count that its name looks up
+  pub counts_one : count new ≡ one_more (count old) → option_map_or count (after name) 0 ≡ one_more (option_map_or count (before name) 0)
+  counts_one more =
+      let view : Option A → ℕ = λ o. option_map_or count o 0 in
+      ap view change.is ∙ more ∙ sym (ap (λ (o : Option A). one_more (view o)) change.was)
+
+-- what reads both entries alike is the same of all names
+pub views_same : {A B : Type 0} (view : Option A → B) (name : List ℕ) (before after : List ℕ → Option A) (old new : A)
+    → ChangesOne name before after old new → view (Some new) ≡ view (Some old) → ◌≡◌ {A = List ℕ → B} (λ n. view (after n)) (λ n. view (before n))
+views_same view name before after old new change same = λ i n. by_name n i
+  where
+    by_name : (n : List ℕ) → view (after n) ≡ view (before n)
+    by_name n = elim (bytes_eq n name) as (λ (b : Bool). bytes_eq n name ≡ b → view (after n) ≡ view (before n)) [
       | true ↦ λ t.
           let here : n ≡ name = (bytes_eq-Decides n name).0 t in
           ap (λ (m : List ℕ). view (after m)) here ∙ ap view change.is ∙ same ∙ sym (ap view change.was) ∙ sym (ap (λ (m : List ℕ). view (before m)) here)
       | false ↦ λ f. ap view (change.others n (λ here. let t : bytes_eq n name ≡ true = (bytes_eq-Decides n name).1 here in cc))
     ] refl
-
--- a count that rose, of an entry that was changed
-pub counts_only : {A : Type 0} (count : A → ℕ) (name : List ℕ) (before after : List ℕ → Option A) (old new : A)
-    → ChangesOne name before after old new → count old ≤ count new
-    → CountsOnly name (λ n. option_map_or count (before n) 0) (λ n. option_map_or count (after n) 0)
-counts_only count name before after old new change le =
-    let view : Option _ → ℕ = λ o. option_map_or count o 0 in
-    record {
-      here = omega (arith, ap view change.was, ap view change.is);
-      elsewhere = λ other ne. ap view (change.others other ne);
-    }
-
--- if the count of the changed entry rose, so did the count that its name looks up
-pub counts_rose : {A : Type 0} (count : A → ℕ) (name : List ℕ) (before after : List ℕ → Option A) (old new : A)
-    → ChangesOne name before after old new → Rose (count old) (count new)
-    → Rose (option_map_or count (before name) 0) (option_map_or count (after name) 0)
-counts_rose count name before after old new change rose =
-    let view : Option _ → ℕ = λ o. option_map_or count o 0 in
-    let was : view (before name) ≡ count old = ap view change.was in
-    let is : view (after name) ≡ count new = ap view change.is in
-    λ below. omega (arith, rose (omega arith))
-
--- if the count of the changed entry became one more, so did the count that its name looks up
-pub counts_one : {A : Type 0} (count : A → ℕ) (name : List ℕ) (before after : List ℕ → Option A) (old new : A)
-    → ChangesOne name before after old new → count new ≡ one_more (count old)
-    → option_map_or count (after name) 0 ≡ one_more (option_map_or count (before name) 0)
-counts_one count name before after old new change more =
-    let view : Option _ → ℕ = λ o. option_map_or count o 0 in
-    ap view change.is ∙ more ∙ sym (ap (λ (o : Option _). one_more (view o)) change.was)
-
--- what reads both entries alike is the same of all names
-pub views_same : {A B : Type 0} (view : Option A → B) (name : List ℕ) (before after : List ℕ → Option A) (old new : A)
-    → ChangesOne name before after old new → view (Some new) ≡ view (Some old) → ◌≡◌ {A = List ℕ → B} (λ n. view (after n)) (λ n. view (before n))
-views_same view name before after old new change same = λ i n. view_same view name before after old new change same n i
 
 -- a name is known where an entry of it is found
 pub found_any : {A : Type 0} (p : A → Bool) (xs : List A) → is_some (find p xs) ≡ list_any p xs

@@ -6,6 +6,7 @@ use Rattle.std.proofs.lemmas.List.{take_all, append-nil}
 use Rattle.std.proofs.lemmas.Bool.{cases_lt}
 use Rattle.std.proofs.lemmas.Bool.{false_from_ne_true}
 use Rattle.std.proofs.lemmas.Slice.Eq.{bytes_eq-Decides}
+use Rattle.std.specs.Prelude.{◌↔◌}
 use Rattle.std.specs.Option.{option_map}
 use Rattle.std.specs.Str.{bytes_eq}
 use Rattle.std.specs.List.{AllByRecursion}
@@ -16,17 +17,13 @@ use Rattle.cca_base.specs.Files.{Folder, Stands, AgreesWith, given_since, Agrees
 abbrev pub Contents : Type 0
 Contents = List ℕ → Option (List ℕ)
 
-both : {X : Type 0} (P : X → Type 0) (xs ys : List X) → AllByRecursion P xs → AllByRecursion P ys → AllByRecursion P (xs ++ ys)
-both P [] ys front back = back
-both P (x ∷ xs) ys front back = (front.0, both P xs ys front.1 back)
-
-fronts : {X : Type 0} (P : X → Type 0) (xs ys : List X) → AllByRecursion P (xs ++ ys) → AllByRecursion P xs
-fronts P [] ys all = tt
-fronts P (x ∷ xs) ys all = (all.0, fronts P xs ys all.1)
-
-backs : {X : Type 0} (P : X → Type 0) (xs ys : List X) → AllByRecursion P (xs ++ ys) → AllByRecursion P ys
-backs P [] ys all = all
-backs P (x ∷ xs) ys all = backs P xs ys all.1
+-- what holds of all of two lists holds of all of each
+all_parts : {X : Type 0} (P : X → Type 0) (xs ys : List X) → AllByRecursion P (xs ++ ys) ↔ (AllByRecursion P xs × AllByRecursion P ys)
+all_parts P [] ys = (λ all. (tt, all), λ each. each.1)
+all_parts P (x ∷ xs) ys = (
+  λ all. let rest = (all_parts P xs ys).0 all.1 in ((all.0, rest.0), rest.1),
+  λ each. (each.0.0, (all_parts P xs ys).1 (each.0.1, each.1)),
+)
 
 since_is : (old new : Folder) (since : List Given) → new.gave ≡ since ++ old.gave → given_since old new ≡ since
 since_is old new since is =
@@ -77,7 +74,7 @@ keeps_more a b c first next = record {
   gave = next.gave ∙ ap (λ (l : List Given). next.since ++ l) first.gave ∙ sym (append_assoc next.since first.since a.gave);
   agrees = λ tells.
       let later = subst (λ (files : Contents). AllByRecursion (AgreesWith files) next.since) first.file (next.agrees (subst IsTrue (sym first.told) tells)) in
-      both (AgreesWith a.file) next.since first.since later (first.agrees tells);
+      (all_parts (AgreesWith a.file) next.since first.since).1 (later, first.agrees tells);
 }
 
 -- what is behind a slice of a whole vector is nothing
@@ -144,16 +141,16 @@ gave_both a b c first next = next.gave ∙ ap (λ (l : List Given). next.since +
 -- what agrees with both calls agrees with each
 pub agrees_first : (files : Contents) (a b c : Folder) → KeepsFiles a b → KeepsFiles b c → Agrees files a c → Agrees files a b
 agrees_first files a b c first next agrees =
-    agrees_by files a b first.since first.gave (backs (AgreesWith files) next.since first.since (all_by files a c (next.since ++ first.since) (gave_both a b c first next) agrees))
+    agrees_by files a b first.since first.gave ((all_parts (AgreesWith files) next.since first.since).0 (all_by files a c (next.since ++ first.since) (gave_both a b c first next) agrees)).1
 
 pub agrees_next : (files : Contents) (a b c : Folder) → KeepsFiles a b → KeepsFiles b c → Agrees files a c → Agrees files b c
 agrees_next files a b c first next agrees =
-    agrees_by files b c next.since next.gave (fronts (AgreesWith files) next.since first.since (all_by files a c (next.since ++ first.since) (gave_both a b c first next) agrees))
+    agrees_by files b c next.since next.gave ((all_parts (AgreesWith files) next.since first.since).0 (all_by files a c (next.since ++ first.since) (gave_both a b c first next) agrees)).0
 
 pub agrees_both : (files : Contents) (a b c : Folder) → KeepsFiles a b → KeepsFiles b c → Agrees files a b → Agrees files b c → Agrees files a c
 agrees_both files a b c first next one other =
     agrees_by files a c (next.since ++ first.since) (gave_both a b c first next)
-    (both (AgreesWith files) next.since first.since (all_by files b c next.since next.gave other) (all_by files a b first.since first.gave one))
+    ((all_parts (AgreesWith files) next.since first.since).1 (all_by files b c next.since next.gave other, all_by files a b first.since first.gave one))
 
 -- the same where as much was given by another moment
 pub agrees_same : (files : Contents) (a b c : Folder) → c.gave ≡ b.gave → Agrees files a b → Agrees files a c
@@ -326,7 +323,7 @@ of_none a = record { agree = λ files hold. agrees_still files a }
 pub of_both : (xs ys : List Content) (a b c : Folder) → GaveOf xs a b → GaveOf ys b c → KeepsFiles a b → KeepsFiles b c → GaveOf (xs ++ ys) a c
 of_both xs ys a b c one other first next = record {
   agree = λ files hold.
-      agrees_both files a b c first next (one.agree files (fronts (held_in files) xs ys hold)) (other.agree files (backs (held_in files) xs ys hold));
+      agrees_both files a b c first next (one.agree files ((all_parts (held_in files) xs ys).0 hold).0) (other.agree files ((all_parts (held_in files) xs ys).0 hold).1);
 }
   where
     held_in : Contents → Content → Type 0

@@ -1,5 +1,5 @@
 -- The rule of a bid in a block, from its parts and from its corners.
-use Rattle.std.specs.Prelude.{◌≡◌, ℕ, suc, ◌+◌, ◌-◌, ◌*◌, ◌/◌, ◌%◌, ◌^◌, ◌≤◌, ◌<◌, nat_le, Bool, IsTrue, List, [], ◌∷◌, length, get_or, take, drop, ℤ, ◌+ℤ◌, ◌≤ℤ◌, refl}
+use Rattle.std.specs.Prelude.{◌≡◌, ℕ, suc, ◌+◌, ◌-◌, ◌*◌, ◌/◌, ◌%◌, ◌^◌, ◌≤◌, ◌<◌, nat_le, Bool, IsTrue, List, [], ◌∷◌, length, get_or, take, drop, ℤ, ◌+ℤ◌, ◌≤ℤ◌}
 use Rattle.std.proofs.Common.{inl, inr, sym, ◌∙◌, ap, subst, arith}
 use Rattle.std.proofs.lemmas.Bool.{and_parts, and_from, leb-true, le-leb, cases_lt}
 use Rattle.std.proofs.lemmas.Int.{ints}
@@ -13,20 +13,11 @@ use Rattle.cert_laws.specs.auction_model.proofs.TrimLaws.{trim-place, trim-withi
 use Rattle.cert_laws.specs.auction_model.proofs.PartReads.{read-part}
 use Rattle.cert_laws.specs.auction_model.proofs.RunLaws.{small-part}
 use Rattle.cert_laws.specs.wide_num.specs.Sums.{nth}
+use Rattle.cert_text.specs.choices.proofs.MoreLots.{less-more}
 use Rattle.cert_check.specs.Corners.{KeepsBlock, BothGrow, HasCorners}
 use Rattle.cert_check.specs.Growth.{Grows}
 use Rattle.cert_check.specs.Narrow.{IsSmall, AreNarrow}
 use Rattle.cert_check.proofs.Blocks.{place-none, tail-whole}
-
--- of more lots more is left
-less-more : (l m p : List ℕ) → length l ≡ length m → IsTrue (is_within l m) → IsTrue (is_within (less l p) (less m p))
-less-more [] m p same h = refl
-less-more (b ∷ l) [] p same h = absurd (omega (arith, same))
-less-more (b ∷ l) (c ∷ m) [] same h = h
-less-more (b ∷ l) (c ∷ m) (a ∷ p) same h =
-    let t = and_parts (nat_le b c) (is_within l m) h in
-    and_from (nat_le (b - a) (c - a)) (is_within (less l p) (less m p)) (le-leb (b - a) (c - a) (omega (arith, leb-true b c t.0))) (less-more l m p (omega
-    (arith, same)) t.1)
 
 module _ (supply p : List ℕ) (s : ℕ) (low : s < states_of supply) where
   -- the place of a package that fits at s has no more than s
@@ -176,13 +167,6 @@ run-keeps (b ∷ supply) (a ∷ p) from line below worth one few is run n low fi
     let none : place_of supply p ≡ 0 = place-none supply p (omega (arith, one)) in
     let same : from ≡ a * states_of supply + place_of supply p = omega (arith, is, none) in
     subst (λ (m : ℕ). (worth +ℤ nth below (n - m)) ≤ℤ nth line n) same (run n (omega (arith, is, up)) low)
-
--- the same where no place of the block is in the run
-pub run-none : (supply p : List ℕ) (from : ℕ) (line below : List ℤ) (worth : ℤ) → length p ≡ 1 → length p ≤ length supply
-    → from ≡ get_or p 0 0 * states_of (drop 1 supply) → states_of supply ≤ from
-    → KeepsBlock supply p line below worth
-run-none supply p from line below worth one few is past = run-keeps supply p from line below worth one few is (λ n up low. absurd (omega
-    (arith, up, low, past)))
 
 -- a part of a line without large numbers has none
 pub part-small : (line : List ℤ) (from n : ℕ) → IsSmall line → IsSmall (take n (drop from line))

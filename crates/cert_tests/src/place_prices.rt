@@ -1,5 +1,5 @@
-use place_price::slot_places::{Slots, read_slots};
-use place_price::{Verdict, check_places, place_rounds, price_places};
+use place_price::slot_places::read_slots;
+use place_price::{PlaceCertificate, Verdict, check_places, place_rounds, price_places};
 use std::alloc::{AllocError, Global};
 use std::process::Abort;
 
@@ -7,15 +7,8 @@ use std::process::Abort;
 const SLOTS: &str =
     "slots 1\nband 4\nbidder x 2\nplace 1 10\nbidder y 1\nplace 4 8\nbidder z 1\nplace 2 12\nend\n";
 
-fn slots_of(rt: &impl Abort, alloc: Global, text: &str) -> Slots {
-    let Ok(slots) = read_slots(alloc, text.as_bytes()) else {
-        panic!(rt; "these are slots");
-    };
-    slots
-}
-
-/// Asserts the value, the choice, its placement and the payments.
-fn gives(
+/// The certificate of the slots. Asserts its value, choice, placement and payments.
+fn priced(
     rt: &impl Abort,
     alloc: Global,
     text: &str,
@@ -23,8 +16,10 @@ fn gives(
     choice: &[u16],
     order: &[u16],
     pay: &[i128],
-) -> Result<(), AllocError> {
-    let slots = slots_of(rt, alloc, text);
+) -> Result<PlaceCertificate, AllocError> {
+    let Ok(slots) = read_slots(alloc, text.as_bytes()) else {
+        panic!(rt; "these are slots");
+    };
     let cert = price_places(alloc, &slots)?;
     assert_eq!(rt; cert.den, 1);
     assert_eq!(rt; cert.value, value);
@@ -32,12 +27,12 @@ fn gives(
     assert!(rt; cert.order.items() == order);
     assert!(rt; cert.pay.items() == pay);
     assert_eq!(rt; check_places(&slots, &cert), Verdict::Yes);
-    Ok(())
+    Ok(cert)
 }
 
 #[test]
 fn winners_pay_together_what_the_third_bids(rt: HostRuntime) -> Result<(), AllocError> {
-    gives(
+    let cert = priced(
         &rt,
         rt.alloc(),
         SLOTS,
@@ -46,8 +41,6 @@ fn winners_pay_together_what_the_third_bids(rt: HostRuntime) -> Result<(), Alloc
         &[1, 3, 2],
         &[7, 5, 0],
     )?;
-    let slots = slots_of(&rt, rt.alloc(), SLOTS);
-    let cert = price_places(rt.alloc(), &slots)?;
     let rows = cert.rows.items();
     if rows.len() != 1 {
         panic!(rt; "one row asks for the payments");
@@ -60,7 +53,9 @@ fn winners_pay_together_what_the_third_bids(rt: HostRuntime) -> Result<(), Alloc
 
 #[test]
 fn turns_end_where_nothing_blocks(rt: HostRuntime) -> Result<(), AllocError> {
-    let slots = slots_of(&rt, rt.alloc(), SLOTS);
+    let Ok(slots) = read_slots(rt.alloc(), SLOTS.as_bytes()) else {
+        panic!(rt; "these are slots");
+    };
     let turns = place_rounds(rt.alloc(), &slots)?;
     let turns = turns.items();
     if turns.len() != 2 {
@@ -81,15 +76,15 @@ fn greatest_choices_are_those_of_a_listing(rt: HostRuntime) -> Result<(), AllocE
     let alloc = rt.alloc();
     let three =
         "slots 1\nband 6\nbidder a 2\nplace 1 5\nplace 3 9\nbidder b 3\nplace 1 4\nplace 4 7\nbidder c 1\nplace 1 3\nplace 6 6\nend\n";
-    gives(&rt, alloc, three, 12, &[1, 2, 0], &[1, 3, 2], &[3, 6, 0])?;
+    priced(&rt, alloc, three, 12, &[1, 2, 0], &[1, 3, 2], &[3, 6, 0])?;
     let last =
         "slots 1\nband 5\nbidder a 1\nplace 1 4\nplace 5 6\nbidder b 1\nplace 1 6\nplace 2 5\nbidder c 2\nplace 2 9\nplace 4 3\nend\n";
-    gives(&rt, alloc, last, 15, &[0, 1, 1], &[2, 3, 1], &[0, 4, 3])?;
+    priced(&rt, alloc, last, 15, &[0, 1, 1], &[2, 3, 1], &[0, 4, 3])?;
     let tie = "slots 1\nband 2\nbidder a 1\nplace 1 5\nbidder b 1\nplace 1 5\nend\n";
-    gives(&rt, alloc, tie, 5, &[1, 0], &[1, 2], &[5, 0])?;
+    priced(&rt, alloc, tie, 5, &[1, 0], &[1, 2], &[5, 0])?;
     let all =
         "slots 1\nband 7\nbidder a 2\nplace 1 6\nplace 4 8\nbidder b 1\nplace 1 9\nplace 3 5\nbidder c 2\nplace 2 7\nplace 6 4\nbidder d 1\nplace 4 3\nplace 6 11\nend\n";
-    gives(
+    priced(
         &rt,
         alloc,
         all,

@@ -6,6 +6,11 @@ use Rattle.line_text.specs.LineText.{IsLine, text_of, first_excess, IsTextOf, Fa
 use Rattle.line_text.specs.Reading.{Runs, SoFar, HaltsAt, ExceedsFirst}
 use Rattle.line_text.proofs.Lines.{AreLines, SameLines, text_of-append, first_excess-append, compare_lines, GoesOn, StopsWithin, text_of_same, one_line, no_feed}
 
+module _ {S : Type 0} (Sound : S → Type 0) (Step : S → List ℕ → S → Type 0) where
+  -- a line leads from a sound stage to one stage
+  abbrev pub StepsOnce : Type 0
+  StepsOnce = (s t u : S) (l : List ℕ) → Sound s → Step s l t → Step s l u → t ≡ u
+
 module _ {S O : Type 0} (Step : S → List ℕ → S → Type 0) (excess : S → Option O) where
   -- a run to a stage and a run on from it are one run over the lines of both
   pub runs_append : (s t u : S) (xs ys : List (List ℕ × Option O)) → Runs Step excess s xs t → Runs Step excess t ys u → Runs Step excess s (xs ++ ys) u
@@ -23,7 +28,8 @@ module _ {S O : Type 0} (Step : S → List ℕ → S → Type 0) (excess : S →
   runs_lines s t (m ∷ ms) run = (run.1, runs_lines run.0 t ms run.4)
 
   -- the lines determine what stands beside them, and the stage
-  pub one_run : (Sound : S → Type 0) (keeps : (s t : S) (l : List ℕ) → Sound s → Step s l t → Sound t) (one_step : (s t u : S) (l : List ℕ) → Sound s → Step s l t → Step s l u → t ≡ u) (s t u : S) → Sound s → (ls ms : List (List ℕ × Option O)) → SameLines ls ms → Runs Step excess s ls t → Runs Step excess s ms u → (ls ≡ ms) × (t ≡ u)
+  pub one_run : (Sound : S → Type 0) (keeps : (s t : S) (l : List ℕ) → Sound s → Step s l t → Sound t) (one_step : StepsOnce Sound Step) (s t u : S) → Sound s
+      → (ls ms : List (List ℕ × Option O)) → SameLines ls ms → Runs Step excess s ls t → Runs Step excess s ms u → (ls ≡ ms) × (t ≡ u)
   one_run Sound keeps one_step s t u sound [] [] same a b = (refl, sym a ∙ b)
   one_run Sound keeps one_step s t u sound [] (m ∷ ms) same a b = absurd same
   one_run Sound keeps one_step s t u sound (l ∷ ls) [] same a b = absurd same
@@ -69,7 +75,7 @@ pub record Reads {S V O : Type 0} (Sound : S → Type 0) (Step : S → List ℕ 
   pub sound : (ms : List (List ℕ × Option O)) (s : S) → Runs Step excess begin ms s → (v : V) × (k : ℕ) × IsValid v × (take k (lines v) ≡ ms)
   pub begins : Sound begin
   pub keeps : (s t : S) (l : List ℕ) → Sound s → Step s l t → Sound t
-  pub one_step : (s t u : S) (l : List ℕ) → Sound s → Step s l t → Step s l u → t ≡ u
+  pub one_step : StepsOnce Sound Step
   pub closed : (v : V) (l : List ℕ) (t : S) → Step (finish v) l t → ⊥
   pub one_value : (v w : V) → finish v ≡ finish w → v ≡ w
 

@@ -29,27 +29,24 @@ read-none terms rows reader events none has = record { left = rows; has = has; b
 abbrev pub Took : Reader (Bor (List ℕ)) → Reader (Bor (List ℕ)) → Bool → List (List ℕ) → Type 0
 Took old new found fields = (rows : Rows) → Left old rows → Takes (λ (s : Bor (List ℕ)). Some s.now) new rows found fields
 
--- the record that was taken is the next one
-pub next-is : (terms : Terms) (rows : Rows) (old new : Reader (Bor (List ℕ))) (events : List Event) (found : Bool) (fields : List (List ℕ))
-    → found ≡ true → Took old new found fields → IsReadTo terms rows old events → (later : Rows) × BeginWith terms rows events (fields ∷ later)
-next-is terms rows old new events found fields is took so_far =
-    let one = found_one _ new so_far.left found fields is (took so_far.left so_far.has) in
-    (one.0, begin_at terms rows events so_far.left (fields ∷ one.0) so_far.begins one.1)
+module _ (terms : Terms) (rows : Rows) (old new : Reader (Bor (List ℕ))) (events : List Event) (found : Bool) (fields : List (List ℕ)) (took : Took old new found fields)
+    (so_far : IsReadTo terms rows old events) where
+  -- the record that was taken is the next one
+  pub next-is : found ≡ true → (later : Rows) × BeginWith terms rows events (fields ∷ later)
+  next-is is =
+      let one = found_one _ new so_far.left found fields is (took so_far.left so_far.has) in
+      (one.0, begin_at terms rows events so_far.left (fields ∷ one.0) so_far.begins one.1)
 
--- one record more
-pub read-more : (terms : Terms) (rows : Rows) (old new : Reader (Bor (List ℕ))) (events more : List Event) (found : Bool) (fields : List (List ℕ)) (e : Event)
-    → found ≡ true → Took old new found fields → IsReadTo terms rows old events → length events < MOST_RECORDS → States terms fields e → more ≡ events ++ e ∷ []
-    → IsReadTo terms rows new more
-read-more terms rows old new events more found fields e is took so_far few states pushed =
-    let one = found_one _ new so_far.left found fields is (took so_far.left so_far.has) in
-    record {
-      left = one.0;
-      has = one.2;
-      begins = rw pushed (begin_more terms rows events so_far.left fields one.0 e so_far.begins one.1 few states);
-    }
+  -- one record more
+  pub read-more : (more : List Event) (e : Event) → found ≡ true → length events < MOST_RECORDS → States terms fields e → more ≡ events ++ e ∷ [] → IsReadTo terms rows new more
+  read-more more e is few states pushed =
+      let one = found_one _ new so_far.left found fields is (took so_far.left so_far.has) in
+      record {
+        left = one.0;
+        has = one.2;
+        begins = rw pushed (begin_more terms rows events so_far.left fields one.0 e so_far.begins one.1 few states);
+      }
 
--- behind the last record
-pub read-all : (terms : Terms) (rows : Rows) (old new : Reader (Bor (List ℕ))) (events : List Event) (found : Bool) (fields : List (List ℕ))
-    → found ≡ false → Took old new found fields → IsReadTo terms rows old events → AreLog terms rows events
-read-all terms rows old new events found fields is took so_far =
-    log_ends terms rows events so_far.left so_far.begins (found_none _ new so_far.left found fields is (took so_far.left so_far.has))
+  -- behind the last record
+  pub read-all : found ≡ false → AreLog terms rows events
+  read-all is = log_ends terms rows events so_far.left so_far.begins (found_none _ new so_far.left found fields is (took so_far.left so_far.has))

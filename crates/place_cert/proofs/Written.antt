@@ -10,8 +10,8 @@ use Rattle.place_cert.specs.PlaceText.{IsPlaceCertificate, place_lines, ordered_
 use Rattle.place_cert.specs.PlaceSays.{place_text}
 use Rattle.place_cert.specs.Parts.{row_value, row_order, AreParts, AreRows}
 use Rattle.place_cert.specs.CertValues.{place_cert_value}
-use Rattle.place_cert.specs.PlaceReads.{own_part, own_row, part_lines, row_lines}
-use Rattle.place_cert.specs.Written.{lines_of_head, lines_of_rows, ArePartsInRange, IsRowInRange}
+use Rattle.place_cert.specs.PlaceReads.{own_part, own_row, part_lines, payment_lines, row_lines}
+use Rattle.place_cert.specs.Written.{lines_of_head, ArePartsInRange, IsRowInRange}
 use Rattle.place_cert.specs.declared.certificate.PlaceCertificate.{PlaceCertificate}
 use Rattle.place_cert.specs.declared.certificate.PlaceRow.{PlaceRow}
 use Rattle.place_cert.specs.declared.certificate.PlaceWithout.{PlaceWithout}
@@ -69,14 +69,14 @@ module _ (b : ℕ) where
     all_rows_range = rows_range c.rows is.rows
 
 -- the parts of a placement certificate's text, one behind the other
-pub whole_places : (c : PlaceCertificate) (a d e f g h i : List ℕ) → Adds [] a (lines_of_head c) → Adds a d (lines_of_table (codes "table") c.table) → Adds d e (part_lines c.withouts)
-    → Adds e f (line (codes "pay") c.pay ∷ []) → Adds f g (lines_of_rows c.rows) → Adds g h (lines_of_table (codes "lowered") c.lowered) → Adds h i (line (codes "end") [] ∷ []) → i ≡ place_text (place_cert_value c)
-whole_places c a d e f g h i head table parts pay rows lowered end =
+pub whole_places : (c : PlaceCertificate) (a d e g h i : List ℕ) → Adds [] a (lines_of_head c) → Adds a d (lines_of_table (codes "table") c.table) → Adds d e (part_lines c.withouts)
+    → Adds e g (payment_lines c.pay c.rows) → Adds g h (lines_of_table (codes "lowered") c.lowered) → Adds h i (line (codes "end") [] ∷ []) → i ≡ place_text (place_cert_value c)
+whole_places c a d e g h i head table parts payments lowered end =
     let tables = lines_of_table (codes "table") c.table ++ part_lines c.withouts in
     let last = lines_of_table (codes "lowered") c.lowered ++ line (codes "end") [] ∷ [] in
-    let tail = (line (codes "pay") c.pay ∷ []) ++ (lines_of_rows c.rows ++ last) in
+    let tail = payment_lines c.pay c.rows ++ last in
     let to_last : Adds g i last = adds_both g h i (lines_of_table (codes "lowered") c.lowered) (line (codes "end") [] ∷ []) lowered end in
-    let to_tail : Adds e i tail = adds_both e f i (line (codes "pay") c.pay ∷ []) (lines_of_rows c.rows ++ last) pay (adds_both f g i (lines_of_rows c.rows) last rows to_last) in
+    let to_tail : Adds e i tail = adds_both e g i (payment_lines c.pay c.rows) last payments to_last in
     let to_tables : Adds a e tables = adds_both a d e (lines_of_table (codes "table") c.table) (part_lines c.withouts) table parts in
     adds_both [] a i (lines_of_head c) (tables ++ tail) head (adds_both a e i tables tail to_tables to_tail)
     ∙ ap (λ (n : ℕ). bytes_of (lines_of_head c ++ (tables ++ line (codes "pay") c.pay ∷ line (codes "rows") (pos n ∷ []) ∷ (ordered_row_lines (map row_value c.rows) (map row_order c.rows) ++ last)))) (sym (length-map c.rows row_value))

@@ -1,12 +1,11 @@
 -- Lines of a placement certificate that are written together.
-use Rattle.std.specs.Prelude.{List, [], ◌∷◌, length, codes, pos}
+use Rattle.std.specs.Prelude.{List, [], ◌∷◌, codes, pos}
 use Rattle.std.specs.List.{AllByRecursion}
 use Rattle.cert_text.specs.cert_form.specs.CertText.{line, choice_line}
 use Rattle.cert_text.specs.cert_form.specs.Lines.{Line}
 use Rattle.cert_text.specs.Written.{IsTableInRange}
 use Rattle.cert_text.specs.wide_num.specs.Range.{InRange}
 use Rattle.place_cert.specs.PlaceText.{order_line}
-use Rattle.place_cert.specs.PlaceReads.{row_lines}
 use Rattle.place_cert.specs.declared.certificate.PlaceCertificate.{PlaceCertificate}
 use Rattle.place_cert.specs.declared.certificate.PlaceRow.{PlaceRow}
 use Rattle.place_cert.specs.declared.certificate.PlaceWithout.{PlaceWithout}
@@ -15,10 +14,6 @@ use Rattle.place_cert.specs.declared.certificate.PlaceWithout.{PlaceWithout}
 abbrev pub lines_of_head : PlaceCertificate → List Line
 lines_of_head c =
     line (codes "pcert") (pos 1 ∷ []) ∷ line (codes "den") (c.den ∷ []) ∷ line (codes "value") (c.value ∷ []) ∷ order_line c.order ∷ choice_line c.choice ∷ []
-
--- how many rows there are, and the rows
-abbrev pub lines_of_rows : List PlaceRow → List Line
-lines_of_rows rows = line (codes "rows") (pos (length rows) ∷ []) ∷ row_lines rows
 
 abbrev pub ArePartsInRange : List PlaceWithout → Type 0
 ArePartsInRange parts = AllByRecursion (λ w. IsTableInRange w.table) parts

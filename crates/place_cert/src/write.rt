@@ -3,11 +3,12 @@ ghost use Rattle.std.specs.Prelude.{◌≡◌, ◌≤◌, ◌∷◌, [], length,
 ghost use Rattle.std.specs.List.{AllByRecursion};
 ghost use Rattle.cert_text.specs.wide_num.specs.Range.{InRange};
 ghost use Rattle.cert_text.specs.cert_form.specs.CertText.{choice_line};
+ghost use Rattle.cert_text.specs.line_text.specs.Range.{AllInRange};
 ghost use Rattle.cert_text.specs.Written.{Adds, IsTableInRange};
 ghost use Rattle.place_cert.specs.CertValues.{place_cert_value};
-ghost use Rattle.place_cert.specs.PlaceReads.{own_part, own_row, ordered_lines, part_lines};
+ghost use Rattle.place_cert.specs.PlaceReads.{own_part, own_row, ordered_lines, part_lines, payment_lines};
 ghost use Rattle.place_cert.specs.PlaceSays.{place_text};
-ghost use Rattle.place_cert.specs.Written.{lines_of_head, lines_of_rows, ArePartsInRange, IsRowInRange};
+ghost use Rattle.place_cert.specs.Written.{lines_of_head, ArePartsInRange, IsRowInRange};
 
 use crate::{PlaceCertificate, PlaceRow, PlaceWithout};
 use cert_text::choices::{Choice, Numbers};
@@ -23,8 +24,7 @@ pub fn write_places(alloc: Global, cert: &PlaceCertificate) -> Result<Text, Allo
     add_head(&mut text, cert)?;
     add_table(&mut text, b"table", &cert.table)?;
     add_parts(&mut text, cert.withouts.items())?;
-    add_signed_line(&mut text, b"pay", cert.pay.items())?;
-    add_rows(&mut text, cert.rows.items())?;
+    add_payments(&mut text, cert.pay.items(), cert.rows.items())?;
     add_table(&mut text, b"lowered", &cert.lowered)?;
     add_signed_line(&mut text, b"end", &[])?;
     Ok(text)
@@ -63,12 +63,14 @@ fn add_part(text: &mut Text, part: &PlaceWithout) -> Result<(), AllocError>
     Ok(())
 }
 
-// How many rows there are, and the rows.
-fn add_rows(text: &mut Text, rows: &[PlaceRow]) -> Result<(), AllocError>
+// The payments, how many rows ask for them, and the rows.
+fn add_payments(text: &mut Text, pay: &[i128], rows: &[PlaceRow]) -> Result<(), AllocError>
+    requires pay { AllInRange pay.now }
     requires few { length rows.now ≤ 10 }
     requires range { AllByRecursion IsRowInRange rows.now }
-    ensures { OnOk result (Adds text.old text.new (lines_of_rows rows.now)) }
+    ensures { OnOk result (Adds text.old text.new (payment_lines pay.now rows.now)) }
 {
+    add_signed_line(text, b"pay", pay)?;
     add_signed_line(text, b"rows", &[rows.len() as i128])?;
     for row in rows {
         add_row(text, row)?;

@@ -1,15 +1,18 @@
 -- The rows of a certificate by their places, and the sizes of their multipliers.
-use Rattle.std.specs.Prelude.{◌≡◌, ℕ, zero, suc, ◌+◌, ◌-◌, ◌^◌, ◌≤◌, ◌<◌, List, [], ◌∷◌, length, map, get_or, ℤ, pos, unsigned_abs}
-use Rattle.std.proofs.Common.{sym, ◌∙◌, ap, subst, arith}
-use Rattle.std.proofs.lemmas.List.{get_or-map, length-map}
-use Rattle.cert_check.specs.cert_form.specs.Certificate.{RowValue, row_of}
+use Rattle.std.specs.Prelude.{◌≡◌, ℕ, zero, suc, ◌+◌, ◌-◌, ◌^◌, ◌≤◌, ◌<◌, if◌then◌else◌, List, [], ◌∷◌, length, map, replicate, get_or, ℤ, pos, ◌+ℤ◌, unsigned_abs}
+use Rattle.std.proofs.Common.{inl, inr, sym, ◌∙◌, ap, subst, arith}
+use Rattle.std.proofs.lemmas.Bool.{cases_lt}
+use Rattle.std.proofs.lemmas.Int.{ints}
+use Rattle.std.proofs.lemmas.List.{get_or-map, get_or-replicate, get_or_past, length-map, length-replicate}
+use Rattle.cert_check.specs.auction_model.specs.Lowered.{of_bidder}
+use Rattle.cert_check.specs.wide_num.specs.Sums.{nth}
+use Rattle.cert_check.proofs.SumLaws.{counted-same, counted-size, holding-next}
+use Rattle.cert_check.specs.cert_form.specs.Certificate.{RowValue, is_member, row_of}
 use Rattle.cert_check.specs.cert_form.specs.CertText.{IsRow}
 use Rattle.place_cert.specs.Parts.{row_value, AreRows}
 use Rattle.place_cert.specs.declared.certificate.PlaceRow.{PlaceRow}
 use Rattle.cert_check.specs.cert_laws.specs.MarketTests.{sum_holding}
-use Rattle.cert_check.specs.declared.sums.Multiplier.{Multiplier}
-use Rattle.cert_check.specs.declared.sums.Multiplier.TheVariants.{First, Second}
-use Rattle.cert_check.specs.Multipliers.{multiplier_of}
+use Rattle.place_check.specs.RowSums.{AreSumsOf}
 
 rows-at : (bidders : ℕ) (rows : List PlaceRow) (k : ℕ) (d : PlaceRow) → AreRows bidders rows → k < length rows → IsRow bidders (row_value (get_or rows k d))
 rows-at bidders [] k d h lt = absurd (omega arith)
@@ -33,10 +36,43 @@ row-at rows k row lt is =
     row-place rows (k + 1) row (omega arith) (omega (arith, lt)) (is ∙ ap (λ (n : ℕ). get_or rows n row) back)
 
 -- no multiplier of a row is above 2^120 in size
-pub multiplier-size : (bidders : ℕ) (rows : List PlaceRow) (k : ℕ) (row : PlaceRow) (which : Multiplier) → AreRows bidders rows → k < length rows → row ≡ get_or rows k row
-    → unsigned_abs (multiplier_of which (row_value row)) ≤ 2 ^ 120
-multiplier-size bidders rows k row First are lt is = let h = (each-row bidders rows k row are lt is).range.0 in omega (arith, h)
-multiplier-size bidders rows k row Second are lt is = let h = (each-row bidders rows k row are lt is).range.1 in omega (arith, h)
+pub multipliers-size : (bidders : ℕ) (rows : List PlaceRow) (k : ℕ) (row : PlaceRow) → AreRows bidders rows → k < length rows → row ≡ get_or rows k row
+    → (unsigned_abs row.first ≤ 2 ^ 120) × (unsigned_abs row.second ≤ 2 ^ 120)
+multipliers-size bidders rows k row are lt is =
+    let range = (each-row bidders rows k row are lt is).range in
+    (omega (arith, range.0), omega (arith, range.1))
+
+-- no row is counted yet
+pub sums-none : (number : RowValue → ℤ) (rows : List RowValue) → AreSumsOf number rows 0 (replicate 6 (pos 0))
+sums-none number rows = record { each = λ j some low. none (j - 1); small = λ k. omega (arith, ints, none k) }
+  where
+    none : (k : ℕ) → get_or (replicate 6 (pos 0)) k (pos 0) ≡ pos 0
+    none k = elim (cases_lt k 6) [
+      | inl inside ↦ get_or-replicate 6 k (pos 0) (pos 0) inside
+      | inr past ↦ get_or_past (replicate 6 (pos 0)) k (pos 0) (omega (arith, past, length-replicate 6 (pos 0)))
+    ]
+
+-- one row more is counted at each of its members
+pub sums-more : (number : RowValue → ℤ) (rows : List PlaceRow) (k : ℕ) (row : PlaceRow) (members : List ℕ) (old new : List ℤ) (multiplier : ℤ) → k < length rows → row ≡ get_or rows k row
+    → members ≡ row.members → multiplier ≡ number (row_value row) → unsigned_abs multiplier ≤ 2 ^ 120 → length new ≡ 6
+    → ((j : ℕ) → 0 < j → j ≤ 6 → of_bidder new j ≡ of_bidder old j +ℤ (if is_member members j then multiplier else pos 0))
+    → AreSumsOf number (map row_value rows) k old → AreSumsOf number (map row_value rows) (k + 1) new
+sums-more number rows k row members old new multiplier lt is same own small long add sums = record {
+  each = λ j some low.
+      let here = row-at rows k row lt is in
+      let among : is_member members j ≡ is_member (row_of (map row_value rows) (k + 1)).members j =
+      ap (λ (l : List ℕ). is_member l j) same ∙ ap (λ (r : RowValue). is_member r.members j) (sym here) in
+      let item = counted-same (is_member members j) _ multiplier _ among (own ∙ ap number (sym here)) in
+      omega (arith, ints, add j some low, item, sums.each j some low, holding-next (map row_value rows) j number k);
+  small = λ i. elim (cases_lt i 6) [
+    | inl inside ↦
+        let back : i ≡ i + 1 - 1 = omega arith in
+        let counted : ℤ = if is_member members (i + 1) then multiplier else pos 0 in
+        let sum : nth new i ≡ nth old i +ℤ counted = ap (nth new) back ∙ add (i + 1) (omega arith) (omega (arith, inside)) ∙ ap (λ (n : ℕ). nth old n +ℤ counted) (sym back) in
+        omega (arith, ints, sum, sums.small i, counted-size (is_member members (i + 1)) multiplier (2 ^ 120) small)
+    | inr past ↦ let none : nth new i ≡ pos 0 = get_or_past new i (pos 0) (omega (arith, past, long)) in omega (arith, ints, none)
+  ];
+}
 
 -- there are as many values of rows as rows
 pub count-rows : (rows others : List PlaceRow) → others ≡ rows → length others ≡ length (map row_value rows)

@@ -14,10 +14,10 @@ ghost use Rattle.place_check.specs.Shown.{HasSmallProducts, IsTightPlaced, IsFor
 
 use crate::amounts::worth;
 use crate::figures::{is_one_of, is_product};
-use crate::sums::{sum_of, won, won_beside};
+use crate::sums::{sums_over, won, won_beside};
 use cert_check::sums::amounts::{is_between, is_equal};
 use cert_check::sums::members::{uses_all, uses_none};
-use cert_check::sums::{Multiplier, paid_by};
+use cert_check::sums::paid_by;
 use cert_check::{is_first, is_signed};
 use place_cert::{PlaceCertificate, PlaceRow};
 use place_laws::slot_places::Slots;
@@ -119,7 +119,9 @@ fn is_least(slots: &Slots, cert: &PlaceCertificate, j: u16) -> bool
     if cert.choice.number(j) == 0 {
         return true;
     }
-    is_equal(sum_of(cert.rows.items(), j, Multiplier::First), cert.den)
+    slots.kept();
+    let sums = sums_over(cert.rows.items());
+    is_equal(sums.firsts[j as usize - 1], cert.den)
 }
 
 /// Whether P8 holds at a place: a row's sign, or a winner's sum.
@@ -152,8 +154,10 @@ fn is_nearest(slots: &Slots, cert: &PlaceCertificate, j: u16) -> bool
     if cert.choice.number(j) == 0 {
         return true;
     }
+    slots.kept();
     let pay = cert.pay.items();
-    let sum = sum_of(cert.rows.items(), j, Multiplier::Second);
+    let sums = sums_over(cert.rows.items());
+    let sum = sums.seconds[j as usize - 1];
     is_product(pay[j as usize - 1] - sum, cert.den, vickrey(slots, cert, j))
 }
 

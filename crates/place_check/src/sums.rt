@@ -1,21 +1,20 @@
 // Sums over bidders and over rows.
-ghost use Rattle.std.specs.Prelude.{length, map, not, pos, unsigned_abs, ℕ, ◌*◌, ◌<◌, ◌^◌, ◌≡◌, ◌≤ℤ◌, ◌≤◌};
+ghost use Rattle.std.specs.Prelude.{length, map, not, pos, ℕ, ◌*◌, ◌<◌, ◌≡◌, ◌≤ℤ◌, ◌≤◌};
 ghost use Rattle.cert_check.specs.auction_model.specs.Market.{worth_in};
 ghost use Rattle.cert_check.specs.auction_model.specs.Prices.{sum_over};
-ghost use Rattle.cert_check.specs.Multipliers.{multiplier_of};
 ghost use Rattle.cert_check.specs.cert_form.specs.Certificate.{is_member};
-ghost use Rattle.cert_check.specs.cert_laws.specs.MarketTests.{sum_holding};
 ghost use Rattle.cert_check.specs.limits.specs.declared.TheConstants.{MOST_AMOUNT, MOST_PLACED};
 ghost use Rattle.place_cert.specs.Parts.{row_value, AreRows};
 ghost use Rattle.place_laws.specs.slot_places.specs.Board.{market_of};
+ghost use Rattle.place_check.specs.RowSums.{AreRowSums};
 
 use crate::amounts::amount;
+use cert_check::add_row;
 use cert_check::choices::Choice;
-use cert_check::sums::Multiplier;
 use cert_check::sums::amounts::counted;
 use cert_check::sums::members::is_among;
 use place_cert::PlaceRow;
-use place_laws::slot_places::Slots;
+use place_laws::slot_places::{MOST_PLACED, Slots};
 
 /// What the bid that the choice gives to bidder `j` is worth, and 0 for a loser.
 pub(crate) fn won(slots: &Slots, choice: &Choice, j: u16) -> i128
@@ -45,26 +44,29 @@ pub(crate) fn won_beside(slots: &Slots, choice: &Choice, members: &[u16]) -> i12
     sum
 }
 
-/// The sum of the multipliers of the rows that hold bidder `j`.
-pub(crate) fn sum_of(rows: &[PlaceRow], j: u16, which: Multiplier) -> i128
-    requires count { length rows.now ≤ 10 }
-    requires range { (bidders : ℕ) × AreRows bidders rows.now }
-    ensures sum { result ≡ sum_holding (map row_value rows.now) j (multiplier_of which) (length rows.now) }
-    ensures size { unsigned_abs result ≤ 10 * 2 ^ 120 }
-{
-    let mut sum = 0i128;
-    for row in rows {
-        sum += counted(is_among(row.members.items(), j), picked(row, which));
-    }
-    sum
+/// For each bidder the sums of both multipliers over the rows that hold it.
+#[derive(Clone, Copy)]
+pub(crate) struct RowSums {
+    /// The sums of the first multipliers.
+    pub(crate) firsts: [i128; MOST_PLACED],
+    /// The sums of the second multipliers.
+    pub(crate) seconds: [i128; MOST_PLACED],
 }
 
-/// A multiplier of a row.
-fn picked(row: &PlaceRow, which: Multiplier) -> i128
-    ensures { result ≡ multiplier_of which (row_value row.now) }
+/// The sums over these rows.
+pub(crate) fn sums_over(rows: &[PlaceRow]) -> RowSums
+    requires count { length rows.now ≤ 10 }
+    requires range { (bidders : ℕ) × AreRows bidders rows.now }
+    ensures { AreRowSums (map row_value rows.now) (length rows.now) result }
 {
-    match which {
-        Multiplier::First => row.first,
-        Multiplier::Second => row.second,
+    let mut sums = RowSums {
+        firsts: [0; MOST_PLACED],
+        seconds: [0; MOST_PLACED],
+    };
+    for row in rows {
+        let members = row.members.items();
+        add_row(&mut sums.firsts, members, row.first);
+        add_row(&mut sums.seconds, members, row.second);
     }
+    sums
 }

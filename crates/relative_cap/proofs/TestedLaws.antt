@@ -154,24 +154,27 @@ highs-more history points j bids highs e tested are = record {
 
 -- ---- caps
 
--- what stands among the highest amounts at the place of a round is that of the package held in it
-round-high : (history : List Round) (j : ℕ) (bids : List BookBid) (highs lots : List ℕ) (r : ℕ) (t : RoundTerms) → AreHighs history j bids highs
-    → 1 ≤ r → r ≤ length history → IsRoundTerms history j r lots t
-    → IsHighest (rounds_of j history) bids (own_in history j r).held (slice_index highs t.place)
-round-high history j bids highs lots r t are low high is =
-    subst (λ place. IsHighest (rounds_of j history) bids (own_in history j r).held (slice_index highs place)) (sym is.place)
-    (are.each (own_in history j r).held (first-inside history j r low high))
+module _ (history : List Round) (j : ℕ) (bids : List BookBid) (highs lots : List ℕ) (r : ℕ) (t : RoundTerms) (are : AreHighs history j bids highs)
+    (low : 1 ≤ r) (high : r ≤ length history) (is : IsRoundTerms history j r lots t) where
+  -- what stands among the highest amounts at the place of a round is that of the package held in it
+  round-high : IsHighest (rounds_of j history) bids (own_in history j r).held (slice_index highs t.place)
+  round-high =
+      subst (λ place. IsHighest (rounds_of j history) bids (own_in history j r).held (slice_index highs place)) (sym is.place)
+      (are.each (own_in history j r).held (first-inside history j r low high))
 
-round-fits : (history : List Round) (j : ℕ) (bids : List BookBid) (highs lots : List ℕ) (r : ℕ) (t : RoundTerms) → AreHighs history j bids highs
-    → 1 ≤ r → r ≤ length history → IsRoundTerms history j r lots t → FitsRound highs t
-round-fits history j bids highs lots r t are low high is =
-    let top = round-high history j bids highs lots r t are low high is in
-    record {
-      inside = omega (arith, is.place, first-inside history j r low high, are.room);
-      high = top.most;
-      price = is.most;
-      held = omega (arith, top.is, is.held, price-least history bids j r (own_in history j r).prices (own_in history j r).held low high refl refl);
-    }
+  round-fits : FitsRound highs t
+  round-fits = record {
+    inside = omega (arith, is.place, first-inside history j r low high, are.room);
+    high = round-high.most;
+    price = is.most;
+    held = omega (arith, round-high.is, is.held, price-least history bids j r (own_in history j r).prices (own_in history j r).held low high refl refl);
+  }
+
+  round-cap : round_cap highs t ≡ cap_by (rounds_of j history) bids (own_in history j r) lots
+  round-cap =
+      ap (λ n. n + t.price - t.held) round-high.is
+      ∙ ap (λ n. highest (rounds_of j history) bids (own_in history j r).held + n - t.held) is.price
+      ∙ ap (λ n. highest (rounds_of j history) bids (own_in history j r).held + cost_of (own_in history j r).prices lots - n) is.held
 
 -- what the rounds say of a package fits the highest amounts: its places are among them, and its costs are small
 pub terms-fit : (history : List Round) (points : List ℕ) (j : ℕ) (bids : List BookBid) (highs lots : List ℕ) (t : PackageTerms) → AreHighs history j bids highs → 1 ≤ length history
@@ -180,14 +183,6 @@ terms-fit history points j bids highs lots t are some is = record {
   constraining = round-fits history j bids highs lots is.round t.constraining are is.constraining.first is.constraining.last is.by_round;
   last = round-fits history j bids highs lots (length history) t.last are some (omega arith) is.by_last;
 }
-
-round-cap : (history : List Round) (j : ℕ) (bids : List BookBid) (highs lots : List ℕ) (r : ℕ) (t : RoundTerms) → AreHighs history j bids highs
-    → 1 ≤ r → r ≤ length history → IsRoundTerms history j r lots t
-    → round_cap highs t ≡ cap_by (rounds_of j history) bids (own_in history j r) lots
-round-cap history j bids highs lots r t are low high is =
-    ap (λ n. n + t.price - t.held) (round-high history j bids highs lots r t are low high is).is
-    ∙ ap (λ n. highest (rounds_of j history) bids (own_in history j r).held + n - t.held) is.price
-    ∙ ap (λ n. highest (rounds_of j history) bids (own_in history j r).held + cost_of (own_in history j r).prices lots - n) is.held
 
 among-is : (final : Bool) (history : List Round) (points : List ℕ) (j : ℕ) (bids : List BookBid) (highs lots : List ℕ) (t : PackageTerms) → AreHighs history j bids highs → 1 ≤ length history
     → IsTerms history points j lots t

@@ -1,7 +1,7 @@
 -- A choice with a bid of one bidder: the bid, and a choice of the bidders before it and one of those after it beside the package.
-use Rattle.std.specs.Prelude.{◌≡◌, ℕ, suc, ◌+◌, ◌-◌, ◌≤◌, ◌<◌, true, ◌&&◌, nat_le, IsTrue, List, [], ◌∷◌, length, get_or, ℤ, ◌+ℤ◌, ◌-ℤ◌, ◌<ℤ◌, refl}
+use Rattle.std.specs.Prelude.{◌≡◌, ℕ, suc, ◌+◌, ◌-◌, ◌≤◌, ◌<◌, true, ◌&&◌, nat_le, IsTrue, List, [], ◌∷◌, length, get_or, ℤ, ◌+ℤ◌, ◌-ℤ◌, ◌<ℤ◌}
 use Rattle.std.proofs.Common.{sym, ◌∙◌, ap, subst, arith}
-use Rattle.std.proofs.lemmas.Bool.{and_from, and_parts, le-leb, leb-true}
+use Rattle.std.proofs.lemmas.Bool.{and_from, and_parts}
 use Rattle.std.proofs.lemmas.Int.{ints}
 use Rattle.value_table.specs.auction_model.specs.Market.{sum_after}
 use Rattle.value_table.specs.auction_model.specs.Menu.{Menu, fits_after, is_known_after, packages_after}
@@ -12,17 +12,9 @@ use Rattle.value_table.specs.auction_model.proofs.ChoiceLaws.{known-length}
 use Rattle.value_table.specs.auction_model.proofs.PackageLaws.{within-together}
 use Rattle.value_table.specs.auction_model.proofs.PlaceLaws.{left_at-less, left_at-whole, place-less_below, states-positive}
 use Rattle.value_table.specs.Turned.{in_order, worths_in_order}
-use Rattle.value_table.proofs.PairLaws.{left_at-other}
-use Rattle.value_table.proofs.TurnLaws.{Parted, known-turned, onto, parted, sum-turned, taken-turned}
+use Rattle.value_table.proofs.PairLaws.{left_at-other, within-twice}
+use Rattle.value_table.proofs.TurnLaws.{Parted, onto, parted, parts-turned, sum-turned}
 use Rattle.review.specs.Reviewed.{AreBelow}
-
--- a package is within what the rest leaves
-within-twice : (p l : List ℕ) → IsTrue (is_within p l) → IsTrue (is_within p (less l (less l p)))
-within-twice [] l h = refl
-within-twice (a ∷ p) [] h = h
-within-twice (a ∷ p) (b ∷ l) h =
-    let t = and_parts (nat_le a b) (is_within p l) h in
-    and_from (nat_le a (b - (b - a))) (is_within p (less l (less l p))) (le-leb a (b - (b - a)) (omega (arith, leb-true a b t.0))) (within-twice p l t.1)
 
 -- the number behind the first ones, which are turned round
 number-behind : (front : List ℕ) (i : ℕ) (back : List ℕ) (n : ℕ) → get_or (onto front (i ∷ back)) (length front + n) 0 ≡ get_or (i ∷ back) n 0
@@ -47,9 +39,9 @@ module _ (m : Menu) (counts : ℕ → ℕ → ℤ) (supply : List ℕ) (q i : �
       let Q = packages_after m (suc q) back in
       let p = and_parts (is_known_after m 0 c) (is_within (packages_after m 0 c) supply) t in
       let known_both : is_known_after m 0 c ≡ is_known_after turned (n - q) front && is_known_after m q (i ∷ back) =
-      subst (λ (k : ℕ). is_known_after m 0 c ≡ is_known_after turned (n - k) front && is_known_after m k (i ∷ back)) count (known-turned m front (i ∷ back) fewer) in
+      subst (λ (k : ℕ). is_known_after m 0 c ≡ is_known_after turned (n - k) front && is_known_after m k (i ∷ back)) count (parts-turned m front (i ∷ back) fewer).known in
       let taken_both : packages_after m 0 c ≡ together P (together L Q) =
-      subst (λ (k : ℕ). packages_after m 0 c ≡ together (packages_after turned (n - k) front) (packages_after m k (i ∷ back))) count (taken-turned m front (i ∷ back) fewer) in
+      subst (λ (k : ℕ). packages_after m 0 c ≡ together (packages_after turned (n - k) front) (packages_after m k (i ∷ back))) count (parts-turned m front (i ∷ back) fewer).taken in
       let sums : sum_after counts 0 c ≡ sum_after (worths_in_order true n counts) (n - q) front +ℤ (counts (suc q) i +ℤ sum_after counts (suc q) back) =
       subst (λ (k : ℕ). sum_after counts 0 c ≡ sum_after (worths_in_order true n counts) (n - k) front +ℤ sum_after counts k (i ∷ back)) count (sum-turned n counts front (i ∷ back) fewer) in
       let known = and_parts (is_known_after turned (n - q) front) (is_known_after m q (i ∷ back)) (sym known_both ∙ p.0) in
@@ -79,7 +71,7 @@ module _ (m : Menu) (counts : ℕ → ℕ → ℤ) (supply : List ℕ) (q i : �
       with-back d front [] whole count is t =
           let known = and_parts (is_known_after m 0 d) (is_within (packages_after m 0 d) supply) t in
           let on : IsTrue (is_known_after m 0 (onto front [])) = subst (λ (c : List ℕ). IsTrue (is_known_after m 0 c)) (sym whole) known.0 in
-          let parts : IsTrue (is_known_after (in_order true m) (m.bidders - length front) front && is_known_after m (length front) []) = sym (known-turned m front [] (omega (arith, count, inside))) ∙ on in
+          let parts : IsTrue (is_known_after (in_order true m) (m.bidders - length front) front && is_known_after m (length front) []) = sym (parts-turned m front [] (omega (arith, count, inside))).known ∙ on in
           absurd (omega (arith, inside, count, known-length m (length front) [] (and_parts (is_known_after (in_order true m) (m.bidders - length front) front) (is_known_after m (length front) []) parts).1))
       with-back d front (h ∷ back) whole count is t =
           let at : length front + 0 ≡ q = omega (arith, count) in

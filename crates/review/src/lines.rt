@@ -149,7 +149,7 @@ fn renew_right(
     ensures lines { AreRightLines book.now bottom (lines_of lines.new.items) }
     ensures rooms { AreRooms book.now rooms.new }
 {
-    let _bidders = book.bidders();
+    book.kept();
     for k in (bottom..top).rev() {
         renew_right_line(alloc, book, lines, rooms, k);
     }
@@ -169,7 +169,7 @@ fn renew_right_line(
     ensures lines { AreRightLines book.now k (lines_of lines.new.items) }
     ensures rooms { AreRooms book.now rooms.new }
 {
-    let _bidders = book.bidders();
+    book.kept();
     let mut line = mem::replace(&mut lines[k], Vec::new(alloc));
     narrow_right_line(
         book,
@@ -198,7 +198,7 @@ fn renew_left(
     ensures lines { AreLeftLines book.now top (lines_of lines.new.items) }
     ensures rooms { AreRooms book.now rooms.new }
 {
-    let _bidders = book.bidders();
+    book.kept();
     for k in bottom..top {
         renew_left_line(alloc, book, lines, rooms, k + 1);
     }
@@ -218,7 +218,7 @@ fn renew_left_line(
     ensures lines { AreLeftLines book.now k (lines_of lines.new.items) }
     ensures rooms { AreRooms book.now rooms.new }
 {
-    let _bidders = book.bidders();
+    book.kept();
     let mut line = mem::replace(&mut lines[k], Vec::new(alloc));
     narrow_left_line(
         book,

@@ -1,9 +1,7 @@
 // What edits are answered. Nothing here takes memory.
 ghost use Rattle.std.specs.Prelude.{◌≡◌, ◌≤◌, ◌<◌, length, IfNone, IfSome, Some, None};
 ghost use Rattle.value_table.specs.auction_model.specs.Book.{bid_of, bids_of};
-ghost use Rattle.value_table.specs.auction_model.specs.PackageTests.{first_over};
 ghost use Rattle.value_table.specs.bid_book.specs.Changes.{IsBidFor};
-ghost use Rattle.value_table.specs.limits.specs.declared.TheConstants.{MOST_CATEGORIES};
 ghost use Rattle.review.specs.Edits.{amount_for, edit_lots, edit_reply, unfit};
 
 use crate::edit::{Edit, EditReply};
@@ -97,25 +95,11 @@ fn refusal(book: &BidBook, j: u16, wanted: &Package) -> Option<EditReply>
     if j == 0 || j as usize > book.bidders() {
         return Some(EditReply::Unknown);
     }
-    if let Some(category) = first_over(wanted.counts(), book.supply().counts()) {
+    if let Some(category) = wanted.first_over(book.supply()) {
         return Some(EditReply::Supply(category));
     }
     if wanted.is_empty() {
         return Some(EditReply::Empty);
-    }
-    None
-}
-
-/// The first category whose count is above the supply's. Categories are counted from 1.
-fn first_over(counts: &[u16], supply: &[u16]) -> Option<u16>
-    requires categories { length counts.now ≡ length supply.now }
-    requires few { length supply.now ≤ MOST_CATEGORIES }
-    ensures { result ≡ first_over 1 counts.now supply.now }
-{
-    for category in 0..counts.len() {
-        if counts[category] > supply[category] {
-            return Some(category as u16 + 1);
-        }
     }
     None
 }

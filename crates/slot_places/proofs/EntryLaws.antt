@@ -1,17 +1,22 @@
 -- What the lines of bidders and bids say.
-use Rattle.std.proofs.Common.{inl, inr, ◌≡◌, ◌≢◌, ℕ, ◌+◌, ◌≤◌, ◌<◌, Some, None, List, [], ◌∷◌, ◌++◌, length, get_or, take, refl, sym, ap, subst, ◌∙◌, arith}
-use Rattle.std.specs.Prelude.{codes}
+use Rattle.std.proofs.Common.{inl, inr, ◌≡◌, ◌≢◌, ℕ, ◌+◌, ◌≤◌, ◌<◌, false, Some, None, List, [], ◌∷◌, ◌++◌, length, map, refl, sym, ap, subst, ◌∙◌, arith}
+use Rattle.std.specs.Prelude.{codes, ◌↔◌}
 use Rattle.std.specs.Fmt.{decimal}
-use Rattle.std.specs.List.{AllByRecursion}
+use Rattle.std.specs.List.{AllByRecursion, list_any}
+use Rattle.std.specs.Str.{bytes_eq}
+use Rattle.std.proofs.lemmas.Bool.{cases_Bool, false≢true}
 use Rattle.std.proofs.lemmas.Bool.Decides.{nat_tests}
-use Rattle.std.proofs.lemmas.List.{append_cancel_left, take_more}
+use Rattle.std.proofs.lemmas.List.{append_cancel_left}
+use Rattle.std.proofs.lemmas.Slice.Eq.{bytes_eq-Decides}
 use Rattle.choices.specs.line_text.proofs.DecimalFields.{NoSpace, number_own, one_field}
 use Rattle.choices.specs.line_text.specs.Fields.{FieldEnds}
 use Rattle.choices.specs.book_form.specs.BookForm.{IsName}
 use Rattle.choices.specs.limits.specs.declared.LimitKind.TheVariants.{Lots, Bidders}
-use Rattle.slot_places.specs.Slots.{SlotBid, SlotBidder, SlotList, no_bidder, bidder_of}
+use Rattle.slot_places.specs.Fields.{bidder_value}
+use Rattle.slot_places.specs.Slots.{SlotBid, SlotBidder, SlotList}
 use Rattle.slot_places.specs.SlotForm.{width_together, band_excess, bidder_excess}
 use Rattle.slot_places.specs.declared.read.Stage.{Stage}
+use Rattle.slot_places.specs.declared.slots.BandBidder.{BandBidder}
 use Rattle.slot_places.specs.declared.read.Stage.TheVariants.{Listing}
 use Rattle.slot_places.specs.Stages.{Step, Adds, AddsBidder, AddsPlace, IsEntrant, IsNextPlace, bidder_with, with_bidders, with_bid}
 use Rattle.choices.specs.book_form.proofs.NameLaws.{name_own}
@@ -39,19 +44,18 @@ many_bidders n many = grind (arith, nat_tests)
 pub few_bidders : (n : ℕ) → n < 6 → bidder_excess (n + 1) ≡ None
 few_bidders n few = grind (arith, nat_tests)
 
--- the names of the bidders up to one more
-pub unused_more : (bidders : List SlotBidder) (name : List ℕ) (j : ℕ) → j < length bidders → AllByRecursion (λ b. b.name ≢ name) (take j bidders) → (get_or bidders j no_bidder).name ≢ name
-    → AllByRecursion (λ b. b.name ≢ name) (take (j + 1) bidders)
-unused_more bidders name j lt all other =
-    subst (AllByRecursion (λ (b : SlotBidder). b.name ≢ name)) (sym (take_more bidders j no_bidder lt)) (push (take j bidders) (get_or bidders j no_bidder) all other)
-  where
-    push : (xs : List SlotBidder) (x : SlotBidder) → AllByRecursion (λ (b : SlotBidder). b.name ≢ name) xs → x.name ≢ name → AllByRecursion (λ (b : SlotBidder). b.name ≢ name) (xs ++ x ∷ [])
-    push [] x all is = (is, tt)
-    push (y ∷ xs) x all is = (all.0, push xs x all.1 is)
-
--- the name of bidder j + 1 is that of the one behind j others
-pub name_at : (slots : SlotList) (j : ℕ) → (bidder_of slots (j + 1)).name ≡ (get_or slots.bidders j no_bidder).name
-name_at slots j = ap (λ (k : ℕ). (get_or slots.bidders k no_bidder).name) (omega arith)
+-- a search for the name finds nothing exactly where no bidder has it
+pub none_named : (name : List ℕ) (bidders : List BandBidder)
+    → list_any (λ (b : BandBidder). bytes_eq b.name name) bidders ≡ false ↔ AllByRecursion (λ (b : SlotBidder). b.name ≢ name) (map bidder_value bidders)
+none_named name [] = (λ _. tt, λ _. refl)
+none_named name (b ∷ bidders) =
+    elim (cases_Bool (bytes_eq b.name name)) [
+      | inl same ↦ rw same (λ is. absurd (false≢true (sym is)), λ all. absurd (all.0 ((bytes_eq-Decides b.name name).0 same)))
+      | inr other ↦ rw other (
+        λ is. (λ here. false≢true (sym other ∙ (bytes_eq-Decides b.name name).1 here), (none_named name bidders).0 is),
+        λ all. (none_named name bidders).1 all.1,
+      )
+    ]
 
 -- the line of a bidder, as what it adds
 pub adds_entrant : (old : SlotList) (line fields name : List ℕ) (width : ℕ) → line ≡ codes "bidder " ++ fields → IsEntrant old fields name width → AddsBidder old (with_bidders old (old.bidders ++ bidder_with name width [] ∷ [])) line
@@ -68,11 +72,17 @@ entrant_fields slots fields first second name width is own e =
     (parts.0, sym parts.1)
 
 -- a valid name that isn't used, and a width that there is room for, make a bidder that may follow
-pub made_entrant : (slots : SlotList) (fields first second text : List ℕ) (width room : ℕ) → fields ≡ first ++ 32 ∷ second → text ≡ first → IsName first → AllByRecursion (λ b. b.name ≢ first) slots.bidders
+pub made_entrant : (slots : SlotList) (fields first second text : List ℕ) (width room : ℕ) → fields ≡ first ++ 32 ∷ second → text ≡ first → IsName first → AllByRecursion (λ b. b.name ≢ text) slots.bidders
     → 1 ≤ width → width ≤ room → second ≡ decimal width → room + width_together slots.bidders ≡ slots.band → IsEntrant slots fields text width
 made_entrant slots fields first second text width room is same valid unused some low spelled left =
     subst (λ (t : List ℕ). IsEntrant slots fields t width) (sym same)
-    (record { spelled = is ∙ ap (λ (l : List ℕ). first ++ 32 ∷ l) spelled; valid = valid; unused = unused; some = some; room = omega (arith, low, left) })
+    (record {
+      spelled = is ∙ ap (λ (l : List ℕ). first ++ 32 ∷ l) spelled;
+      valid = valid;
+      unused = subst (λ (t : List ℕ). AllByRecursion (λ (b : SlotBidder). b.name ≢ t) slots.bidders) same unused;
+      some = some;
+      room = omega (arith, low, left);
+    })
 
 -- what the fields of a bid's line are
 pub next_fields : (slots : SlotList) (line fields first second : List ℕ) (bid : SlotBid) → slots.band ≤ 40 → line ≡ codes "place " ++ fields → fields ≡ first ++ 32 ∷ second → NoSpace first → IsNextPlace slots line bid

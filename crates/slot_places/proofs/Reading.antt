@@ -4,7 +4,7 @@ use Rattle.std.specs.Prelude.{codes}
 use Rattle.std.specs.Fmt.{decimal}
 use Rattle.std.proofs.lemmas.List.{append-nil, take_at, take_all}
 use Rattle.choices.specs.line_text.specs.Reading.{Runs}
-use Rattle.choices.specs.line_text.proofs.Runs.{FrontOf, Reads, StepsBehind, front_reached, runs_append}
+use Rattle.choices.specs.line_text.proofs.Runs.{FrontOf, Reads, StepsBehind, StepsOnce, front_reached, runs_append}
 use Rattle.slot_places.specs.Slots.{SlotBid, SlotBidder, SlotList}
 use Rattle.choices.specs.book_form.specs.BookLines.{Line}
 use Rattle.slot_places.specs.SlotForm.{IsSlotBid, AreSlotBids, IsSlotBidder, AreSlotBidders, IsSlotText, bidder_excess, band_line, bidder_line, place_line, place_lines, bidder_lines, head_lines, slot_lines}
@@ -143,7 +143,7 @@ complete slots valid =
     runs_append Step excess begin (Listing slots) (finish slots) (head_lines slots ++ bidder_lines 0 slots.bidders) ((codes "end", None) ∷ [])
     (runs_append Step excess begin (Listing free) (Listing slots) (head_lines slots) (bidder_lines 0 slots.bidders) head body) last
 
-one_step : (s t u : Stage) (l : List ℕ) → IsSound s → Step s l t → Step s l u → t ≡ u
+one_step : StepsOnce IsSound Step
 one_step s t u l = by_stage s
   where
     by_stage : (s : Stage) → IsSound s → Step s l t → Step s l u → t ≡ u

@@ -1,5 +1,7 @@
 // Slots, and the calls that read them.
-ghost use Rattle.std.specs.Prelude.{◌≡◌, ◌≤◌, ◌<◌, ◌+◌, ◌++◌, ◌∷◌, [], OnOk, length};
+ghost use Rattle.std.specs.Prelude.{◌≡◌, ◌≢◌, ◌≤◌, ◌<◌, ◌↔◌, ◌+◌, ◌++◌, ◌∷◌, [], IsFalse, OnOk, length};
+ghost use Rattle.std.specs.List.{AllByRecursion, list_any};
+ghost use Rattle.std.specs.Str.{bytes_eq};
 ghost use Rattle.choices.specs.limits.specs.declared.TheConstants.{MOST_LOTS, MOST_PLACED};
 ghost use Rattle.slot_places.specs.Kept.{AreSlots};
 ghost use Rattle.slot_places.specs.Slots.{bidder_of, width_of, bids_of, bid_of};
@@ -141,6 +143,13 @@ impl Slots {
         self.bidders.len()
     }
 
+    /// Whether a bidder has this name.
+    pub(crate) fn has_bidder(&self, name: &str) -> bool
+        ensures { IsFalse result ↔ AllByRecursion (λ b. b.name ≢ name.now) self.now.bidders }
+    {
+        is_named(&self.bidders, name)
+    }
+
     /// The name of bidder `j`.
     pub fn name(&self, j: u16) -> &str
         requires { (0 < j) × (j ≤ length self.now.bidders) }
@@ -183,4 +192,11 @@ impl Slots {
             amount: place.amount,
         }
     }
+}
+
+/// Whether one of the bidders has this name.
+fn is_named(bidders: &[BandBidder], name: &str) -> bool
+    ensures { result ≡ list_any (λ b. bytes_eq b.name name.now) bidders.now }
+{
+    bidders.iter().any(|bidder| bidder.name.text() == name)
 }

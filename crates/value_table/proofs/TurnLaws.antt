@@ -72,33 +72,35 @@ sum-turned n counts (i ∷ front) back h =
     let rest : sum_after turned (suc (n - suc k)) front ≡ sum_after turned (n - k) front = ap (λ j. sum_after turned j front) (turn-next n k h) in
     omega (arith, ints, was, own, rest)
 
--- it is known where both parts are
-pub known-turned : (m : Menu) (front back : List ℕ) → length front ≤ m.bidders
-    → is_known_after m 0 (onto front back) ≡ is_known_after (in_order true m) (m.bidders - length front) front && is_known_after m (length front) back
-known-turned m [] back h = let last : ((m.bidders - 0) == m.bidders) ≡ true = eq-eqb (m.bidders - 0) m.bidders (omega arith) in rw last refl
-known-turned m (i ∷ front) back h =
-    let k = length front in
-    let n = m.bidders in
-    let own : (in_order true m).bids (suc (n - suc k)) ≡ m.bids (suc k) = ap m.bids (turn-back n k h) in
-    let rest : is_known_after (in_order true m) (suc (n - suc k)) front ≡ is_known_after (in_order true m) (n - k) front = ap (λ j. is_known_after (in_order true m) j front) (turn-next n k h) in
-    known-turned m front (i ∷ back) (omega (arith, h))
-    ∙ swap-known (is_known_after (in_order true m) (n - k) front) (nat_le i (m.bids (suc k))) (is_known_after m (suc k) back)
-    ∙ ap (λ b. (nat_le i b && is_known_after (in_order true m) (n - k) front) && is_known_after m (suc k) back) (sym own)
-    ∙ ap (λ b. (nat_le i ((in_order true m).bids (suc (n - suc k))) && b) && is_known_after m (suc k) back) (sym rest)
+-- such a choice is known where both parts are, and takes what both take
+pub record IsOfBoth (m : Menu) (front back : List ℕ) : Type 0 where
+  pub known : is_known_after m 0 (onto front back) ≡ is_known_after (in_order true m) (m.bidders - length front) front && is_known_after m (length front) back
+  pub taken : packages_after m 0 (onto front back) ≡ together (packages_after (in_order true m) (m.bidders - length front) front) (packages_after m (length front) back)
 
--- it takes what both parts take
-pub taken-turned : (m : Menu) (front back : List ℕ) → length front ≤ m.bidders
-    → packages_after m 0 (onto front back) ≡ together (packages_after (in_order true m) (m.bidders - length front) front) (packages_after m (length front) back)
-taken-turned m [] back h = refl
-taken-turned m (i ∷ front) back h =
+pub parts-turned : (m : Menu) (front back : List ℕ) → length front ≤ m.bidders → IsOfBoth m front back
+parts-turned m [] back h =
+    let last : ((m.bidders - 0) == m.bidders) ≡ true = eq-eqb (m.bidders - 0) m.bidders (omega arith) in
+    record { known = rw last refl; taken = refl }
+parts-turned m (i ∷ front) back h =
     let k = length front in
     let n = m.bidders in
-    let own : (in_order true m).lots (suc (n - suc k)) i ≡ m.lots (suc k) i = ap (λ j. m.lots j i) (turn-back n k h) in
-    let rest : packages_after (in_order true m) (suc (n - suc k)) front ≡ packages_after (in_order true m) (n - k) front = ap (λ j. packages_after (in_order true m) j front) (turn-next n k h) in
-    taken-turned m front (i ∷ back) (omega (arith, h))
-    ∙ move-between (packages_after (in_order true m) (n - k) front) (m.lots (suc k) i) (packages_after m (suc k) back)
-    ∙ ap (λ p. together (together p (packages_after (in_order true m) (n - k) front)) (packages_after m (suc k) back)) (sym own)
-    ∙ ap (λ p. together (together ((in_order true m).lots (suc (n - suc k)) i) p) (packages_after m (suc k) back)) (sym rest)
+    let before = parts-turned m front (i ∷ back) (omega (arith, h)) in
+    let bids : (in_order true m).bids (suc (n - suc k)) ≡ m.bids (suc k) = ap m.bids (turn-back n k h) in
+    let lots : (in_order true m).lots (suc (n - suc k)) i ≡ m.lots (suc k) i = ap (λ j. m.lots j i) (turn-back n k h) in
+    let known : is_known_after (in_order true m) (suc (n - suc k)) front ≡ is_known_after (in_order true m) (n - k) front =
+    ap (λ j. is_known_after (in_order true m) j front) (turn-next n k h) in
+    let taken : packages_after (in_order true m) (suc (n - suc k)) front ≡ packages_after (in_order true m) (n - k) front =
+    ap (λ j. packages_after (in_order true m) j front) (turn-next n k h) in
+    record {
+      known = before.known
+          ∙ swap-known (is_known_after (in_order true m) (n - k) front) (nat_le i (m.bids (suc k))) (is_known_after m (suc k) back)
+          ∙ ap (λ b. (nat_le i b && is_known_after (in_order true m) (n - k) front) && is_known_after m (suc k) back) (sym bids)
+          ∙ ap (λ b. (nat_le i ((in_order true m).bids (suc (n - suc k))) && b) && is_known_after m (suc k) back) (sym known);
+      taken = before.taken
+          ∙ move-between (packages_after (in_order true m) (n - k) front) (m.lots (suc k) i) (packages_after m (suc k) back)
+          ∙ ap (λ p. together (together p (packages_after (in_order true m) (n - k) front)) (packages_after m (suc k) back)) (sym lots)
+          ∙ ap (λ p. together (together ((in_order true m).lots (suc (n - suc k)) i) p) (packages_after m (suc k) back)) (sym taken);
+    }
 
 -- menus with the same bids for the bidders after k
 pub known-same : (m o : Menu) (k : ℕ) (c : List ℕ) → m.bidders ≡ o.bidders → ((j : ℕ) → k < j → m.bids j ≡ o.bids j) → is_known_after m k c ≡ is_known_after o k c
@@ -134,14 +136,14 @@ module _ (m : Menu) (bids : ℕ → ℕ) (k : ℕ) (inside : k ≤ m.bidders) (n
   pub known-parts : (front back : List ℕ) → length front ≡ k → is_known_after (with_bids m bids) 0 (onto front back) ≡ is_known_after (in_order true m) (m.bidders - k) front && is_known_after (with_bids m bids) k back
   known-parts front back count =
       subst (λ h. is_known_after (with_bids m bids) 0 (onto front back) ≡ is_known_after (in_order true (with_bids m bids)) (m.bidders - h) front && is_known_after (with_bids m bids) h back) count
-      (known-turned (with_bids m bids) front back (omega (arith, count, inside)))
+      (parts-turned (with_bids m bids) front back (omega (arith, count, inside))).known
       ∙ ap (λ b. b && is_known_after (with_bids m bids) k back) (known-near front)
 
   -- and takes what its parts take
   pub taken-parts : (front back : List ℕ) → length front ≡ k → packages_after (with_bids m bids) 0 (onto front back) ≡ together (packages_after (in_order true m) (m.bidders - k) front) (packages_after (with_bids m bids) k back)
   taken-parts front back count =
       subst (λ h. packages_after (with_bids m bids) 0 (onto front back) ≡ together (packages_after (in_order true (with_bids m bids)) (m.bidders - h) front) (packages_after (with_bids m bids) h back)) count
-      (taken-turned (with_bids m bids) front back (omega (arith, count, inside)))
+      (parts-turned (with_bids m bids) front back (omega (arith, count, inside))).taken
       ∙ ap (λ p. together p (packages_after (with_bids m bids) k back)) (taken-near front)
 
 -- a known choice of the first k bidders, turned round, has k numbers

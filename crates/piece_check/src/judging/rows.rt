@@ -114,8 +114,7 @@ fn nearest(at: &Moment, claim: &Claim) -> Option<u64>
         → IsFirstFailing (Asks at.now.book.now (weight_of at.now.weights.now) c 8) result }
 {
     at.book.kept();
-    let mut values = [0i128; BIDDER_ROOM];
-    put_part_values(at, claim, &mut values);
+    let values = part_values(at, claim);
     let pay = numbers_in(at.book, Due::Payments, at.room);
     let second = Column {
         numbers: &at.totals.seconds[..at.totals.count],
@@ -125,18 +124,18 @@ fn nearest(at: &Moment, claim: &Claim) -> Option<u64>
     second_test(claim, pay, &values, firsts, &second, at.weights)
 }
 
-/// Writes the value of the choice without each winner, bidder by bidder from the first number on, and 0 for a loser.
-fn put_part_values(at: &Moment, claim: &Claim, values: &mut [i128])
+/// The value of the choice without each winner, bidder by bidder from the first number on, and 0 for a loser.
+fn part_values(at: &Moment, claim: &Claim) -> [i128; BIDDER_ROOM]
     requires some { IsPossible at.now }
     requires claim { IsClaimOf at.now claim.now }
     requires rows { HasAllRows at.now }
-    requires room { bidders_of at.now.book.now ≤ length values.old }
-    ensures room { length values.new ≡ length values.old }
-    ensures values { (c : CertValue) → IsAt at.now c → AreValuesWithout at.now.book.now c.choice c.withouts values.new }
+    ensures { (c : CertValue) → IsAt at.now c → AreValuesWithout at.now.book.now c.choice c.withouts result }
 {
+    let mut values = [0i128; BIDDER_ROOM];
     for k in 0..at.book.bidders() {
         values[k] = part_value(at, claim, k as u16 + 1);
     }
+    values
 }
 
 /// The value of the choice without bidder `j`, and 0 where it loses.

@@ -1,6 +1,5 @@
 // The lines of bidders and of their bids.
-ghost use Rattle.std.specs.Prelude.{IfNone, IfSome, IsFalse, List, None, OnOk, Some, codes, length, ℕ, ◌++◌, ◌<◌, ◌↔◌, ◌≡◌, ◌≢◌};
-ghost use Rattle.std.specs.List.{AllByRecursion};
+ghost use Rattle.std.specs.Prelude.{IfNone, IfSome, List, None, OnOk, Some, codes, length, ℕ, ◌++◌, ◌<◌, ◌≡◌};
 ghost use Rattle.slot_places.specs.Slots.{SlotBid, SlotList};
 ghost use Rattle.slot_places.specs.Fields.{bid_value};
 ghost use Rattle.slot_places.specs.Stages.{Adds, AddsBidder, AddsPlace, IsEntrant, IsNextPlace, excess_of};
@@ -49,23 +48,11 @@ fn read_bidder<'a>(slots: &Slots, fields: &'a [u8]) -> Option<(&'a str, u16)>
 {
     let (first, second) = two_fields(fields)?;
     let text = name_text(first)?;
-    if is_used(slots, first) {
+    if slots.has_bidder(text) {
         return None;
     }
     let width = read_within(second, 1, slots.room() as u64)?;
     Some((text, width as u16))
-}
-
-/// Whether a bidder has this name.
-fn is_used(slots: &Slots, name: &[u8]) -> bool
-    ensures { IsFalse result ↔ AllByRecursion (λ b. b.name ≢ name.now) slots.now.bidders }
-{
-    for j in 0..slots.bidders() as u16 {
-        if slots.name(j + 1).as_bytes() == name {
-            return true;
-        }
-    }
-    false
 }
 
 /// Takes the line of a bid of the last bidder.

@@ -27,8 +27,8 @@ returns-in_err-statement-clause-err c =
     fault_stop (Left c.args.reader.now) c.args.award.now c.loop-row.events fields fault c.from_residual-in_err-statement.result p.0 p.1 p.2
     (subst (λ (es : List Event). IsUntaken c.args.award.now fields (length es) fault) c.items.ensures c.in_err-statement.ensures.err)
     (λ rows left.
-    next-is c.args.award.now rows c.loop-row.reader c.take_record.new.reader c.loop-row.events c.in_ok-take_record.field-0 fields c.if-branch.true
-    c.in_ok-take_record.ensures.ok (inv.1 rows left))
+    next-is c.args.award.now rows c.loop-row.reader c.take_record.new.reader c.loop-row.events c.in_ok-take_record.field-0 fields
+    c.in_ok-take_record.ensures.ok (inv.1 rows left) c.if-branch.true)
 
 pub loop-row-preserved : goal.loop-row-preserved
 loop-row-preserved c =
@@ -40,11 +40,11 @@ loop-row-preserved c =
     let event = subst (States c.args.award.now fields) (sym c.in_ok-event.ensures) stated.1 in
     let pushed = c.in_ok-push.ensures.pushed in (
       omega (arith, few, ap length pushed, length-append c.loop-row.events (c.in_ok-event.event ∷ [])),
-      λ rows left. read-more c.args.award.now rows c.loop-row.reader c.take_record.new.reader c.loop-row.events c.push.new.self c.in_ok-take_record.field-0
-          fields c.in_ok-event.event c.if-branch.true c.in_ok-take_record.ensures.ok (inv.1 rows left) few event pushed,
+      λ rows left. read-more c.args.award.now rows c.loop-row.reader c.take_record.new.reader c.loop-row.events c.in_ok-take_record.field-0 fields
+          c.in_ok-take_record.ensures.ok (inv.1 rows left) c.push.new.self c.in_ok-event.event c.if-branch.true few event pushed,
     )
 
 pub returns-clause-ok : goal.returns-clause-ok
 returns-clause-ok c = λ rows left.
     read-all c.args.award.now rows c.loop-row.reader c.take_record.new.reader c.loop-row.events c.in_ok-take_record.field-0 (fields_of c.take_record.new.row)
-    c.if-branch.false c.in_ok-take_record.ensures.ok (c.loop-row.invariant.1 rows left)
+    c.in_ok-take_record.ensures.ok (c.loop-row.invariant.1 rows left) c.if-branch.false

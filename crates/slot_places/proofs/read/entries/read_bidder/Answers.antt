@@ -15,12 +15,13 @@ returns-in_err-text-clause-none c =
     let parts = entrant_fields c.args.slots.now c.args.fields.now c.in_ok-first.first.now c.in_ok-first.second.now name width found.1 found.0 e in
     c.in_err-text.ensures.none (subst IsName parts.0 e.valid))
 
-pub returns-then-is_used-clause-none : goal.returns-then-is_used-clause-none
-returns-then-is_used-clause-none c = λ name width e.
+pub returns-then-has_bidder-clause-none : goal.returns-then-has_bidder-clause-none
+returns-then-has_bidder-clause-none c = λ name width e.
     let found = c.in_ok-first.ensures.found in
     let parts = entrant_fields c.args.slots.now c.args.fields.now c.in_ok-first.first.now c.in_ok-first.second.now name width found.1 found.0 e in
-    let free = c.is_used.ensures.1 (subst (λ (l : List ℕ). AllByRecursion (λ (b : SlotBidder). b.name ≢ l) c.args.slots.now.bidders) parts.0 e.unused) in
-    false≢true (sym free ∙ c.if-is_used.true)
+    let free = c.has_bidder.ensures.1 (subst (λ (l : List ℕ). AllByRecursion (λ (b : SlotBidder). b.name ≢ l) c.args.slots.now.bidders)
+    (parts.0 ∙ sym c.in_ok-text.ensures.some.0) e.unused) in
+    false≢true (sym free ∙ c.if-has_bidder.true)
 
 pub returns-in_err-width-clause-none : goal.returns-in_err-width-clause-none
 returns-in_err-width-clause-none c =
@@ -37,4 +38,4 @@ returns-clause-found c =
     let found = c.in_ok-first.ensures.found in
     let width = c.in_ok-width.ensures.found in
     made_entrant c.args.slots.now c.args.fields.now c.in_ok-first.first.now c.in_ok-first.second.now c.in_ok-text.text.now c.in_ok-width.width c.room.result found.1 c.in_ok-text.ensures.some.0 c.in_ok-text.ensures.some.1
-    (c.is_used.ensures.0 c.if-is_used.false) width.0.0 width.0.1 width.1 c.room.ensures
+    (c.has_bidder.ensures.0 c.if-has_bidder.false) width.0.0 width.0.1 width.1 c.room.ensures

@@ -1,5 +1,5 @@
 use Rattle.place_cert.proofs.Written.{next_row}
-use Rattle.place_cert.proofs.write.add_rows.Goals as goal
+use Rattle.place_cert.proofs.write.add_payments.Goals as goal
 
 pub loop-row-preserved : goal.loop-row-preserved
 loop-row-preserved c =
