@@ -3,14 +3,11 @@ ghost use Rattle.weights_file.specs.auction_model.specs.Book.{market_of};
 ghost use Rattle.slot_places.specs.choices.specs.Lowering.{CanLower};
 ghost use Rattle.vickrey.specs.value_table.specs.SideValues.{AreSidesOf};
 
+use crate::samples::DAY_CRAMTON;
 use slot_places::choices::{Chooser, Found, first_by_listing, value};
 use std::alloc::{AllocError, Global};
 use vickrey::value_table::{BookChooser, Sides, ValueTable, win};
 use weights_file::bid_book::{BidBook, read_book};
-
-/// One lot of each of two categories; b1 and b2 win it.
-const BOOK: &str =
-    "book 1\nsupply 1 1\nreserve 0 0\nbidder b1\nbid 1 0 28\nbidder b2\nbid 0 1 20\nbidder b3\nbid 1 1 32\nbidder b4\nbid 1 0 14\nbidder b5\nbid 0 1 12\nend\n";
 
 /// One lot of each of two categories; a and b win it, and c bids for both.
 const TWO_OR_ONE: &str =
@@ -48,7 +45,7 @@ fn search(
 
 #[test]
 fn a_chooser_searches_at_surpluses(rt: HostRuntime) -> Result<(), AllocError> {
-    let Ok(book) = read_book(rt.alloc(), BOOK.as_bytes()) else {
+    let Ok(book) = read_book(rt.alloc(), DAY_CRAMTON.as_bytes()) else {
         panic!(rt; "this is a book");
     };
     let chooser = BookChooser::new(&book, win(rt.alloc(), &book)?);
@@ -109,7 +106,7 @@ fn are_values_without(book: &BidBook, sides: &Sides, values: &[i128]) -> bool
 
 #[test]
 fn sides_give_the_values_without_each_bidder(rt: HostRuntime) -> Result<(), AllocError> {
-    let Ok(book) = read_book(rt.alloc(), BOOK.as_bytes()) else {
+    let Ok(book) = read_book(rt.alloc(), DAY_CRAMTON.as_bytes()) else {
         panic!(rt; "this is a book");
     };
     let sides = Sides::build(rt.alloc(), &book)?;
@@ -126,7 +123,8 @@ fn sides_give_the_values_without_each_bidder(rt: HostRuntime) -> Result<(), Allo
 
 /// Two lots of one category with a reserve of 1, and one lot of another.
 const THREE: &str =
-    "book 1\nsupply 2 1\nreserve 1 0\nbidder a\nbid 1 0 10\nbid 2 0 16\nbidder b\nbid 0 1 5\nbid 1 1 12\nbidder c\nbid 1 0 5\nbid 1 1 9\nend\n";
+    "book 1\nsupply 2 1\nreserve 1 0\nbidder a\nbid 1 0 10\nbid 2 0 16\nbidder b\nbid 0 1 5\nbid 1 1 12\nbidder c\n\
+    bid 1 0 5\nbid 1 1 9\nend\n";
 
 /// The same book without a, without b and without c.
 const TWO_OF_THREE: &[&str] = &[
