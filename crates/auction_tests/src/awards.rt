@@ -24,7 +24,9 @@ fn stop_at(alloc: Global, parts: &[&str]) -> Result<Option<AwardStop>, AllocErro
 #[test]
 fn tells_what_an_award_states(rt: HostRuntime) -> Result<(), Fail> {
     let text =
-        "version = 1\ntick = 1\n\n[[category]]\nname = \"lot\"\nsupply = 3\npoints = 1\nreserve = 10\n\n[[bidder]]\nname = \"east\"\neligibility = 3\n\n[[bidder]]\nname = \"west\"\neligibility = 2\n\n[[step]]\nexcess = 1\npermille = 200\n";
+        "version = 1\ntick = 1\n\n[[category]]\nname = \"lot\"\nsupply = 3\npoints = 1\nreserve = 10\n\n[[bidder]]\n\
+        name = \"east\"\neligibility = 3\n\n[[bidder]]\nname = \"west\"\neligibility = 2\n\n[[step]]\nexcess = 1\n\
+        permille = 200\n";
     let Ok(award) = read_award(rt.alloc(), text.as_bytes()) else {
         panic!(rt; "this is an award");
     };
@@ -54,7 +56,12 @@ fn tells_what_an_award_states(rt: HostRuntime) -> Result<(), Fail> {
 #[test]
 fn reads_every_spelling(rt: HostRuntime) -> Result<(), Fail> {
     let text =
-        "\u{feff}'cap' = [{weight = [0, 1_000], limit = 2000}, {limit = 0x7_d1, weight = [1, 1000]}] # caps\r\n\"tick\" = 0x10\r\ncategory = [{name = 'a', supply = 1, points = 0b11, reserve = +0}, {name = '''b''', supply = 2, points = 10_000, reserve = 68719476736}]\r\nstep = [{excess = 1, permille = 1}, {excess = 1_000, permille = 1000}]\r\nversion = 2\r\n[[ bidder ]]\r\nholding = [\r\n  999, # the first category\r\n  2,\r\n]\r\neligibility = 1000000\r\nname = \"a_name_of_20_bytes__\"\r\n";
+        "\u{feff}'cap' = [{weight = [0, 1_000], limit = 2000}, {limit = 0x7_d1, weight = [1, 1000]}] # caps\r\n\
+        \"tick\" = 0x10\r\n\
+        category = [{name = 'a', supply = 1, points = 0b11, reserve = +0}, {name = '''b''', supply = 2, points = 10_000, reserve = 68719476736}]\r\n\
+        step = [{excess = 1, permille = 1}, {excess = 1_000, permille = 1000}]\r\nversion = 2\r\n[[ bidder ]]\r\n\
+        holding = [\r\n  999, # the first category\r\n  2,\r\n]\r\neligibility = 1000000\r\n\
+        name = \"a_name_of_20_bytes__\"\r\n";
     let Ok(award) = read_award(rt.alloc(), text.as_bytes()) else {
         panic!(rt; "this is an award");
     };

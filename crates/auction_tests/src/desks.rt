@@ -89,63 +89,92 @@ fn add_book(rt: &impl Abort, text: &mut String, alloc: Global, desk: &Desk) -> R
 
 /// One category of three lots for two bidders.
 const LOTS: &str =
-    "version = 1\ntick = 1\ncategory = [{ name = \"lot\", supply = 3, points = 1, reserve = 10 }]\nbidder = [{ name = \"east\", eligibility = 3 }, { name = \"west\", eligibility = 2 }]\nstep = [{ excess = 1, permille = 200 }]\n";
+    "version = 1\ntick = 1\ncategory = [{ name = \"lot\", supply = 3, points = 1, reserve = 10 }]\n\
+    bidder = [{ name = \"east\", eligibility = 3 }, { name = \"west\", eligibility = 2 }]\n\
+    step = [{ excess = 1, permille = 200 }]\n";
 
 /// The same with a spectrum cap.
 const CAPPED: &str =
-    "version = 1\ntick = 1\ncategory = [{ name = \"lot\", supply = 3, points = 1, reserve = 10 }]\nbidder = [{ name = \"east\", eligibility = 3 }, { name = \"west\", eligibility = 2 }]\nstep = [{ excess = 1, permille = 200 }]\ncap = [{ weight = [1], limit = 2 }]\n";
+    "version = 1\ntick = 1\ncategory = [{ name = \"lot\", supply = 3, points = 1, reserve = 10 }]\n\
+    bidder = [{ name = \"east\", eligibility = 3 }, { name = \"west\", eligibility = 2 }]\n\
+    step = [{ excess = 1, permille = 200 }]\ncap = [{ weight = [1], limit = 2 }]\n";
 
 /// Two categories for two bidders, with prices that double.
-const DOUBLING: &str =
-    "version = 1\ntick = 1\ncategory = [{ name = \"a\", supply = 2, points = 1, reserve = 10 }, { name = \"c\", supply = 3, points = 1, reserve = 10 }]\nbidder = [{ name = \"east\", eligibility = 3 }, { name = \"west\", eligibility = 1 }]\nstep = [{ excess = 1, permille = 1000 }]\n";
+const DOUBLING: &str = "version = 1\ntick = 1\n\
+    category = [{ name = \"a\", supply = 2, points = 1, reserve = 10 }, { name = \"c\", supply = 3, points = 1, reserve = 10 }]\n\
+    bidder = [{ name = \"east\", eligibility = 3 }, { name = \"west\", eligibility = 1 }]\n\
+    step = [{ excess = 1, permille = 1000 }]\n";
 
 /// The same with a final cap.
-const FINAL: &str =
-    "version = 2\ntick = 1\ncategory = [{ name = \"a\", supply = 2, points = 1, reserve = 10 }, { name = \"c\", supply = 3, points = 1, reserve = 10 }]\nbidder = [{ name = \"east\", eligibility = 3 }, { name = \"west\", eligibility = 1 }]\nstep = [{ excess = 1, permille = 1000 }]\n";
+const FINAL: &str = "version = 2\ntick = 1\n\
+    category = [{ name = \"a\", supply = 2, points = 1, reserve = 10 }, { name = \"c\", supply = 3, points = 1, reserve = 10 }]\n\
+    bidder = [{ name = \"east\", eligibility = 3 }, { name = \"west\", eligibility = 1 }]\n\
+    step = [{ excess = 1, permille = 1000 }]\n";
 
 /// An award, a log and what is replayed of it.
 const REPLAYS: &[(&str, &str, &str)] = &[
     // A list above its cap, and then at it.
     (
         LOTS,
-        "bid,east,3,\nbid,west,2,\nclose,,,\nbid,east,1,\nbid,west,2,\nclose,,,\ndraft,east,1,20\ndraft,east,3,45\nsubmit,east,,\ndraft,east,3,44\nsubmit,east,,\nclose,,,\nclose,,,\n",
-        "Ok\nOk\nOk Clock 2 [12]\nOk\nOk\nOk Sealed 2 [12]\nOk\nOk\nRelativeCap { entry: 2, limit: 44 }\nOk\nOk\nOk Closed 2 [12]\nStage Closed 2 [12]\nbook 1\nsupply 3\nreserve 10\nbidder east\nbid 1 20\nbid 3 44\nbidder west\nbid 2 24\nend\n",
+        "bid,east,3,\nbid,west,2,\nclose,,,\nbid,east,1,\nbid,west,2,\nclose,,,\ndraft,east,1,20\ndraft,east,3,45\n\
+        submit,east,,\ndraft,east,3,44\nsubmit,east,,\nclose,,,\nclose,,,\n",
+        "Ok\nOk\nOk Clock 2 [12]\nOk\nOk\nOk Sealed 2 [12]\nOk\nOk\nRelativeCap { entry: 2, limit: 44 }\nOk\nOk\n\
+        Ok Closed 2 [12]\nStage Closed 2 [12]\nbook 1\nsupply 3\nreserve 10\nbidder east\nbid 1 20\nbid 3 44\n\
+        bidder west\nbid 2 24\nend\n",
     ),
     // The list without the entry that is above.
     (
         LOTS,
-        "bid,east,3,\nbid,west,2,\nclose,,,\nbid,east,1,\nbid,west,2,\nclose,,,\ndraft,east,1,20\ndraft,east,3,45\nsubmit,east,,\ndrop,east,3,\nsubmit,east,,\nclose,,,\n",
-        "Ok\nOk\nOk Clock 2 [12]\nOk\nOk\nOk Sealed 2 [12]\nOk\nOk\nRelativeCap { entry: 2, limit: 44 }\nOk\nOk\nOk Closed 2 [12]\nbook 1\nsupply 3\nreserve 10\nbidder east\nbid 1 20\nbid 3 30\nbidder west\nbid 2 24\nend\n",
+        "bid,east,3,\nbid,west,2,\nclose,,,\nbid,east,1,\nbid,west,2,\nclose,,,\ndraft,east,1,20\ndraft,east,3,45\n\
+        submit,east,,\ndrop,east,3,\nsubmit,east,,\nclose,,,\n",
+        "Ok\nOk\nOk Clock 2 [12]\nOk\nOk\nOk Sealed 2 [12]\nOk\nOk\nRelativeCap { entry: 2, limit: 44 }\nOk\nOk\n\
+        Ok Closed 2 [12]\nbook 1\nsupply 3\nreserve 10\nbidder east\nbid 1 20\nbid 3 30\nbidder west\nbid 2 24\nend\n",
     ),
     // Two bidders who draft first.
     (
         LOTS,
-        "bid,east,3,\nbid,west,2,\nclose,,,\nbid,east,1,\nbid,west,2,\nclose,,,\ndraft,east,1,20\ndraft,west,2,30\nsubmit,east,,\nsubmit,west,,\nclose,,,\n",
-        "Ok\nOk\nOk Clock 2 [12]\nOk\nOk\nOk Sealed 2 [12]\nOk\nOk\nOk\nOk\nOk Closed 2 [12]\nbook 1\nsupply 3\nreserve 10\nbidder east\nbid 1 20\nbid 3 30\nbidder west\nbid 2 30\nend\n",
+        "bid,east,3,\nbid,west,2,\nclose,,,\nbid,east,1,\nbid,west,2,\nclose,,,\ndraft,east,1,20\ndraft,west,2,30\n\
+        submit,east,,\nsubmit,west,,\nclose,,,\n",
+        "Ok\nOk\nOk Clock 2 [12]\nOk\nOk\nOk Sealed 2 [12]\nOk\nOk\nOk\nOk\nOk Closed 2 [12]\nbook 1\nsupply 3\n\
+        reserve 10\nbidder east\nbid 1 20\nbid 3 30\nbidder west\nbid 2 30\nend\n",
     ),
     // Two bidders one after the other.
     (
         LOTS,
-        "bid,east,3,\nbid,west,2,\nclose,,,\nbid,east,1,\nbid,west,2,\nclose,,,\ndraft,east,1,20\nsubmit,east,,\ndraft,west,2,30\nsubmit,west,,\nclose,,,\n",
-        "Ok\nOk\nOk Clock 2 [12]\nOk\nOk\nOk Sealed 2 [12]\nOk\nOk\nOk\nOk\nOk Closed 2 [12]\nbook 1\nsupply 3\nreserve 10\nbidder east\nbid 1 20\nbid 3 30\nbidder west\nbid 2 30\nend\n",
+        "bid,east,3,\nbid,west,2,\nclose,,,\nbid,east,1,\nbid,west,2,\nclose,,,\ndraft,east,1,20\nsubmit,east,,\n\
+        draft,west,2,30\nsubmit,west,,\nclose,,,\n",
+        "Ok\nOk\nOk Clock 2 [12]\nOk\nOk\nOk Sealed 2 [12]\nOk\nOk\nOk\nOk\nOk Closed 2 [12]\nbook 1\nsupply 3\n\
+        reserve 10\nbidder east\nbid 1 20\nbid 3 30\nbidder west\nbid 2 30\nend\n",
     ),
     // A bid that is replaced in its round.
     (
         LOTS,
-        "bid,east,2,\nbid,east,3,\nbid,west,2,\nclose,,,\nbid,east,1,\nbid,west,2,\nclose,,,\ndraft,east,1,20\ndraft,east,3,45\nsubmit,east,,\ndraft,east,3,44\nsubmit,east,,\nclose,,,\n",
-        "Ok\nOk\nOk\nOk Clock 2 [12]\nOk\nOk\nOk Sealed 2 [12]\nOk\nOk\nRelativeCap { entry: 2, limit: 44 }\nOk\nOk\nOk Closed 2 [12]\nbook 1\nsupply 3\nreserve 10\nbidder east\nbid 1 20\nbid 3 44\nbidder west\nbid 2 24\nend\n",
+        "bid,east,2,\nbid,east,3,\nbid,west,2,\nclose,,,\nbid,east,1,\nbid,west,2,\nclose,,,\ndraft,east,1,20\n\
+        draft,east,3,45\nsubmit,east,,\ndraft,east,3,44\nsubmit,east,,\nclose,,,\n",
+        "Ok\nOk\nOk\nOk Clock 2 [12]\nOk\nOk\nOk Sealed 2 [12]\nOk\nOk\nRelativeCap { entry: 2, limit: 44 }\nOk\nOk\n\
+        Ok Closed 2 [12]\nbook 1\nsupply 3\nreserve 10\nbidder east\nbid 1 20\nbid 3 44\nbidder west\nbid 2 24\nend\n",
     ),
     // Lists that differ in a few entries from the one that was tested last.
     (
         LOTS,
-        "bid,east,3,\nbid,west,2,\nclose,,,\nbid,east,1,\nbid,west,2,\nclose,,,\ndraft,east,1,20\ndraft,east,3,45\nsubmit,east,,\ndraft,east,2,33\nsubmit,east,,\ndraft,east,1,21\nsubmit,east,,\ndrop,east,1,\nsubmit,east,,\ndraft,east,1,21\nsubmit,east,,\ndraft,east,1,20\nsubmit,east,,\nclose,,,\n",
-        "Ok\nOk\nOk Clock 2 [12]\nOk\nOk\nOk Sealed 2 [12]\nOk\nOk\nRelativeCap { entry: 2, limit: 44 }\nOk\nRelativeCap { entry: 2, limit: 32 }\nOk\nOk\nOk\nRelativeCap { entry: 1, limit: 24 }\nOk\nOk\nOk\nRelativeCap { entry: 2, limit: 32 }\nOk Closed 2 [12]\nbook 1\nsupply 3\nreserve 10\nbidder east\nbid 1 21\nbid 2 33\nbid 3 45\nbidder west\nbid 2 24\nend\n",
+        "bid,east,3,\nbid,west,2,\nclose,,,\nbid,east,1,\nbid,west,2,\nclose,,,\ndraft,east,1,20\ndraft,east,3,45\n\
+        submit,east,,\ndraft,east,2,33\nsubmit,east,,\ndraft,east,1,21\nsubmit,east,,\ndrop,east,1,\nsubmit,east,,\n\
+        draft,east,1,21\nsubmit,east,,\ndraft,east,1,20\nsubmit,east,,\nclose,,,\n",
+        "Ok\nOk\nOk Clock 2 [12]\nOk\nOk\nOk Sealed 2 [12]\nOk\nOk\nRelativeCap { entry: 2, limit: 44 }\nOk\n\
+        RelativeCap { entry: 2, limit: 32 }\nOk\nOk\nOk\nRelativeCap { entry: 1, limit: 24 }\nOk\nOk\nOk\n\
+        RelativeCap { entry: 2, limit: 32 }\nOk Closed 2 [12]\nbook 1\nsupply 3\nreserve 10\nbidder east\nbid 1 21\n\
+        bid 2 33\nbid 3 45\nbidder west\nbid 2 24\nend\n",
     ),
     // A package that was held in two rounds counts with the greater of its prices.
     (
         DOUBLING,
-        "bid,east,2 0,\nbid,west,1 0,\nclose,,,\nbid,east,2 0,\nbid,west,1 0,\nclose,,,\nbid,east,0 1,\nbid,west,1 0,\nclose,,,\ndraft,east,0 3,51\nsubmit,east,,\ndraft,east,2 0,45\ndraft,east,0 3,55\nsubmit,east,,\ndraft,east,0 3,56\nsubmit,east,,\ndrop,east,2 0,\nsubmit,east,,\nclose,,,\n",
-        "Ok\nOk\nOk Clock 2 [20, 10]\nOk\nOk\nOk Clock 3 [40, 10]\nOk\nOk\nOk Sealed 3 [40, 10]\nOk\nRelativeCap { entry: 1, limit: 50 }\nOk\nOk\nOk\nOk\nRelativeCap { entry: 1, limit: 55 }\nOk\nRelativeCap { entry: 1, limit: 50 }\nOk Closed 3 [40, 10]\nbook 1\nsupply 2 3\nreserve 10 10\nbidder east\nbid 0 1 10\nbid 0 3 55\nbid 2 0 45\nbidder west\nbid 1 0 40\nend\n",
+        "bid,east,2 0,\nbid,west,1 0,\nclose,,,\nbid,east,2 0,\nbid,west,1 0,\nclose,,,\nbid,east,0 1,\nbid,west,1 0,\n\
+        close,,,\ndraft,east,0 3,51\nsubmit,east,,\ndraft,east,2 0,45\ndraft,east,0 3,55\nsubmit,east,,\n\
+        draft,east,0 3,56\nsubmit,east,,\ndrop,east,2 0,\nsubmit,east,,\nclose,,,\n",
+        "Ok\nOk\nOk Clock 2 [20, 10]\nOk\nOk\nOk Clock 3 [40, 10]\nOk\nOk\nOk Sealed 3 [40, 10]\nOk\n\
+        RelativeCap { entry: 1, limit: 50 }\nOk\nOk\nOk\nOk\nRelativeCap { entry: 1, limit: 55 }\nOk\n\
+        RelativeCap { entry: 1, limit: 50 }\nOk Closed 3 [40, 10]\nbook 1\nsupply 2 3\nreserve 10 10\nbidder east\n\
+        bid 0 1 10\nbid 0 3 55\nbid 2 0 45\nbidder west\nbid 1 0 40\nend\n",
     ),
     // Lines that are refused in the first round.
     (
@@ -161,19 +190,25 @@ const REPLAYS: &[(&str, &str, &str)] = &[
     // Lines that are refused in the sealed round.
     (
         LOTS,
-        "bid,east,3,\nbid,west,2,\nclose,,,\nbid,east,1,\nbid,west,2,\nclose,,,\nbid,east,1,\ndraft,north,1,20\ndrop,north,1,\nsubmit,north,,\ndraft,east,4,20\ndraft,west,3,20\ndraft,east,0,5\ndraft,east,1,9\ndraft,east,1,11\ndrop,east,2,\ndraft,east,1,4398046511105\ndraft,east,1,4398046511104\n",
-        "Ok\nOk\nOk Clock 2 [12]\nOk\nOk\nOk Sealed 2 [12]\nStage\nUnknown\nUnknown\nUnknown\nSupply(1)\nPoints(2)\nEmpty\nBelowReserve(10)\nBelowClock(12)\nNoDraft\nAmountTop(4398046511104)\nOk\nno book\n",
+        "bid,east,3,\nbid,west,2,\nclose,,,\nbid,east,1,\nbid,west,2,\nclose,,,\nbid,east,1,\ndraft,north,1,20\n\
+        drop,north,1,\nsubmit,north,,\ndraft,east,4,20\ndraft,west,3,20\ndraft,east,0,5\ndraft,east,1,9\n\
+        draft,east,1,11\ndrop,east,2,\ndraft,east,1,4398046511105\ndraft,east,1,4398046511104\n",
+        "Ok\nOk\nOk Clock 2 [12]\nOk\nOk\nOk Sealed 2 [12]\nStage\nUnknown\nUnknown\nUnknown\nSupply(1)\nPoints(2)\n\
+        Empty\nBelowReserve(10)\nBelowClock(12)\nNoDraft\nAmountTop(4398046511104)\nOk\nno book\n",
     ),
     // An entry below the cap of its constraining round and above the final cap.
     (
         DOUBLING,
-        "bid,east,2 0,\nbid,west,1 0,\nclose,,,\nbid,east,0 1,\nbid,west,1 0,\nclose,,,\ndraft,east,0 1,12\ndraft,east,2 0,42\ndraft,east,0 3,33\nsubmit,east,,\n",
+        "bid,east,2 0,\nbid,west,1 0,\nclose,,,\nbid,east,0 1,\nbid,west,1 0,\nclose,,,\ndraft,east,0 1,12\n\
+        draft,east,2 0,42\ndraft,east,0 3,33\nsubmit,east,,\n",
         "Ok\nOk\nOk Clock 2 [20, 10]\nOk\nOk\nOk Sealed 2 [20, 10]\nOk\nOk\nOk\nOk\nno book\n",
     ),
     (
         FINAL,
-        "bid,east,2 0,\nbid,west,1 0,\nclose,,,\nbid,east,0 1,\nbid,west,1 0,\nclose,,,\ndraft,east,0 1,12\ndraft,east,2 0,42\ndraft,east,0 3,33\nsubmit,east,,\n",
-        "Ok\nOk\nOk Clock 2 [20, 10]\nOk\nOk\nOk Sealed 2 [20, 10]\nOk\nOk\nOk\nRelativeCap { entry: 2, limit: 32 }\nno book\n",
+        "bid,east,2 0,\nbid,west,1 0,\nclose,,,\nbid,east,0 1,\nbid,west,1 0,\nclose,,,\ndraft,east,0 1,12\n\
+        draft,east,2 0,42\ndraft,east,0 3,33\nsubmit,east,,\n",
+        "Ok\nOk\nOk Clock 2 [20, 10]\nOk\nOk\nOk Sealed 2 [20, 10]\nOk\nOk\nOk\nRelativeCap { entry: 2, limit: 32 }\n\
+        no book\n",
     ),
 ];
 

@@ -1,4 +1,5 @@
 // What the reader takes, and where it stops.
+use crate::samples::{DAY_CRAMTON, EDITS};
 use edits_file::review::Edit;
 use edits_file::{EditStop, Edits, read_edits};
 use std::alloc::{AllocError, Global};
@@ -6,10 +7,6 @@ use std::test::Fail;
 use weights_file::bid_book::read_book;
 use weights_file::limits::LimitKind;
 use weights_file::wide_num::Text;
-
-/// One lot of each of two categories, and five bidders.
-const BOOK: &str =
-    "book 1\nsupply 1 1\nreserve 0 0\nbidder b1\nbid 1 0 28\nbidder b2\nbid 0 1 20\nbidder b3\nbid 1 1 32\nbidder b4\nbid 1 0 14\nbidder b5\nbid 0 1 12\nend\n";
 
 // The edits that a text states for a book of one category without bidders, or why it states none.
 fn read_small(alloc: Global, text: &[u8]) -> Result<Result<Edits, EditStop>, AllocError> {
@@ -53,12 +50,10 @@ fn removes(edit: &Edit, j: u16, counts: &[u16]) -> bool {
 
 #[test]
 fn reads_the_edits_of_a_book(rt: HostRuntime) {
-    let Ok(book) = read_book(rt.alloc(), BOOK.as_bytes()) else {
+    let Ok(book) = read_book(rt.alloc(), DAY_CRAMTON.as_bytes()) else {
         panic!(rt; "this is a book");
     };
-    let text =
-        "edits 1\nraise b3 1 1 50\nadd b4 0 1 23\ndrop b1 1 0\nraise b3 1 1 50\nadd north 1 0 5\nend\n";
-    let Ok(edits) = read_edits(rt.alloc(), text.as_bytes(), &book) else {
+    let Ok(edits) = read_edits(rt.alloc(), EDITS.as_bytes(), &book) else {
         panic!(rt; "these are edits");
     };
     let [first, second, third, fourth, fifth] = edits.items() else {

@@ -14,6 +14,8 @@ mod printed_edits;
 #[cfg(test)]
 mod reviews;
 #[cfg(test)]
+mod samples;
+#[cfg(test)]
 mod slots;
 #[cfg(test)]
 mod tables;

@@ -1,14 +1,11 @@
 // The texts of the reviews of small books.
+use crate::samples::{DAY_CRAMTON, EDITS};
 use edits_file::read_edits;
 use outcome::review_text;
 use std::alloc::{AllocError, Global};
 use std::test::Fail;
 use weights_file::bid_book::read_book;
 use weights_file::wide_num::Text;
-
-/// One lot of each of two categories; b1 and b2 win it.
-const BOOK: &str =
-    "book 1\nsupply 1 1\nreserve 0 0\nbidder b1\nbid 1 0 28\nbidder b2\nbid 0 1 20\nbidder b3\nbid 1 1 32\nbidder b4\nbid 1 0 14\nbidder b5\nbid 0 1 12\nend\n";
 
 // The text for a book and its edits.
 fn printed(alloc: Global, book: &str, edits: &str) -> Result<Text, AllocError> {
@@ -23,11 +20,10 @@ fn printed(alloc: Global, book: &str, edits: &str) -> Result<Text, AllocError> {
 
 #[test]
 fn prints_what_each_edit_makes_of_a_book(rt: HostRuntime) -> Result<(), Fail> {
-    let edits =
-        "edits 1\nraise b3 1 1 50\nadd b4 0 1 23\ndrop b1 1 0\nraise b3 1 1 50\nadd north 1 0 5\nend\n";
-    let text = printed(rt.alloc(), BOOK, edits)?;
+    let text = printed(rt.alloc(), DAY_CRAMTON, EDITS)?;
     let expected =
-        "0 net 48 choice 1 1 0 0 0\n1 net 50 choice 0 0 1 0 0\n2 net 51 choice 1 0 0 1 0\n3 net 50 choice 0 0 1 0 0\n4 not-higher 50\n5 unknown\nwinner b3 1 1 50\nnet 50\n";
+        "0 net 48 choice 1 1 0 0 0\n1 net 50 choice 0 0 1 0 0\n2 net 51 choice 1 0 0 1 0\n3 net 50 choice 0 0 1 0 0\n\
+        4 not-higher 50\n5 unknown\nwinner b3 1 1 50\nnet 50\n";
     assert!(rt; text.items() == expected.as_bytes());
     Ok(())
 }
@@ -39,7 +35,8 @@ fn prints_each_refusal(rt: HostRuntime) -> Result<(), Fail> {
         "edits 1\nadd b1 3 9\ndrop b1 0\nadd b1 1 9\ndrop b1 2\nadd b1 2 5\nraise b1 1 4398046511105\nend\n";
     let text = printed(rt.alloc(), book, edits)?;
     let expected =
-        "0 net 2 choice 1\n1 supply 1\n2 empty\n3 present 5\n4 absent\n5 below-reserve 6\n6 amount-top 4398046511104\nwinner b1 1 5\nnet 2\n";
+        "0 net 2 choice 1\n1 supply 1\n2 empty\n3 present 5\n4 absent\n5 below-reserve 6\n6 amount-top 4398046511104\n\
+        winner b1 1 5\nnet 2\n";
     assert!(rt; text.items() == expected.as_bytes());
     Ok(())
 }

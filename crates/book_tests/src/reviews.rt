@@ -2,16 +2,13 @@
 ghost use Rattle.std.specs.Prelude.{◌≡◌, length};
 ghost use Rattle.edits_file.specs.review.specs.Edits.{edit_lots};
 
+use crate::samples::DAY_CRAMTON;
 use edits_file::review::{Edit, EditReply, Review};
 use slot_places::choices::value;
 use std::alloc::{AllocError, Global};
 use vickrey::value_table::win;
 use weights_file::bid_book::read_book;
 use weights_file::lots::{LotStop, Package};
-
-/// One lot of each of two categories; b1 and b2 win it.
-const BOOK: &str =
-    "book 1\nsupply 1 1\nreserve 0 0\nbidder b1\nbid 1 0 28\nbidder b2\nbid 0 1 20\nbidder b3\nbid 1 1 32\nbidder b4\nbid 1 0 14\nbidder b5\nbid 0 1 12\nend\n";
 
 // How many categories the package of an edit has.
 fn categories_of(edit: &Edit) -> usize
@@ -63,7 +60,7 @@ fn removed(alloc: Global, bidder: u16, counts: &[u16]) -> Result<Edit, LotStop> 
 #[test]
 fn edits_change_the_winning_choice(rt: HostRuntime) -> Result<(), LotStop> {
     let alloc = rt.alloc();
-    let Ok(book) = read_book(alloc, BOOK.as_bytes()) else {
+    let Ok(book) = read_book(alloc, DAY_CRAMTON.as_bytes()) else {
         panic!(rt; "this is a book");
     };
     let mut review = Review::start(alloc, book)?;

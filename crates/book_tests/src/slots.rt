@@ -14,15 +14,18 @@ const THREE: &str =
 
 /// Several choices are worth as much.
 const TIES: &str =
-    "slots 1\nband 5\nbidder a 1\nplace 1 6\nplace 2 6\nplace 4 6\nbidder b 2\nplace 1 3\nplace 3 3\nbidder c 1\nplace 1 6\nplace 4 6\nend\n";
+    "slots 1\nband 5\nbidder a 1\nplace 1 6\nplace 2 6\nplace 4 6\nbidder b 2\nplace 1 3\nplace 3 3\nbidder c 1\n\
+    place 1 6\nplace 4 6\nend\n";
 
 /// A whole band, in which all bidders can win.
 const FOUR: &str =
-    "slots 1\nband 7\nbidder p 2\nplace 2 9\nplace 4 9\nplace 6 4\nbidder q 1\nplace 1 5\nplace 3 7\nbidder r 3\nplace 1 8\nplace 2 8\nplace 5 8\nbidder s 1\nplace 4 6\nplace 7 2\nend\n";
+    "slots 1\nband 7\nbidder p 2\nplace 2 9\nplace 4 9\nplace 6 4\nbidder q 1\nplace 1 5\nplace 3 7\nbidder r 3\n\
+    place 1 8\nplace 2 8\nplace 5 8\nbidder s 1\nplace 4 6\nplace 7 2\nend\n";
 
 /// A bid of the greatest amount for a start that no order gives.
 const LATE: &str =
-    "slots 1\nband 9\nbidder m 2\nplace 3 4\nplace 8 4398046511104\nbidder n 1\nplace 2 1\nbidder o 1\nplace 1 1\nend\n";
+    "slots 1\nband 9\nbidder m 2\nplace 3 4\nplace 8 4398046511104\nbidder n 1\nplace 2 1\nbidder o 1\nplace 1 1\nend\n\
+    ";
 
 fn slots_of(rt: &impl Abort, alloc: Global, text: &str) -> Slots {
     let Ok(slots) = read_slots(alloc, text.as_bytes()) else {

@@ -3,14 +3,11 @@ ghost use Rattle.weights_file.specs.auction_model.specs.Book.{market_of};
 ghost use Rattle.slot_places.specs.choices.specs.Lowering.{CanLower};
 ghost use Rattle.vickrey.specs.value_table.specs.SideValues.{AreSidesOf};
 
-use slot_places::choices::{Chooser, Found, first_by_listing, value};
+use crate::samples::DAY_CRAMTON;
+use slot_places::choices::{Chooser, Found, Grid, first_by_listing, value};
 use std::alloc::{AllocError, Global};
 use vickrey::value_table::{BookChooser, Sides, TurnTable, win};
 use weights_file::bid_book::{BidBook, read_book};
-
-/// One lot of each of two categories; b1 and b2 win it.
-const BOOK: &str =
-    "book 1\nsupply 1 1\nreserve 0 0\nbidder b1\nbid 1 0 28\nbidder b2\nbid 0 1 20\nbidder b3\nbid 1 1 32\nbidder b4\nbid 1 0 14\nbidder b5\nbid 0 1 12\nend\n";
 
 /// One lot of each of two categories; a and b win it, and c bids for both.
 const TWO_OR_ONE: &str =
@@ -33,22 +30,23 @@ fn are_surpluses(chooser: &BookChooser, surplus: &[i128]) -> bool
     true
 }
 
-// What the search at these surpluses finds, where they are surpluses.
+// What the search at these surpluses finds and the grid of its table, where they are surpluses.
 fn search(
     alloc: Global,
     chooser: &BookChooser,
     surplus: &[i128],
-) -> Result<Option<Found<TurnTable>>, AllocError> {
+) -> Result<Option<(Found<TurnTable>, Grid)>, AllocError> {
     if !are_surpluses(chooser, surplus) {
         return Ok(None);
     }
     let found = chooser.best_lowered(alloc, 1, surplus)?;
-    Ok(Some(found))
+    let grid = found.table.grid(alloc, chooser.book)?;
+    Ok(Some((found, grid)))
 }
 
 #[test]
 fn a_chooser_searches_at_surpluses(rt: HostRuntime) -> Result<(), AllocError> {
-    let Ok(book) = read_book(rt.alloc(), BOOK.as_bytes()) else {
+    let Ok(book) = read_book(rt.alloc(), DAY_CRAMTON.as_bytes()) else {
         panic!(rt; "this is a book");
     };
     let chooser = BookChooser::new(&book, win(rt.alloc(), &book)?);
@@ -56,7 +54,7 @@ fn a_chooser_searches_at_surpluses(rt: HostRuntime) -> Result<(), AllocError> {
     assert_eq!(rt; chooser.winner_value(1), 28);
     assert_eq!(rt; chooser.winner_value(3), 0);
     let surplus = [14i128, 8, 0, 0, 0];
-    let Some(found) = search(rt.alloc(), &chooser, &surplus)? else {
+    let Some((found, _)) = search(rt.alloc(), &chooser, &surplus)? else {
         panic!(rt; "these are surpluses");
     };
     assert_eq!(rt; found.sum, 32);
@@ -75,12 +73,11 @@ fn a_bidder_that_pays_more_than_its_bid_counts_where_it_is_not_used(
     };
     let chooser = BookChooser::new(&book, win(rt.alloc(), &book)?);
     assert!(rt; chooser.winners().numbers() == [1, 1, 0].as_slice());
-    let Some(found) = search(rt.alloc(), &chooser, &[-5, 9, 0])? else {
+    let Some((found, grid)) = search(rt.alloc(), &chooser, &[-5, 9, 0])? else {
         panic!(rt; "these are surpluses");
     };
     assert_eq!(rt; found.sum, 17);
     assert!(rt; found.choice.numbers() == [0, 0, 1].as_slice());
-    let grid = found.table.grid();
     if grid.lines() < 2 {
         panic!(rt; "a table has a line for each bidder");
     }
@@ -109,7 +106,7 @@ fn are_values_without(book: &BidBook, sides: &Sides, values: &[i128]) -> bool
 
 #[test]
 fn sides_give_the_values_without_each_bidder(rt: HostRuntime) -> Result<(), AllocError> {
-    let Ok(book) = read_book(rt.alloc(), BOOK.as_bytes()) else {
+    let Ok(book) = read_book(rt.alloc(), DAY_CRAMTON.as_bytes()) else {
         panic!(rt; "this is a book");
     };
     let sides = Sides::build(rt.alloc(), &book)?;
@@ -126,7 +123,8 @@ fn sides_give_the_values_without_each_bidder(rt: HostRuntime) -> Result<(), Allo
 
 /// Two lots of one category with a reserve of 1, and one lot of another.
 const THREE: &str =
-    "book 1\nsupply 2 1\nreserve 1 0\nbidder a\nbid 1 0 10\nbid 2 0 16\nbidder b\nbid 0 1 5\nbid 1 1 12\nbidder c\nbid 1 0 5\nbid 1 1 9\nend\n";
+    "book 1\nsupply 2 1\nreserve 1 0\nbidder a\nbid 1 0 10\nbid 2 0 16\nbidder b\nbid 0 1 5\nbid 1 1 12\nbidder c\n\
+    bid 1 0 5\nbid 1 1 9\nend\n";
 
 /// The same book without a, without b and without c.
 const TWO_OF_THREE: &[&str] = &[

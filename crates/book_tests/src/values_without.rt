@@ -1,15 +1,12 @@
+use crate::samples::DAY_CRAMTON;
 use std::alloc::AllocError;
 use vickrey::value_table::win;
 use vickrey::vickrey;
 use weights_file::bid_book::read_book;
 
-/// One lot of each of two categories; b1 and b2 win it.
-const BOOK: &str =
-    "book 1\nsupply 1 1\nreserve 0 0\nbidder b1\nbid 1 0 28\nbidder b2\nbid 0 1 20\nbidder b3\nbid 1 1 32\nbidder b4\nbid 1 0 14\nbidder b5\nbid 0 1 12\nend\n";
-
 #[test]
 fn winners_pay_what_the_others_lose_by_them(rt: HostRuntime) -> Result<(), AllocError> {
-    let Ok(book) = read_book(rt.alloc(), BOOK.as_bytes()) else {
+    let Ok(book) = read_book(rt.alloc(), DAY_CRAMTON.as_bytes()) else {
         panic!(rt; "this is a book");
     };
     let winners = win(rt.alloc(), &book)?;

@@ -1,30 +1,15 @@
 ghost use Rattle.std.specs.Prelude.{◌≡◌, length};
 ghost use Rattle.piece_check.specs.cert_pieces.specs.Rooms.{room_size};
 
+use crate::samples::{DAY_CRAMTON_CERT, DAY_CRAMTON_SHAPE};
 use piece_check::cert_pieces::{Reader, TextStop, room_len};
 use place_price::cert_text::{CertStop, Shape, read_cert};
 use place_price::limits::CERT_BYTES;
 use std::alloc::{AllocError, Global};
 use std::process::Abort;
 
-/// A certificate for five bidders and four states: 476 bytes, of which the last line has 4.
-const SAMPLE: &str = "cert 1\nden 1\nvalue 48\nchoice 1 1 0 0 0\ntable\n\
-    t 0 20 28 48\nt 0 20 14 34\nt 0 12 14 32\nt 0 12 14 26\nt 0 12 0 12\nt 0 0 0 0\n\
-    without 1\nchoice 0 1 0 1 0\ntable\n\
-    t 0 20 14 34\nt 0 20 14 34\nt 0 12 14 32\nt 0 12 14 26\nt 0 12 0 12\nt 0 0 0 0\n\
-    without 2\nchoice 1 0 0 0 1\ntable\n\
-    t 0 12 28 40\nt 0 12 14 32\nt 0 12 14 32\nt 0 12 14 26\nt 0 12 0 12\nt 0 0 0 0\n\
-    pay 17 15 0 0 0\nrows 1\nrow 1 2\nmult 1 3\nchoice 0 0 1 0 0\nlowered\n\
-    t 0 15 17 32\nt 0 15 14 32\nt 0 12 14 32\nt 0 12 14 26\nt 0 12 0 12\nt 0 0 0 0\nend\n";
-
 /// The sample before its first table.
 const BEFORE_TABLE: &str = "cert 1\nden 1\nvalue 48\nchoice 1 1 0 0 0\ntable\n";
-
-/// How many bidders and states the sample is for.
-const SAMPLE_SHAPE: Shape = Shape {
-    bidders: 5,
-    states: 4,
-};
 
 /// One bidder more than a text of the first version may have.
 const THIRTEEN: Shape = Shape {
@@ -90,8 +75,8 @@ fn table_says(
     stop: TextStop,
 ) -> Result<(), AllocError> {
     let text = format!(in alloc; "{}{line}", BEFORE_TABLE)?;
-    says(rt, alloc, SAMPLE_SHAPE, text.as_bytes(), 5, Err(stop))?;
-    says(rt, alloc, SAMPLE_SHAPE, text.as_bytes(), 99, Err(stop))
+    says(rt, alloc, DAY_CRAMTON_SHAPE, text.as_bytes(), 5, Err(stop))?;
+    says(rt, alloc, DAY_CRAMTON_SHAPE, text.as_bytes(), 99, Err(stop))
 }
 
 #[test]
@@ -100,8 +85,8 @@ fn reads_a_certificate_in_pieces(rt: HostRuntime) -> Result<(), AllocError> {
         says(
             &rt,
             rt.alloc(),
-            SAMPLE_SHAPE,
-            SAMPLE.as_bytes(),
+            DAY_CRAMTON_SHAPE,
+            DAY_CRAMTON_CERT.as_bytes(),
             more,
             Ok(()),
         )?;
@@ -121,11 +106,11 @@ fn tells_the_line_that_holds_the_cut(rt: HostRuntime) -> Result<(), AllocError> 
         (475, 472),
     ];
     for (len, place) in cuts {
-        let front = &SAMPLE.as_bytes()[..len];
+        let front = &DAY_CRAMTON_CERT.as_bytes()[..len];
         says(
             &rt,
             rt.alloc(),
-            SAMPLE_SHAPE,
+            DAY_CRAMTON_SHAPE,
             front,
             7,
             Err(TextStop::Form(place)),
@@ -153,7 +138,7 @@ fn tells_a_form_from_a_range(rt: HostRuntime) -> Result<(), AllocError> {
         says(
             &rt,
             rt.alloc(),
-            SAMPLE_SHAPE,
+            DAY_CRAMTON_SHAPE,
             text.as_bytes(),
             5,
             Err(*stop),

@@ -1,14 +1,10 @@
-use crate::samples::{PLACE_CERT, edited};
+use crate::samples::{PLACE_CERT, SLOTS, edited};
 use place_price::place_cert::read_places;
 use place_price::place_check::{Verdict, check_places};
 use place_price::slot_places::read_slots;
 use std::alloc::{AllocError, Global};
 use std::process::Abort;
 use std::test::Fail;
-
-/// The bids of x and y fit together, and that of z with neither.
-const SLOTS: &str =
-    "slots 1\nband 4\nbidder x 2\nplace 1 10\nbidder y 1\nplace 4 8\nbidder z 1\nplace 2 12\nend\n";
 
 // The verdict on a text for the slots.
 fn verdict_of(rt: &impl Abort, alloc: Global, text: &[u8]) -> Verdict {

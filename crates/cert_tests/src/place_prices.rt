@@ -1,11 +1,8 @@
+use crate::samples::SLOTS;
 use place_price::slot_places::read_slots;
 use place_price::{PlaceCertificate, Verdict, check_places, place_rounds, price_places};
 use std::alloc::{AllocError, Global};
 use std::process::Abort;
-
-/// The bids of x and y fit together, and that of z with neither.
-const SLOTS: &str =
-    "slots 1\nband 4\nbidder x 2\nplace 1 10\nbidder y 1\nplace 4 8\nbidder z 1\nplace 2 12\nend\n";
 
 /// The certificate of the slots. Asserts its value, choice, placement and payments.
 fn priced(
@@ -75,15 +72,18 @@ fn turns_end_where_nothing_blocks(rt: HostRuntime) -> Result<(), AllocError> {
 fn greatest_choices_are_those_of_a_listing(rt: HostRuntime) -> Result<(), AllocError> {
     let alloc = rt.alloc();
     let three =
-        "slots 1\nband 6\nbidder a 2\nplace 1 5\nplace 3 9\nbidder b 3\nplace 1 4\nplace 4 7\nbidder c 1\nplace 1 3\nplace 6 6\nend\n";
+        "slots 1\nband 6\nbidder a 2\nplace 1 5\nplace 3 9\nbidder b 3\nplace 1 4\nplace 4 7\nbidder c 1\nplace 1 3\n\
+        place 6 6\nend\n";
     priced(&rt, alloc, three, 12, &[1, 2, 0], &[1, 3, 2], &[3, 6, 0])?;
     let last =
-        "slots 1\nband 5\nbidder a 1\nplace 1 4\nplace 5 6\nbidder b 1\nplace 1 6\nplace 2 5\nbidder c 2\nplace 2 9\nplace 4 3\nend\n";
+        "slots 1\nband 5\nbidder a 1\nplace 1 4\nplace 5 6\nbidder b 1\nplace 1 6\nplace 2 5\nbidder c 2\nplace 2 9\n\
+        place 4 3\nend\n";
     priced(&rt, alloc, last, 15, &[0, 1, 1], &[2, 3, 1], &[0, 4, 3])?;
     let tie = "slots 1\nband 2\nbidder a 1\nplace 1 5\nbidder b 1\nplace 1 5\nend\n";
     priced(&rt, alloc, tie, 5, &[1, 0], &[1, 2], &[5, 0])?;
     let all =
-        "slots 1\nband 7\nbidder a 2\nplace 1 6\nplace 4 8\nbidder b 1\nplace 1 9\nplace 3 5\nbidder c 2\nplace 2 7\nplace 6 4\nbidder d 1\nplace 4 3\nplace 6 11\nend\n";
+        "slots 1\nband 7\nbidder a 2\nplace 1 6\nplace 4 8\nbidder b 1\nplace 1 9\nplace 3 5\nbidder c 2\nplace 2 7\n\
+        place 6 4\nbidder d 1\nplace 4 3\nplace 6 11\nend\n";
     priced(
         &rt,
         alloc,

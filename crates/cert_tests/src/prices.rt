@@ -1,5 +1,6 @@
 ghost use Rattle.std.specs.Prelude.{IsTrue, length, pos, slice_index_or, ℕ, ◌<◌, ◌≤◌, ◌≤ℤ◌};
 
+use crate::samples::DAY_CRAMTON;
 use place_price::bid_book::{BidBook, read_book};
 use place_price::blocking::{Looked, find_block};
 use place_price::book_price::{PricedBook, price_book};
@@ -8,12 +9,9 @@ use place_price::value_table::{BookChooser, TurnTable, win};
 use std::alloc::{AllocError, Global};
 use std::process::Abort;
 
-/// One lot of each of two categories; b1 and b2 win it, and pay together what b3 bids for both.
-const BOOK: &str =
-    "book 1\nsupply 1 1\nreserve 0 0\nbidder b1\nbid 1 0 28\nbidder b2\nbid 0 1 20\nbidder b3\nbid 1 1 32\nbidder b4\nbid 1 0 14\nbidder b5\nbid 0 1 12\nend\n";
-
 const SEVEN_WIN: &str =
-    "book 1\nsupply 7\nreserve 0\nbidder a\nbid 1 1\nbidder b\nbid 1 1\nbidder c\nbid 1 1\nbidder d\nbid 1 1\nbidder e\nbid 1 1\nbidder f\nbid 1 1\nbidder g\nbid 1 1\nend\n";
+    "book 1\nsupply 7\nreserve 0\nbidder a\nbid 1 1\nbidder b\nbid 1 1\nbidder c\nbid 1 1\nbidder d\nbid 1 1\n\
+    bidder e\nbid 1 1\nbidder f\nbid 1 1\nbidder g\nbid 1 1\nend\n";
 
 /// The prices where all bidders weigh 1.
 fn priced_alike(alloc: Global, book: &BidBook) -> Result<PricedBook, PriceStop> {
@@ -49,11 +47,12 @@ fn priced_by(
 }
 
 const SIX_WIN: &str =
-    "book 1\nsupply 6\nreserve 0\nbidder a\nbid 1 5\nbidder b\nbid 1 5\nbidder c\nbid 1 5\nbidder d\nbid 1 5\nbidder e\nbid 1 5\nbidder f\nbid 1 5\nend\n";
+    "book 1\nsupply 6\nreserve 0\nbidder a\nbid 1 5\nbidder b\nbid 1 5\nbidder c\nbid 1 5\nbidder d\nbid 1 5\n\
+    bidder e\nbid 1 5\nbidder f\nbid 1 5\nend\n";
 
 #[test]
 fn weights_share_what_is_above(rt: HostRuntime) -> Result<(), AllocError> {
-    let Ok(book) = read_book(rt.alloc(), BOOK.as_bytes()) else {
+    let Ok(book) = read_book(rt.alloc(), DAY_CRAMTON.as_bytes()) else {
         panic!(rt; "this is a book");
     };
     let Ok(priced) = priced_by(&rt, rt.alloc(), &book, &[1, 3, 1, 1, 1]) else {
@@ -89,7 +88,7 @@ fn six_winners_weigh_alike(rt: HostRuntime) -> Result<(), AllocError> {
 
 #[test]
 fn certificate_shows_the_prices(rt: HostRuntime) -> Result<(), AllocError> {
-    let Ok(book) = read_book(rt.alloc(), BOOK.as_bytes()) else {
+    let Ok(book) = read_book(rt.alloc(), DAY_CRAMTON.as_bytes()) else {
         panic!(rt; "this is a book");
     };
     let Ok(priced) = priced_alike(rt.alloc(), &book) else {
@@ -111,7 +110,7 @@ fn certificate_shows_the_prices(rt: HostRuntime) -> Result<(), AllocError> {
 
 #[test]
 fn certificate_has_parts_and_rows(rt: HostRuntime) -> Result<(), AllocError> {
-    let Ok(book) = read_book(rt.alloc(), BOOK.as_bytes()) else {
+    let Ok(book) = read_book(rt.alloc(), DAY_CRAMTON.as_bytes()) else {
         panic!(rt; "this is a book");
     };
     let Ok(priced) = priced_alike(rt.alloc(), &book) else {
@@ -179,7 +178,7 @@ fn look(
 fn a_bidder_for_both_lots_blocks_the_prices_of_each_alone(
     rt: HostRuntime,
 ) -> Result<(), AllocError> {
-    let Ok(book) = read_book(rt.alloc(), BOOK.as_bytes()) else {
+    let Ok(book) = read_book(rt.alloc(), DAY_CRAMTON.as_bytes()) else {
         panic!(rt; "this is a book");
     };
     let chooser = BookChooser::new(&book, win(rt.alloc(), &book)?);

@@ -1,23 +1,8 @@
+use crate::samples::{DAY_CRAMTON_CERT, DAY_CRAMTON_SHAPE};
 use place_price::cert_text::{CertRow, CertStop, Certificate, Shape, read_cert, write_cert};
 use std::alloc::{AllocError, Global};
 use std::process::Abort;
 use std::test::Fail;
-
-/// A certificate for five bidders and four states: 476 bytes, of which the last line has 4.
-const SAMPLE: &str = "cert 1\nden 1\nvalue 48\nchoice 1 1 0 0 0\ntable\n\
-    t 0 20 28 48\nt 0 20 14 34\nt 0 12 14 32\nt 0 12 14 26\nt 0 12 0 12\nt 0 0 0 0\n\
-    without 1\nchoice 0 1 0 1 0\ntable\n\
-    t 0 20 14 34\nt 0 20 14 34\nt 0 12 14 32\nt 0 12 14 26\nt 0 12 0 12\nt 0 0 0 0\n\
-    without 2\nchoice 1 0 0 0 1\ntable\n\
-    t 0 12 28 40\nt 0 12 14 32\nt 0 12 14 32\nt 0 12 14 26\nt 0 12 0 12\nt 0 0 0 0\n\
-    pay 17 15 0 0 0\nrows 1\nrow 1 2\nmult 1 3\nchoice 0 0 1 0 0\nlowered\n\
-    t 0 15 17 32\nt 0 15 14 32\nt 0 12 14 32\nt 0 12 14 26\nt 0 12 0 12\nt 0 0 0 0\nend\n";
-
-/// How many bidders and states the sample is for.
-const SAMPLE_SHAPE: Shape = Shape {
-    bidders: 5,
-    states: 4,
-};
 
 /// No bidder, one state.
 const NOBODY: Shape = Shape {
@@ -118,8 +103,8 @@ fn certificate_of(
 
 #[test]
 fn tells_what_a_certificate_holds(rt: HostRuntime) {
-    assert_eq!(rt; SAMPLE.len(), 476);
-    let Ok(cert) = read_cert(rt.alloc(), SAMPLE.as_bytes(), SAMPLE_SHAPE) else {
+    assert_eq!(rt; DAY_CRAMTON_CERT.len(), 476);
+    let Ok(cert) = read_cert(rt.alloc(), DAY_CRAMTON_CERT.as_bytes(), DAY_CRAMTON_SHAPE) else {
         panic!(rt; "this is a certificate");
     };
     assert_eq!(rt; cert.den, 1);
@@ -137,15 +122,15 @@ fn tells_what_a_certificate_holds(rt: HostRuntime) {
 
 #[test]
 fn writes_back_what_was_read(rt: HostRuntime) -> Result<(), Fail> {
-    certificate_of(&rt, rt.alloc(), SAMPLE, SAMPLE_SHAPE)?;
+    certificate_of(&rt, rt.alloc(), DAY_CRAMTON_CERT, DAY_CRAMTON_SHAPE)?;
     Ok(())
 }
 
 #[test]
 fn names_the_last_line_where_it_is_cut(rt: HostRuntime) {
-    let bytes = SAMPLE.as_bytes();
+    let bytes = DAY_CRAMTON_CERT.as_bytes();
     assert_eq!(rt; bytes.len(), 476);
-    let stop = read_cert(rt.alloc(), &bytes[..474], SAMPLE_SHAPE).err();
+    let stop = read_cert(rt.alloc(), &bytes[..474], DAY_CRAMTON_SHAPE).err();
     assert_eq!(rt; stop, Some(CertStop::Form(472)));
 }
 

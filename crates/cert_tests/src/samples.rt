@@ -1,7 +1,33 @@
-// What several tests share: a certificate of a placement, and texts with other lines.
+// What several tests share: a book, slots, certificates of both, and texts with other lines.
+use place_price::cert_text::Shape;
 use std::alloc::{AllocError, Global};
 
-/// A certificate for three bidders in a band of four: the first has two slots and 10 for slot 1, the second one slot and 8 for slot
+/// The example of Day and Cramton (2012): one lot of each of two categories, and five bidders; b1 and b2 win.
+pub(crate) const DAY_CRAMTON: &str =
+    "book 1\nsupply 1 1\nreserve 0 0\nbidder b1\nbid 1 0 28\nbidder b2\nbid 0 1 20\n\
+    bidder b3\nbid 1 1 32\nbidder b4\nbid 1 0 14\nbidder b5\nbid 0 1 12\nend\n";
+
+/// Its certificate: 476 bytes, of which the last line has 4.
+pub(crate) const DAY_CRAMTON_CERT: &str = "cert 1\nden 1\nvalue 48\nchoice 1 1 0 0 0\ntable\n\
+    t 0 20 28 48\nt 0 20 14 34\nt 0 12 14 32\nt 0 12 14 26\nt 0 12 0 12\nt 0 0 0 0\n\
+    without 1\nchoice 0 1 0 1 0\ntable\n\
+    t 0 20 14 34\nt 0 20 14 34\nt 0 12 14 32\nt 0 12 14 26\nt 0 12 0 12\nt 0 0 0 0\n\
+    without 2\nchoice 1 0 0 0 1\ntable\n\
+    t 0 12 28 40\nt 0 12 14 32\nt 0 12 14 32\nt 0 12 14 26\nt 0 12 0 12\nt 0 0 0 0\n\
+    pay 17 15 0 0 0\nrows 1\nrow 1 2\nmult 1 3\nchoice 0 0 1 0 0\nlowered\n\
+    t 0 15 17 32\nt 0 15 14 32\nt 0 12 14 32\nt 0 12 14 26\nt 0 12 0 12\nt 0 0 0 0\nend\n";
+
+/// How many bidders and states this certificate is for.
+pub(crate) const DAY_CRAMTON_SHAPE: Shape = Shape {
+    bidders: 5,
+    states: 4,
+};
+
+/// The bids of x and y fit together, and that of z with neither.
+pub(crate) const SLOTS: &str =
+    "slots 1\nband 4\nbidder x 2\nplace 1 10\nbidder y 1\nplace 4 8\nbidder z 1\nplace 2 12\nend\n";
+
+/// A certificate for these slots: the first has two slots and 10 for slot 1, the second one slot and 8 for slot
 /// 4, the third one slot and 12 for slot 2. The first two win, and pay together what the third bids. It has 287 bytes.
 pub(crate) const PLACE_CERT: &str =
     "pcert 1\nden 1\nvalue 18\norder 1 3 2\nchoice 1 1 0\ntable\nt 18 8 12 0 8 8 0 0\n\

@@ -4,6 +4,7 @@ ghost use Rattle.place_price.specs.cert_laws.specs.Tests.{bidders_of, states};
 ghost use Rattle.piece_check.specs.cert_pieces.specs.Rooms.{room_size};
 ghost use Rattle.piece_check.specs.Standing.{StandsFor};
 
+use crate::samples::{DAY_CRAMTON, DAY_CRAMTON_CERT};
 use piece_check::StreamCheck;
 use piece_check::cert_check::Verdict;
 use piece_check::cert_facts::CertFacts;
@@ -16,21 +17,6 @@ use std::process::Abort;
 use std::test::Fail;
 
 mod edits;
-
-/// Bids of five bidders for two lots. Those of the first two win.
-pub(crate) const BOOK: &str =
-    "book 1\nsupply 1 1\nreserve 0 0\nbidder b1\nbid 1 0 28\nbidder b2\nbid 0 1 20\n\
-    bidder b3\nbid 1 1 32\nbidder b4\nbid 1 0 14\nbidder b5\nbid 0 1 12\nend\n";
-
-/// The certificate of these bids, of 476 bytes.
-pub(crate) const CERT: &str = "cert 1\nden 1\nvalue 48\nchoice 1 1 0 0 0\ntable\n\
-    t 0 20 28 48\nt 0 20 14 34\nt 0 12 14 32\nt 0 12 14 26\nt 0 12 0 12\nt 0 0 0 0\n\
-    without 1\nchoice 0 1 0 1 0\ntable\n\
-    t 0 20 14 34\nt 0 20 14 34\nt 0 12 14 32\nt 0 12 14 26\nt 0 12 0 12\nt 0 0 0 0\n\
-    without 2\nchoice 1 0 0 0 1\ntable\n\
-    t 0 12 28 40\nt 0 12 14 32\nt 0 12 14 32\nt 0 12 14 26\nt 0 12 0 12\nt 0 0 0 0\n\
-    pay 17 15 0 0 0\nrows 1\nrow 1 2\nmult 1 3\nchoice 0 0 1 0 0\nlowered\n\
-    t 0 15 17 32\nt 0 15 14 32\nt 0 12 14 32\nt 0 12 14 26\nt 0 12 0 12\nt 0 0 0 0\nend\n";
 
 // A checker to which a text was fed of which each piece has so many bytes behind its first, as far as a file may go.
 fn fed<'a>(
@@ -106,10 +92,10 @@ fn is_single(rt: &impl Abort, single: &Single, winner: u16, price: i128, choice:
 
 // Asserts that the certificate in such pieces has these facts.
 fn tells_them(rt: &impl Abort, alloc: Global, more: u16) -> Result<(), AllocError> {
-    let Ok(book) = read_book(alloc, BOOK.as_bytes()) else {
+    let Ok(book) = read_book(alloc, DAY_CRAMTON.as_bytes()) else {
         panic!(rt; "this is a book");
     };
-    let Some(facts) = facts_of(alloc, &book, CERT.as_bytes(), more)? else {
+    let Some(facts) = facts_of(alloc, &book, DAY_CRAMTON_CERT.as_bytes(), more)? else {
         panic!(rt; "its tests hold");
     };
     assert_eq!(rt; facts.den, 1);

@@ -219,7 +219,8 @@ fn writes_all_kinds_of_lines(rt: HostRuntime) -> Result<(), Fail> {
     let alloc = rt.alloc();
     let text = write_cert(alloc, &one_bidder(alloc)?)?;
     let lines =
-        "cert 1\nden 1\nvalue 10\nchoice 3\ntable\nt 0 10\nt 0 0\nwithout 1\nchoice 0\ntable\nt 0 0\nt 0 0\npay -4\nrows 1\nrow 1\nmult 1 -105\nchoice 0\nlowered\nt 0 14\nt 0 0\nend\n";
+        "cert 1\nden 1\nvalue 10\nchoice 3\ntable\nt 0 10\nt 0 0\nwithout 1\nchoice 0\ntable\nt 0 0\nt 0 0\npay -4\n\
+        rows 1\nrow 1\nmult 1 -105\nchoice 0\nlowered\nt 0 14\nt 0 0\nend\n";
     assert_eq!(rt; text.items(), lines.as_bytes());
     Ok(())
 }

@@ -13,7 +13,8 @@ pub(crate) const AWARD_UP_TO_RESERVE: &str =
     "version = 1\ntick = 1\n\n[[category]]\nname = \"lot\"\nsupply = 3\npoints = 1\n";
 
 const AWARD_BEHIND_RESERVE: &str =
-    "\n[[bidder]]\nname = \"east\"\neligibility = 3\n\n[[bidder]]\nname = \"west\"\neligibility = 2\n\n[[step]]\nexcess = 1\npermille = 200\n";
+    "\n[[bidder]]\nname = \"east\"\neligibility = 3\n\n[[bidder]]\nname = \"west\"\neligibility = 2\n\n[[step]]\n\
+    excess = 1\npermille = 200\n";
 
 /// An award of one category, for which two bidders are eligible together for more than there is.
 pub(crate) const SAMPLE: &[&str] = &[AWARD_UP_TO_RESERVE, "reserve = 10\n", AWARD_BEHIND_RESERVE];
@@ -237,7 +238,8 @@ fn refuses_faulty_awards_and_logs(rt: HostRuntime) -> Result<(), Fail> {
 const SLOW: &[&str] = &[
     AWARD_UP_TO_RESERVE,
     "reserve = 10\n",
-    "\n[[bidder]]\nname = \"east\"\neligibility = 3\n\n[[bidder]]\nname = \"west\"\neligibility = 2\n\n[[step]]\nexcess = 1\npermille = 1\n",
+    "\n[[bidder]]\nname = \"east\"\neligibility = 3\n\n[[bidder]]\nname = \"west\"\neligibility = 2\n\n[[step]]\n\
+    excess = 1\npermille = 1\n",
 ];
 
 // As many rounds as there may be, in each of which too much is asked for.

@@ -87,10 +87,12 @@ const YES: &str =
     "yes\nwinner b1 1 0 bid 28 vickrey 14 pays 17\nwinner b2 0 1 bid 20 vickrey 12 pays 15\nnet 48\nrevenue 32\n";
 
 const YES_LOCALS: &str =
-    "yes\nwinner l1 1 0 0 bid 10 vickrey 0 pays 3+2/3\nwinner l2 0 1 0 bid 10 vickrey 0 pays 3+2/3\nwinner l3 0 0 1 bid 10 vickrey 0 pays 3+2/3\nnet 30\nrevenue 11\n";
+    "yes\nwinner l1 1 0 0 bid 10 vickrey 0 pays 3+2/3\nwinner l2 0 1 0 bid 10 vickrey 0 pays 3+2/3\n\
+    winner l3 0 0 1 bid 10 vickrey 0 pays 3+2/3\nnet 30\nrevenue 11\n";
 
 const YES_TWO_GLOBALS: &str =
-    "yes\nwinner l1 1 0 0 bid 10 vickrey 0 pays 0\nwinner l2 0 1 0 bid 10 vickrey 0 pays 8\nwinner l3 0 0 1 bid 10 vickrey 0 pays 0\nnet 30\nrevenue 8\n";
+    "yes\nwinner l1 1 0 0 bid 10 vickrey 0 pays 0\nwinner l2 0 1 0 bid 10 vickrey 0 pays 8\n\
+    winner l3 0 0 1 bid 10 vickrey 0 pays 0\nnet 30\nrevenue 8\n";
 
 #[test]
 fn says_yes_to_certificates(rt: HostRuntime) -> Result<(), Fail> {

@@ -13,10 +13,12 @@ const SOME_WITHOUT_BIDS: &str =
     "book 1\nsupply 1\nreserve 0\nbidder none\nbidder n1\nbid 1 9\nbidder n2\nbid 1 9\nbidder last\nend\n";
 
 const TWO_CATEGORIES: &str =
-    "book 1\nsupply 2 1\nreserve 3 2\nbidder a\nbid 0 1 2\nbid 1 0 3\nbid 1 1 9\nbid 2 0 8\nbidder b\nbidder c\nbid 0 1 6\nbid 1 0 5\nbid 2 1 12\nend\n";
+    "book 1\nsupply 2 1\nreserve 3 2\nbidder a\nbid 0 1 2\nbid 1 0 3\nbid 1 1 9\nbid 2 0 8\nbidder b\nbidder c\n\
+    bid 0 1 6\nbid 1 0 5\nbid 2 1 12\nend\n";
 
 const LAST_WINS_ALL: &str =
-    "book 1\nsupply 3\nreserve 1\nbidder a\nbid 1 2\nbid 2 3\nbid 3 5\nbidder b\nbid 1 2\nbid 2 3\nbidder c\nbid 3 6\nend\n";
+    "book 1\nsupply 3\nreserve 1\nbidder a\nbid 1 2\nbid 2 3\nbid 3 5\nbidder b\nbid 1 2\nbid 2 3\nbidder c\nbid 3 6\n\
+    end\n";
 
 #[test]
 fn agrees_with_a_listing(rt: HostRuntime) -> Result<(), Fail> {

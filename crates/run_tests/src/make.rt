@@ -24,7 +24,13 @@ const AWARD_MIDDLE: &str =
     "me = \"b\"\nsupply = 1\npoints = 10\nreserve = 1500\n\n[[category]]\nname = \"c\"\nsupply = 14\npoints = 1\nreser";
 
 const AWARD_REST: &str =
-    "ve = 100\n\n[[category]]\nname = \"e\"\nsupply = 9\npoints = 1\nreserve = 10\n\n[[bidder]]\nname = \"b1\"\neligibility = 73\n\n[[bidder]]\nname = \"b2\"\neligibility = 73\n\n[[bidder]]\nname = \"b3\"\neligibility = 73\n\n[[bidder]]\nname = \"b4\"\neligibility = 73\n\n[[bidder]]\nname = \"b5\"\neligibility = 73\n\n[[bidder]]\nname = \"b6\"\neligibility = 73\n\n[[bidder]]\nname = \"b7\"\neligibility = 73\n\n[[bidder]]\nname = \"b8\"\neligibility = 73\n\n[[bidder]]\nname = \"b9\"\neligibility = 73\n\n[[bidder]]\nname = \"b10\"\neligibility = 73\n\n[[bidder]]\nname = \"b11\"\neligibility = 73\n\n[[bidder]]\nname = \"b12\"\neligibility = 73\n\n[[step]]\nexcess = 1\npermille = 100\n\n[[step]]\nexcess = 5\npermille = 200\n";
+    "ve = 100\n\n[[category]]\nname = \"e\"\nsupply = 9\npoints = 1\nreserve = 10\n\n[[bidder]]\nname = \"b1\"\n\
+    eligibility = 73\n\n[[bidder]]\nname = \"b2\"\neligibility = 73\n\n[[bidder]]\nname = \"b3\"\neligibility = 73\n\n\
+    [[bidder]]\nname = \"b4\"\neligibility = 73\n\n[[bidder]]\nname = \"b5\"\neligibility = 73\n\n[[bidder]]\n\
+    name = \"b6\"\neligibility = 73\n\n[[bidder]]\nname = \"b7\"\neligibility = 73\n\n[[bidder]]\nname = \"b8\"\n\
+    eligibility = 73\n\n[[bidder]]\nname = \"b9\"\neligibility = 73\n\n[[bidder]]\nname = \"b10\"\neligibility = 73\n\n\
+    [[bidder]]\nname = \"b11\"\neligibility = 73\n\n[[bidder]]\nname = \"b12\"\neligibility = 73\n\n[[step]]\n\
+    excess = 1\npermille = 100\n\n[[step]]\nexcess = 5\npermille = 200\n";
 
 /// The first 100 bytes of the log of 7.
 const LOG_START: &str =

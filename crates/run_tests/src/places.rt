@@ -19,7 +19,8 @@ pub const SLOTS: &str =
 const ROUNDS: &str = "round 1 point 4 2 row 1 2 choice 0 0 1 excess 6\nround 2 point 7 5 end\n";
 
 const PLACEMENT: &str =
-    "placed x 1 2\nplaced z 3 1\nplaced y 4 1\nwinner x 1 bid 10 vickrey 4 pays 7\nwinner y 4 bid 8 vickrey 2 pays 5\nvalue 18\nrevenue 12\n";
+    "placed x 1 2\nplaced z 3 1\nplaced y 4 1\nwinner x 1 bid 10 vickrey 4 pays 7\nwinner y 4 bid 8 vickrey 2 pays 5\n\
+    value 18\nrevenue 12\n";
 
 // The certificate of these prices, in pieces: the head's order and the payments stand apart.
 pub const FRONT: &str = "pcert 1\nden 1\nvalue 18\n";
@@ -27,7 +28,8 @@ pub const FRONT: &str = "pcert 1\nden 1\nvalue 18\n";
 pub const ORDER: &str = "order 1 3 2\n";
 
 pub const MIDDLE: &str =
-    "choice 1 1 0\ntable\nt 18 8 12 0 8 8 0 0\nwithout 1\norder 2 3 1\nchoice 0 0 1\ntable\nt 12 8 12 0 8 8 0 0\nwithout 2\norder 2 3 1\nchoice 0 0 1\ntable\nt 12 0 12 0 0 0 0 0\n";
+    "choice 1 1 0\ntable\nt 18 8 12 0 8 8 0 0\nwithout 1\norder 2 3 1\nchoice 0 0 1\ntable\nt 12 8 12 0 8 8 0 0\n\
+    without 2\norder 2 3 1\nchoice 0 0 1\ntable\nt 12 0 12 0 0 0 0 0\n";
 
 pub const PAY: &str = "pay 7 5 0\n";
 

@@ -10,18 +10,25 @@ use std::process::Abort;
 use std::test::Fail;
 
 pub(crate) const TWO_GLOBALS: &str =
-    "book 1\nsupply 1 1 1\nreserve 0 0 0\nbidder l1\nbid 1 0 0 10\nbidder l2\nbid 0 1 0 10\nbidder l3\nbid 0 0 1 10\nbidder g1\nbid 1 1 0 8\nbidder g2\nbid 0 1 1 8\nend\n";
+    "book 1\nsupply 1 1 1\nreserve 0 0 0\nbidder l1\nbid 1 0 0 10\nbidder l2\nbid 0 1 0 10\nbidder l3\nbid 0 0 1 10\n\
+    bidder g1\nbid 1 1 0 8\nbidder g2\nbid 0 1 1 8\nend\n";
 
 // On the way the price of the first winner is above its bid.
 const ABOVE_ITS_BID: &str =
-    "book 1\nsupply 1 1 1\nreserve 0 0 0\nbidder a\nbid 1 0 0 10\nbidder b\nbid 0 1 0 9\nbidder c\nbid 0 0 1 9\nbidder d\nbid 1 1 1 20\nbidder e\nbid 1 0 0 8\nend\n";
+    "book 1\nsupply 1 1 1\nreserve 0 0 0\nbidder a\nbid 1 0 0 10\nbidder b\nbid 0 1 0 9\nbidder c\nbid 0 0 1 9\n\
+    bidder d\nbid 1 1 1 20\nbidder e\nbid 1 0 0 8\nend\n";
 
 const GREATEST_AMOUNTS: &str =
-    "book 1\nsupply 6\nreserve 0\nbidder u1\nbid 1 4398046511104\nbidder u2\nbid 1 4398046511104\nbidder u3\nbid 1 4398046511104\nbidder u4\nbid 1 4398046511104\nbidder u5\nbid 1 4398046511104\nbidder u6\nbid 1 4398046511104\nbidder g\nbid 6 4398046511104\nend\n";
+    "book 1\nsupply 6\nreserve 0\nbidder u1\nbid 1 4398046511104\nbidder u2\nbid 1 4398046511104\nbidder u3\n\
+    bid 1 4398046511104\nbidder u4\nbid 1 4398046511104\nbidder u5\nbid 1 4398046511104\nbidder u6\n\
+    bid 1 4398046511104\nbidder g\nbid 6 4398046511104\nend\n";
 
 // As many bidders as there may be.
 const SIXTEEN: &str =
-    "book 1\nsupply 4\nreserve 0\nbidder m1\nbid 1 5\nbidder m2\nbid 1 5\nbidder m3\nbid 1 5\nbidder m4\nbid 1 5\nbidder m5\nbid 1 5\nbidder m6\nbid 1 5\nbidder m7\nbid 1 5\nbidder m8\nbid 1 5\nbidder m9\nbid 1 5\nbidder m10\nbid 1 5\nbidder m11\nbid 1 5\nbidder m12\nbid 1 5\nbidder m13\nbid 1 5\nbidder m14\nbid 1 5\nbidder m15\nbid 1 5\nbidder m16\nbid 1 5\nend\n";
+    "book 1\nsupply 4\nreserve 0\nbidder m1\nbid 1 5\nbidder m2\nbid 1 5\nbidder m3\nbid 1 5\nbidder m4\nbid 1 5\n\
+    bidder m5\nbid 1 5\nbidder m6\nbid 1 5\nbidder m7\nbid 1 5\nbidder m8\nbid 1 5\nbidder m9\nbid 1 5\nbidder m10\n\
+    bid 1 5\nbidder m11\nbid 1 5\nbidder m12\nbid 1 5\nbidder m13\nbid 1 5\nbidder m14\nbid 1 5\nbidder m15\nbid 1 5\n\
+    bidder m16\nbid 1 5\nend\n";
 
 // As many states as there may be.
 const MOST_STATES: &str =

@@ -13,14 +13,16 @@ pub const EDITS: &str =
     "edits 1\nraise b3 1 1 50\nadd b4 0 1 23\ndrop b1 1 0\nraise b3 1 1 50\nadd north 1 0 5\nend\n";
 
 const REVIEWED: &str =
-    "0 net 48 choice 1 1 0 0 0\n1 net 50 choice 0 0 1 0 0\n2 net 51 choice 1 0 0 1 0\n3 net 50 choice 0 0 1 0 0\n4 not-higher 50\n5 unknown\nwinner b3 1 1 50\nnet 50\n";
+    "0 net 48 choice 1 1 0 0 0\n1 net 50 choice 0 0 1 0 0\n2 net 51 choice 1 0 0 1 0\n3 net 50 choice 0 0 1 0 0\n\
+    4 not-higher 50\n5 unknown\nwinner b3 1 1 50\nnet 50\n";
 
 // Edits with each refusal but those of a full list.
 const REFUSED: &str =
     "edits 1\nadd b1 2 0 5\nadd b1 0 0 5\nadd b1 1 0 5\nraise b1 0 1 5\ndrop b2 1 0\nadd b1 0 1 4398046511105\nend\n";
 
 const REFUSALS: &str =
-    "0 net 48 choice 1 1 0 0 0\n1 supply 1\n2 empty\n3 present 28\n4 absent\n5 absent\n6 amount-top 4398046511104\nwinner b1 1 0 28\nwinner b2 0 1 20\nnet 48\n";
+    "0 net 48 choice 1 1 0 0 0\n1 supply 1\n2 empty\n3 present 28\n4 absent\n5 absent\n6 amount-top 4398046511104\n\
+    winner b1 1 0 28\nwinner b2 0 1 20\nnet 48\n";
 
 // The book of two bidders with a reserve of 10, of which one has no bid.
 const RESERVED: &str = "book 1\nsupply 2\nreserve 10\nbidder east\nbid 1 15\nbidder west\nend\n";

@@ -39,11 +39,13 @@ const PLAIN_PRICES: &str =
     "winner b1 1 0 bid 28 vickrey 14 pays 17\nwinner b2 0 1 bid 20 vickrey 12 pays 15\nnet 48\nrevenue 32\n";
 
 const SIX: &str =
-    "book 1\nsupply 6\nreserve 0\nbidder a\nbid 1 5\nbidder b\nbid 1 5\nbidder c\nbid 1 5\nbidder d\nbid 1 5\nbidder e\nbid 1 5\nbidder f\nbid 1 5\nend\n";
+    "book 1\nsupply 6\nreserve 0\nbidder a\nbid 1 5\nbidder b\nbid 1 5\nbidder c\nbid 1 5\nbidder d\nbid 1 5\n\
+    bidder e\nbid 1 5\nbidder f\nbid 1 5\nend\n";
 
 /// Five of six bidders win.
 const FIVE_OF_SIX: &str =
-    "book 1\nsupply 5\nreserve 0\nbidder a\nbid 1 5\nbidder b\nbid 1 5\nbidder c\nbid 1 5\nbidder d\nbid 1 5\nbidder e\nbid 1 5\nbidder f\nbid 1 1\nend\n";
+    "book 1\nsupply 5\nreserve 0\nbidder a\nbid 1 5\nbidder b\nbid 1 5\nbidder c\nbid 1 5\nbidder d\nbid 1 5\n\
+    bidder e\nbid 1 5\nbidder f\nbid 1 1\nend\n";
 
 const SIX_ALIKE: &str =
     "weights 1\nweight a 1\nweight b 1\nweight c 1\nweight d 1\nweight e 1\nweight f 1\nend\n";

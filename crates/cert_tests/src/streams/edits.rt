@@ -1,6 +1,6 @@
 // The certificate with other lines, and its fronts.
-use crate::samples::edited;
-use crate::streams::{BOOK, CERT, verdict_of};
+use crate::samples::{DAY_CRAMTON, DAY_CRAMTON_CERT, edited};
+use crate::streams::verdict_of;
 use piece_check::cert_check::Verdict;
 use piece_check::cert_pieces::TextStop;
 use place_price::bid_book::read_book;
@@ -15,7 +15,7 @@ fn says(
     text: &[u8],
     told: Result<Verdict, TextStop>,
 ) -> Result<(), AllocError> {
-    let Ok(book) = read_book(alloc, BOOK.as_bytes()) else {
+    let Ok(book) = read_book(alloc, DAY_CRAMTON.as_bytes()) else {
         panic!(rt; "this is a book");
     };
     assert_eq!(rt; verdict_of(alloc, &book, text, 6)?, told);
@@ -49,7 +49,7 @@ const FAILING: &[(usize, usize, &str, u8, u64)] = &[
 #[test]
 fn names_the_first_test_that_fails(rt: HostRuntime) -> Result<(), Fail> {
     for (from, to, lines, test, place) in FAILING {
-        let text = edited(rt.alloc(), CERT, *from, *to, lines)?;
+        let text = edited(rt.alloc(), DAY_CRAMTON_CERT, *from, *to, lines)?;
         let told = Verdict::No {
             test: *test,
             place: *place,
@@ -76,7 +76,7 @@ const REFUSED: &[(usize, usize, &str, TextStop)] = &[
 #[test]
 fn refuses_lines_of_no_certificate(rt: HostRuntime) -> Result<(), Fail> {
     for (from, to, lines, stop) in REFUSED {
-        let text = edited(rt.alloc(), CERT, *from, *to, lines)?;
+        let text = edited(rt.alloc(), DAY_CRAMTON_CERT, *from, *to, lines)?;
         says(&rt, rt.alloc(), &text, Err(*stop))?;
     }
     Ok(())
@@ -84,7 +84,7 @@ fn refuses_lines_of_no_certificate(rt: HostRuntime) -> Result<(), Fail> {
 
 #[test]
 fn refuses_each_front(rt: HostRuntime) -> Result<(), Fail> {
-    let text = CERT.as_bytes();
+    let text = DAY_CRAMTON_CERT.as_bytes();
     let mut start = 0u64;
     for (length, byte) in text.iter().enumerate() {
         says(&rt, rt.alloc(), &text[..length], Err(TextStop::Form(start)))?;

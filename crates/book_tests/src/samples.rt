@@ -1,0 +1,10 @@
+// What several tests share.
+
+/// The example of Day and Cramton (2012): one lot of each of two categories, and five bidders; b1 and b2 win.
+pub(crate) const DAY_CRAMTON: &str =
+    "book 1\nsupply 1 1\nreserve 0 0\nbidder b1\nbid 1 0 28\nbidder b2\nbid 0 1 20\n\
+    bidder b3\nbid 1 1 32\nbidder b4\nbid 1 0 14\nbidder b5\nbid 0 1 12\nend\n";
+
+/// Edits of this book; the last is of a bidder that it doesn't have.
+pub(crate) const EDITS: &str =
+    "edits 1\nraise b3 1 1 50\nadd b4 0 1 23\ndrop b1 1 0\nraise b3 1 1 50\nadd north 1 0 5\nend\n";
