@@ -8,6 +8,5 @@ pub mod View
 pub mod State
 pub mod BookOfLog
 pub mod Lawful
-pub use Rattle.lots.specs.auction_model
 pub use Rattle.lots.specs.limits
 pub use Rattle.lots

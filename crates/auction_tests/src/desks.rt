@@ -1,7 +1,7 @@
 // Worked auctions: the replies of a desk to the lines of a log, and the book that it gives.
 ghost use Rattle.std.specs.Prelude.{◌≡◌, IsTrue, length};
-ghost use Rattle.big_auction.specs.auction_rules.specs.Lawful.{HasCategories};
-ghost use Rattle.big_auction.specs.auction_rules.specs.Terms.{Terms};
+ghost use Rattle.big_auction.specs.clock_stage.specs.auction_rules.specs.Lawful.{HasCategories};
+ghost use Rattle.big_auction.specs.clock_stage.specs.auction_rules.specs.Terms.{Terms};
 
 use big_auction::award_file::read_award;
 use big_auction::bid_book::write_book;

@@ -2,7 +2,7 @@
 // lines for each answer anew. The rules here call none of the code that is tested.
 ghost use Rattle.std.specs.Prelude.{IfOk};
 ghost use Rattle.std.specs.List.{AllByRecursion};
-ghost use Rattle.big_auction.specs.auction_rules.specs.Lawful.{HasCategories};
+ghost use Rattle.big_auction.specs.clock_stage.specs.auction_rules.specs.Lawful.{HasCategories};
 
 mod draw;
 mod past;

@@ -8,13 +8,13 @@ use Rattle.std.proofs.lemmas.List.{append-nil, length-map}
 use Rattle.std.proofs.lemmas.List.Elements.{recursion_from_All}
 use Rattle.std.proofs.lemmas.Map.Keys.{apart_from_distinct}
 use Rattle.std.proofs.lemmas.Slice.Eq.{bytes_eq-Decides}
-use Rattle.auction_rules.specs.auction_model.specs.Book.{BookBid, Bidder}
-use Rattle.auction_rules.specs.auction_model.specs.Package.{ComesBefore}
-use Rattle.auction_rules.specs.auction_model.proofs.ListLaws.{each-push}
+use Rattle.auction_rules.specs.lots.specs.auction_model.specs.Book.{BookBid, Bidder}
+use Rattle.auction_rules.specs.lots.specs.auction_model.specs.Package.{ComesBefore}
+use Rattle.auction_rules.specs.lots.specs.auction_model.proofs.ListLaws.{each-push}
 use Rattle.bid_book.specs.book_form.specs.BookForm.{AreBids, IsBidder, AreBidders, IsName, empty_package}
 use Rattle.bid_book.specs.book_form.specs.BookLines.{IsBookWithinLimits}
 use Rattle.auction_rules.specs.declared.Event.{Event}
-use Rattle.auction_rules.specs.auction_model.specs.PackageTests.{is_empty, is_before, AllAfter, InOrder}
+use Rattle.auction_rules.specs.lots.specs.auction_model.specs.PackageTests.{is_empty, is_before, AllAfter, InOrder}
 use Rattle.auction_rules.specs.Terms.{Terms, Entrant, entrant}
 use Rattle.auction_rules.specs.Rounds.{listing}
 use Rattle.auction_rules.specs.Lawful.{AreLimited, IsLawfulBid}

@@ -4,7 +4,7 @@ use Rattle.std.specs.Prelude.{sum, nat_le, nat_lt, ◌&&◌, if◌then◌else◌
 use Rattle.std.specs.Option.{option_or}
 use Rattle.std.proofs.lemmas.Bool.Decides.{nat_tests}
 use Rattle.std.proofs.lemmas.Option.{same_Some}
-use Rattle.auction_rules.specs.auction_model.specs.Place.{states_of}
+use Rattle.auction_rules.specs.lots.specs.auction_model.specs.Place.{states_of}
 use Rattle.bid_book.specs.book_form.specs.BookForm.{IsOffer}
 use Rattle.bid_book.specs.book_form.specs.BookLines.{Excess, supply_excess}
 use Rattle.auction_rules.specs.limits.specs.declared.LimitKind.TheVariants.{Categories, Lots, States}

@@ -5,11 +5,8 @@ pub mod Stated
 pub mod Walk
 pub mod Reading
 pub mod Parts
-pub use Rattle.auction_rules.specs.auction_model
+pub use Rattle.auction_rules.specs.lots.specs.auction_model
 pub use Rattle.auction_rules
 pub use Rattle.bid_book
-pub use Rattle.bid_book.specs.book_form
 pub use Rattle.auction_rules.specs.limits
 pub use Rattle.auction_rules.specs.lots
-pub use Rattle.bid_book.specs.line_text
-pub use Rattle.bid_book.specs.wide_num

@@ -3,7 +3,7 @@ use Rattle.std.proofs.Common.{◌≡◌, ℕ, ◌≤◌, ◌<◌, ◌^◌, List,
 use Rattle.std.specs.List.{AllByRecursion, All}
 use Rattle.std.specs.Fmt.{decimal}
 use Rattle.std.proofs.lemmas.List.Elements.{All-nil, All-cons, All-head, All-tail}
-use Rattle.book_form.specs.wide_num.proofs.Decimal.{decimal_one}
+use Rattle.book_form.specs.line_text.specs.wide_num.proofs.Decimal.{decimal_one}
 use Rattle.book_form.specs.line_text.specs.Decimals.{decimals_text}
 use Rattle.book_form.proofs.TextLaws.{numbers-push}
 use Rattle.bid_book.specs.Stops.{AreNumbers, IsField}

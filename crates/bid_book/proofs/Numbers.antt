@@ -2,7 +2,7 @@
 use Rattle.std.proofs.Common.{◌≡◌, ℕ, ◌<◌, ◌^◌, List, [], ◌∷◌, ◌++◌, refl}
 use Rattle.std.specs.List.{AllByRecursion}
 use Rattle.std.specs.Fmt.{decimal}
-use Rattle.book_form.specs.wide_num.proofs.Decimal.{decimal_one}
+use Rattle.book_form.specs.line_text.specs.wide_num.proofs.Decimal.{decimal_one}
 use Rattle.book_form.specs.line_text.specs.Decimals.{decimals_text}
 use Rattle.book_form.specs.line_text.proofs.DecimalFields.{one_field, decimals_stop, number_own}
 

@@ -4,7 +4,7 @@ use Rattle.std.specs.Prelude.{codes, IsTrue}
 use Rattle.std.specs.List.{AllByRecursion}
 use Rattle.std.proofs.lemmas.Bool.Decides.{nat_tests}
 use Rattle.std.specs.Fmt.{decimal}
-use Rattle.book_form.specs.wide_num.proofs.Decimal.{numeral_decimal, AreDigits}
+use Rattle.book_form.specs.line_text.specs.wide_num.proofs.Decimal.{numeral_decimal, AreDigits}
 use Rattle.book_form.specs.line_text.specs.LineText.{IsLine}
 use Rattle.book_form.specs.line_text.proofs.Lines.{line_append}
 use Rattle.lots.specs.auction_model.specs.Package.{is_within}

@@ -18,7 +18,7 @@ use Rattle.relative_cap.specs.auction_rules.specs.Terms.{Terms}
 use Rattle.relative_cap.specs.auction_rules.proofs.KeptStandings.{rounds-some}
 use Rattle.relative_cap.specs.auction_rules.proofs.LawfulBids.{each-weaker}
 use Rattle.relative_cap.specs.auction_rules.proofs.States.{length-listing}
-use Rattle.relative_cap.specs.award_file.specs.Award.{IsAward}
+use Rattle.relative_cap.specs.clock_stage.specs.award_file.specs.Award.{IsAward}
 use Rattle.relative_cap.specs.clock_stage.specs.Kept.{bidders_in, categories_in}
 use Rattle.bid_desk.specs.BookBids.{AreBooked, IsBooked, bids_by}
 use Rattle.bid_desk.specs.Known.{IsKnown, submitted_of}

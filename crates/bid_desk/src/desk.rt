@@ -12,7 +12,7 @@ ghost use Rattle.relative_cap.specs.auction_model.specs.PackageTests.{is_empty};
 ghost use Rattle.relative_cap.specs.auction_rules.specs.Replies.{has_entry, is_of, is_sealed, reply_to};
 ghost use Rattle.relative_cap.specs.auction_rules.specs.State.{book_in, drafts_of, reply_in, round_in, state_of, state_with};
 ghost use Rattle.relative_cap.specs.auction_rules.specs.View.{view};
-ghost use Rattle.relative_cap.specs.award_file.specs.Award.{IsAward};
+ghost use Rattle.relative_cap.specs.clock_stage.specs.award_file.specs.Award.{IsAward};
 ghost use Rattle.relative_cap.specs.clock_stage.specs.ClockState.{clock_of};
 ghost use Rattle.relative_cap.specs.clock_stage.specs.Kept.{IsFor, IsHeld};
 ghost use Rattle.relative_cap.specs.Answer.{excess_value};

@@ -7,7 +7,7 @@ use Rattle.std.proofs.lemmas.List.Elements.{All-from_recursion}
 use Rattle.std.proofs.lemmas.Bool.{cases_lt, and_parts, not-true}
 use Rattle.std.proofs.lemmas.Fmt.{decimal_digit, decimal_step}
 use Rattle.clock_stage.specs.book_form.specs.BookForm.{IsName}
-use Rattle.clock_stage.specs.limits.specs.declared.TheConstants.{MOST_COUNT, MOST_POINTS, MOST_PRICE}
+use Rattle.clock_stage.specs.award_file.specs.limits.specs.declared.TheConstants.{MOST_COUNT, MOST_POINTS, MOST_PRICE}
 use Rattle.clock_stage.specs.auction_rules.specs.Rounds.{listing}
 use Rattle.clock_stage.specs.award_file.specs.Award.{IsAward, IsEntrant, IsCap, names_of}
 use Rattle.big_auction.specs.MadeAward.{made_entrant, made_terms}

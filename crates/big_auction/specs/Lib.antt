@@ -5,7 +5,6 @@ pub mod LogText
 pub mod MadeLog
 pub mod Answered
 pub mod Parts
-pub use Rattle.clock_stage.specs.auction_rules
 pub use Rattle.clock_stage.specs.award_file
 pub use Rattle.clock_stage
 pub use Rattle.log_file

@@ -1,7 +1,7 @@
 // The lines of the log.
 ghost use Rattle.std.specs.Prelude.{◌≡◌, ◌≤◌, ◌+◌, ◌*◌, ◌++◌, ◌∷◌, [], ℕ, OnOk, length, map, ◌<◌, if◌then◌else◌, nat_le};
 ghost use Rattle.std.specs.List.{AllByRecursion};
-ghost use Rattle.clock_stage.specs.limits.specs.declared.TheConstants.{MOST_PRICE};
+ghost use Rattle.clock_stage.specs.award_file.specs.limits.specs.declared.TheConstants.{MOST_PRICE};
 ghost use Rattle.log_file.specs.LogForm.{counts_text};
 ghost use Rattle.clock_stage.specs.auction_rules.specs.declared.Event.TheVariants.{Bid, Draft, Submit, Close};
 ghost use Rattle.big_auction.specs.Draws.{behind};

@@ -1,7 +1,7 @@
 // The made texts.
 ghost use Rattle.std.specs.Prelude.{◌≡◌, ◌≤◌, ◌<◌, ◌++◌, IfOk, OnOk, length, map};
 ghost use Rattle.std.specs.List.{AllByRecursion};
-ghost use Rattle.clock_stage.specs.limits.specs.declared.TheConstants.{MOST_PRICE};
+ghost use Rattle.clock_stage.specs.award_file.specs.limits.specs.declared.TheConstants.{MOST_PRICE};
 ghost use Rattle.big_auction.specs.AwardText.{made_award_text};
 ghost use Rattle.big_auction.specs.Draws.{behind};
 ghost use Rattle.big_auction.specs.LogText.{log_text};

@@ -1,7 +1,7 @@
 // Prices and costs.
 ghost use Rattle.std.specs.Prelude.{◌≡◌, ◌≤◌, ◌-◌, ◌^◌, IfOk, if◌then◌else◌, length, map, nat_le};
 ghost use Rattle.std.specs.List.{AllByRecursion};
-ghost use Rattle.clock_stage.specs.limits.specs.declared.TheConstants.{MOST_PRICE};
+ghost use Rattle.clock_stage.specs.award_file.specs.limits.specs.declared.TheConstants.{MOST_PRICE};
 ghost use Rattle.row_laws.specs.auction_model.specs.Package.{cost_of};
 ghost use Rattle.row_laws.specs.auction_model.specs.PackageTests.{is_same};
 ghost use Rattle.clock_stage.specs.auction_rules.specs.Rounds.{prices_after, raised_prices};

@@ -2,4 +2,3 @@ pub mod BookForm
 pub mod BookLines
 pub use Rattle.limits
 pub use Rattle.line_text
-pub use Rattle.line_text.specs.wide_num

@@ -15,7 +15,7 @@ use Rattle.cert_laws.specs.auction_model.specs.Table.{IsEntry, IsExactTable, ent
 use Rattle.cert_laws.specs.auction_model.proofs.BookMarket.{market-of_book, winning-count}
 use Rattle.cert_laws.specs.auction_model.proofs.PlaceLaws.{left_at-whole}
 use Rattle.cert_laws.specs.auction_model.proofs.SkipLaws.{fits-skip}
-use Rattle.cert_text.specs.bid_book.specs.Kept.{IsBidBook}
+use Rattle.cert_text.specs.choices.specs.bid_book.specs.Kept.{IsBidBook}
 use Rattle.cert_laws.specs.cert_form.specs.Certificate.{WithoutValue, part_of}
 use Rattle.cert_laws.specs.cert_form.specs.CertText.{IsCertificate, IsChoice, IsTable}
 use Rattle.cert_laws.specs.Priced.{IsBestPart, IsPricedCert}

@@ -14,8 +14,8 @@ use Rattle.cert_laws.specs.auction_model.specs.Prices.{weight_of}
 use Rattle.core_price.specs.Rows.{prices_of}
 use Rattle.cert_laws.specs.row_laws.specs.Weights.{weights_in}
 use Rattle.core_price.specs.declared.priced.PricedRow.{PricedRow}
-use Rattle.cert_laws.specs.far_num.specs.Members.{holds}
-use Rattle.cert_laws.specs.far_num.specs.declared.Row.{Row}
+use Rattle.cert_laws.specs.row_laws.specs.far_num.specs.Members.{holds}
+use Rattle.cert_laws.specs.row_laws.specs.far_num.specs.declared.Row.{Row}
 use Rattle.core_price.specs.nearest_point.specs.Problem.{bounds, coefficients, weight_at}
 use Rattle.cert_laws.specs.point_laws.specs.Multipliers.{AreFirst, AreSecond, SumsTo, sum_at}
 use Rattle.cert_laws.specs.point_laws.proofs.Order.{zero_or}

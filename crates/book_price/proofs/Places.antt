@@ -8,7 +8,7 @@ use Rattle.cert_laws.specs.auction_model.specs.Market.{Market, uses}
 use Rattle.cert_laws.specs.cert_form.specs.Certificate.{WithoutValue, part_of}
 use Rattle.cert_text.specs.choices.specs.Singles.{AreSingles, IsSingle, winners_after}
 use Rattle.cert_text.specs.choices.specs.declared.chooser.Single.{Single}
-use Rattle.cert_laws.specs.far_num.specs.Members.{holds}
+use Rattle.cert_laws.specs.row_laws.specs.far_num.specs.Members.{holds}
 use Rattle.cert_laws.specs.row_laws.specs.Winners.{for_bidders, has_bit, winners_in}
 use Rattle.cert_laws.specs.row_laws.proofs.Bits.{holds-front, holds-rest}
 use Rattle.cert_laws.specs.wide_num.specs.Sums.{nth}

@@ -11,7 +11,7 @@ use Rattle.cert_laws.specs.auction_model.specs.Table.{IsExactTable}
 use Rattle.cert_laws.specs.auction_model.proofs.BoundLaws.{AreCapped, caps_of, lowered-capped, line-sizes}
 use Rattle.cert_laws.specs.auction_model.proofs.ListLaws.{zeros-at}
 use Rattle.cert_laws.specs.auction_model.proofs.PlainLaws.{fits-without_none, sum-plain}
-use Rattle.cert_text.specs.bid_book.specs.Kept.{IsBidBook}
+use Rattle.cert_text.specs.choices.specs.bid_book.specs.Kept.{IsBidBook}
 use Rattle.cert_laws.specs.cert_form.specs.CertText.{AllInRange, AreTableLines, IsTable}
 use Rattle.cert_laws.specs.Tests.{bidders_of, states}
 use Rattle.cert_text.specs.choices.specs.Lines.{width_of}

@@ -2,12 +2,9 @@ pub mod Found
 pub mod Made
 pub mod Reduced
 pub mod Stops
-pub use Rattle.cert_laws.specs.auction_model
-pub use Rattle.cert_laws.specs.cert_form
 pub use Rattle.cert_laws
 pub use Rattle.cert_text.specs.choices
 pub use Rattle.core_price
 pub use Rattle.cert_laws.specs.point_laws
 pub use Rattle.cert_laws.specs.row_laws
 pub use Rattle.vickrey
-pub use Rattle.cert_laws.specs.wide_num

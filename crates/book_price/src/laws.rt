@@ -2,7 +2,7 @@
 ghost use Rattle.std.specs.Prelude.{IsTrue, List, pos, ℕ, ◌*◌, ◌^◌, ◌≤ℤ◌, ◌≤◌};
 ghost use Rattle.cert_laws.specs.auction_model.specs.Book.{Book, market_of};
 ghost use Rattle.cert_laws.specs.auction_model.specs.Market.{value_of};
-ghost use Rattle.cert_text.specs.bid_book.specs.Kept.{IsBidBook};
+ghost use Rattle.cert_text.specs.choices.specs.bid_book.specs.Kept.{IsBidBook};
 ghost use Rattle.cert_text.specs.limits.specs.declared.TheConstants.{MOST_AMOUNT};
 ghost use Rattle.cert_laws.specs.row_laws.specs.Winners.{winners_in};
 

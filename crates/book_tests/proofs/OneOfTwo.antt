@@ -3,10 +3,10 @@ use Rattle.std.specs.Prelude.{◌≡◌, ℕ, zero, suc, ◌+◌, ◌-◌, ◌<�
 use Rattle.std.proofs.Common.{arith, sym}
 use Rattle.std.proofs.lemmas.Int.{ints, clamps}
 use Rattle.std.proofs.lemmas.Bool.{false≢true, leb-true, le-leb}
-use Rattle.weights_file.specs.auction_model.specs.Market.{sum_after, number_of}
-use Rattle.weights_file.specs.auction_model.specs.Greatest.{IsFirstGreatest, IsWinning}
-use Rattle.weights_file.specs.auction_model.specs.Lawful.{IsMarket}
-use Rattle.weights_file.specs.auction_model.specs.Lowered.{of_bidder, lowered}
+use Rattle.weights_file.specs.bid_book.specs.auction_model.specs.Market.{sum_after, number_of}
+use Rattle.weights_file.specs.bid_book.specs.auction_model.specs.Greatest.{IsFirstGreatest, IsWinning}
+use Rattle.weights_file.specs.bid_book.specs.auction_model.specs.Lawful.{IsMarket}
+use Rattle.weights_file.specs.bid_book.specs.auction_model.specs.Lowered.{of_bidder, lowered}
 use Rattle.outcome.specs.row_laws.specs.Surplus.{surpluses_of}
 use Rattle.outcome.specs.blocking.specs.Look.{CanLook}
 use Rattle.book_tests.specs.OneOfTwo.{at_most_one, worth_of, one_of_two, first_wins}

@@ -1,8 +1,8 @@
 -- The small book of the tests keeps the rules of a book.
 use Rattle.std.proofs.Common.{inl, ◌≡◌, ◌≢◌, ℕ, ◌≤◌, List, [], ◌∷◌, ◌++◌, ap, refl, get_or, arith, codes}
-use Rattle.weights_file.specs.auction_model.specs.Book.{BookBid, Bidder}
-use Rattle.weights_file.specs.book_form.specs.BookForm.{IsName, IsNameByte}
-use Rattle.weights_file.specs.book_form.specs.BookLines.{IsBookWithinLimits}
+use Rattle.weights_file.specs.bid_book.specs.auction_model.specs.Book.{BookBid, Bidder}
+use Rattle.weights_file.specs.bid_book.specs.book_form.specs.BookForm.{IsName, IsNameByte}
+use Rattle.weights_file.specs.bid_book.specs.book_form.specs.BookLines.{IsBookWithinLimits}
 use Rattle.weights_file.specs.bid_book.specs.Lists.{book_of}
 
 abbrev bid : ℕ → ℕ → BookBid

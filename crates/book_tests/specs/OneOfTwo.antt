@@ -1,6 +1,6 @@
 -- A market for the tests: two bidders have one bid each, worth 5 and 3, and at most one of them wins.
 use Rattle.std.specs.Prelude.{ℕ, zero, suc, ◌+◌, ◌==◌, Bool, false, nat_le, List, [], ◌∷◌, ℤ, pos, if◌then◌else◌}
-use Rattle.weights_file.specs.auction_model.specs.Market.{Market}
+use Rattle.weights_file.specs.bid_book.specs.auction_model.specs.Market.{Market}
 
 -- one number for each of the two, not both of them above 0
 abbrev pub at_most_one : List ℕ → Bool

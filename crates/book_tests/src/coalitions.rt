@@ -1,6 +1,6 @@
 ghost use Rattle.std.specs.Prelude.{◌≡◌, ⊤, ◌∷◌, [], IfOk};
-ghost use Rattle.weights_file.specs.auction_model.specs.Greatest.{IsWinning};
-ghost use Rattle.weights_file.specs.auction_model.specs.Lawful.{IsMarket};
+ghost use Rattle.weights_file.specs.bid_book.specs.auction_model.specs.Greatest.{IsWinning};
+ghost use Rattle.weights_file.specs.bid_book.specs.auction_model.specs.Lawful.{IsMarket};
 ghost use Rattle.book_tests.specs.OneOfTwo.{one_of_two, first_wins};
 
 use outcome::blocking::{Looked, find_block};

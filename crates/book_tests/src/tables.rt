@@ -1,5 +1,5 @@
 ghost use Rattle.std.specs.Prelude.{IsTrue, pos};
-ghost use Rattle.weights_file.specs.auction_model.specs.Book.{market_of};
+ghost use Rattle.weights_file.specs.bid_book.specs.auction_model.specs.Book.{market_of};
 ghost use Rattle.slot_places.specs.choices.specs.Lowering.{CanLower};
 ghost use Rattle.vickrey.specs.value_table.specs.SideValues.{AreSidesOf};
 

@@ -1,15 +1,15 @@
 -- What the stops of the readers say of the bytes.
 use Rattle.std.proofs.Common.{inl, inr, ◌≡◌, ◌⊎◌, ℕ, List, length, refl, sym, ap}
 use Rattle.place_cert.specs.line_text.specs.LineText.{faulty, beyond, Says}
-use Rattle.log_file.specs.auction_model.specs.Book.{Book as BookValue}
-use Rattle.weights_file.specs.book_form.specs.BookForm.{IsBook}
-use Rattle.weights_file.specs.book_form.specs.BookLines.{lines}
+use Rattle.log_file.specs.award_file.specs.auction_model.specs.Book.{Book as BookValue}
+use Rattle.weights_file.specs.bid_book.specs.book_form.specs.BookForm.{IsBook}
+use Rattle.weights_file.specs.bid_book.specs.book_form.specs.BookLines.{lines}
 use Rattle.log_file.specs.limits.specs.declared.LimitKind.{LimitKind}
 use Rattle.log_file.specs.bid_book.specs.declared.BookStop.{BookStop}
 use Rattle.log_file.specs.bid_book.specs.declared.BookStop.TheVariants as book
 use Rattle.place_cert.specs.cert_text.specs.declared.stop.CertStop.{CertStop}
 use Rattle.place_cert.specs.cert_text.specs.declared.stop.CertStop.TheVariants as cert
-use Rattle.log_file.specs.auction_rules.specs.Terms.{Terms}
+use Rattle.log_file.specs.award_file.specs.auction_rules.specs.Terms.{Terms}
 use Rattle.weights_file.specs.WeightsForm.{WeightsSay}
 use Rattle.weights_file.specs.declared.WeightStop.{WeightStop}
 use Rattle.weights_file.specs.declared.WeightStop.TheVariants as weights

@@ -3,17 +3,17 @@ use Rattle.std.specs.Prelude.{◌≡◌, ◌⊎◌, ℕ, suc, List, length}
 use Rattle.log_file.specs.limits.specs.declared.LimitKind.TheVariants.{Records}
 use Rattle.log_file.specs.limits.specs.declared.TheConstants.{MOST_RECORDS}
 use Rattle.place_cert.specs.line_text.specs.LineText.{Said, stated, faulty, beyond, Says}
-use Rattle.log_file.specs.auction_model.specs.Book.{Book as BookValue}
-use Rattle.weights_file.specs.book_form.specs.BookForm.{IsBook}
-use Rattle.weights_file.specs.book_form.specs.BookLines.{Excess, lines}
-use Rattle.log_file.specs.auction_rules.specs.Terms.{Terms}
-use Rattle.log_file.specs.auction_rules.specs.declared.Event.{Event}
+use Rattle.log_file.specs.award_file.specs.auction_model.specs.Book.{Book as BookValue}
+use Rattle.weights_file.specs.bid_book.specs.book_form.specs.BookForm.{IsBook}
+use Rattle.weights_file.specs.bid_book.specs.book_form.specs.BookLines.{Excess, lines}
+use Rattle.log_file.specs.award_file.specs.auction_rules.specs.Terms.{Terms}
+use Rattle.log_file.specs.award_file.specs.auction_rules.specs.declared.Event.{Event}
 use Rattle.log_file.specs.award_file.specs.Award.{IsAward}
 use Rattle.log_file.specs.award_file.specs.Reading as award
 use Rattle.log_file.specs.LogReading.{AreLog, AreTooMany, IsFirstFault, log_records}
 use Rattle.place_cert.specs.cert_form.specs.Certificate.{CertValue}
 use Rattle.place_cert.specs.cert_form.specs.Says.{CertSays}
-use Rattle.piece_check.specs.cert_laws.specs.Tests.{bidders_of, states}
+use Rattle.piece_check.specs.cert_facts.specs.cert_laws.specs.Tests.{bidders_of, states}
 use Rattle.weights_file.specs.WeightsForm.{WeightsSay}
 use Rattle.slot_places.specs.SlotForm.{IsSlotText, slot_lines}
 use Rattle.slot_places.specs.Slots.{SlotList}

@@ -8,7 +8,7 @@ pub mod Answers
 pub mod Stops
 pub mod Reading
 pub use Rattle.log_file.specs.bid_book
-pub use Rattle.weights_file.specs.book_form
+pub use Rattle.weights_file.specs.bid_book.specs.book_form
 pub use Rattle.cca_base
 pub use Rattle.piece_check
 pub use Rattle.piece_check.specs.cert_facts

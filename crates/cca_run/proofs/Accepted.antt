@@ -9,8 +9,8 @@ use Rattle.cca_work.specs.cca_inputs.specs.book_form.specs.BookLines.{Excess, li
 use Rattle.cca_work.specs.cca_inputs.specs.bid_book.proofs.Within.{kept}
 use Rattle.cca_work.specs.cca_inputs.specs.bid_book.specs.Kept.{IsBidBook}
 use Rattle.cca_work.specs.cca_inputs.specs.cert_form.specs.Certificate.{CertValue}
-use Rattle.cca_work.specs.big_auction.specs.auction_rules.specs.Terms.{Terms}
-use Rattle.cca_work.specs.big_auction.specs.auction_rules.specs.declared.Event.{Event}
+use Rattle.cca_work.specs.big_auction.specs.clock_stage.specs.auction_rules.specs.Terms.{Terms}
+use Rattle.cca_work.specs.big_auction.specs.clock_stage.specs.auction_rules.specs.declared.Event.{Event}
 use Rattle.cca_work.specs.big_auction.specs.award_file.specs.Award.{IsAward}
 use Rattle.cca_work.specs.big_auction.specs.log_file.specs.LogReading.{AreLog, log_records}
 use Rattle.cca_work.specs.log_replay.specs.ReplyLines.{end_of}

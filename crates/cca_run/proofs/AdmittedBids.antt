@@ -4,10 +4,10 @@ use Rattle.std.specs.Prelude.{◌&&◌, not}
 use Rattle.std.specs.List.{AllByRecursion}
 use Rattle.cca_work.specs.outcome.specs.auction_model.specs.Book.{Bidder, bidder_of, bids_of}
 use Rattle.cca_work.specs.outcome.specs.auction_model.specs.PackageTests.{is_empty}
-use Rattle.cca_work.specs.big_auction.specs.auction_rules.specs.BookOfLog.{IsGreatestFor, bids_in_book, book_bidder, book_of_log, pairs_of}
-use Rattle.cca_work.specs.big_auction.specs.auction_rules.specs.Replies.{admitted, has_entry, standing}
-use Rattle.cca_work.specs.big_auction.specs.auction_rules.specs.Terms.{Terms}
-use Rattle.cca_work.specs.big_auction.specs.auction_rules.specs.declared.Event.{Event}
+use Rattle.cca_work.specs.big_auction.specs.clock_stage.specs.auction_rules.specs.BookOfLog.{IsGreatestFor, bids_in_book, book_bidder, book_of_log, pairs_of}
+use Rattle.cca_work.specs.big_auction.specs.clock_stage.specs.auction_rules.specs.Replies.{admitted, has_entry, standing}
+use Rattle.cca_work.specs.big_auction.specs.clock_stage.specs.auction_rules.specs.Terms.{Terms}
+use Rattle.cca_work.specs.big_auction.specs.clock_stage.specs.auction_rules.specs.declared.Event.{Event}
 use Rattle.cca_run.specs.Headline.{HoldsAdmittedBids, book_of}
 
 -- by what the rules say of each bidder

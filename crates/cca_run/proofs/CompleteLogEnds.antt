@@ -4,13 +4,13 @@ use Rattle.std.specs.Prelude.{◌+◌, Result, Ok, Err, reverse, if◌then◌els
 use Rattle.std.specs.Option.{option_or}
 use Rattle.std.proofs.lemmas.Bool.{cases_lt}
 use Rattle.cca_work.specs.outcome.specs.auction_model.specs.Book.{Book}
-use Rattle.cca_work.specs.big_auction.specs.auction_rules.specs.BookOfLog.{book_of_log, is_complete}
-use Rattle.cca_work.specs.big_auction.specs.auction_rules.specs.Replies.{reply_to}
-use Rattle.cca_work.specs.big_auction.specs.auction_rules.specs.Terms.{Terms}
-use Rattle.cca_work.specs.big_auction.specs.auction_rules.specs.declared.Event.{Event}
-use Rattle.cca_work.specs.big_auction.specs.auction_rules.specs.declared.Event.TheVariants.{Bid, Draft, Drop, Submit, Close}
-use Rattle.cca_work.specs.big_auction.specs.auction_rules.specs.declared.Reply.{Reply}
-use Rattle.cca_work.specs.big_auction.specs.auction_rules.specs.declared.Reply.TheVariants as reply
+use Rattle.cca_work.specs.big_auction.specs.clock_stage.specs.auction_rules.specs.BookOfLog.{book_of_log, is_complete}
+use Rattle.cca_work.specs.big_auction.specs.clock_stage.specs.auction_rules.specs.Replies.{reply_to}
+use Rattle.cca_work.specs.big_auction.specs.clock_stage.specs.auction_rules.specs.Terms.{Terms}
+use Rattle.cca_work.specs.big_auction.specs.clock_stage.specs.auction_rules.specs.declared.Event.{Event}
+use Rattle.cca_work.specs.big_auction.specs.clock_stage.specs.auction_rules.specs.declared.Event.TheVariants.{Bid, Draft, Drop, Submit, Close}
+use Rattle.cca_work.specs.big_auction.specs.clock_stage.specs.auction_rules.specs.declared.Reply.{Reply}
+use Rattle.cca_work.specs.big_auction.specs.clock_stage.specs.auction_rules.specs.declared.Reply.TheVariants as reply
 use Rattle.cca_work.specs.log_replay.specs.ReplyLines.{book_or_open, end_of, first_refusal, refusal_of, stopped_or}
 use Rattle.cca_work.specs.log_replay.specs.declared.results.ReplayStop.{ReplayStop}
 use Rattle.cca_work.specs.log_replay.specs.declared.results.ReplayStop.TheVariants.{Rounds, Price, Open}

@@ -8,8 +8,8 @@ use Rattle.cca_work.specs.outcome.specs.auction_model.specs.Greatest.{IsWinning}
 use Rattle.cca_work.specs.outcome.specs.auction_model.specs.Market.{Market}
 use Rattle.cca_work.specs.outcome.specs.auction_model.specs.Prices.{AreVickreyPrices, IsCoreOutcome, Point, weight_of}
 use Rattle.cca_work.specs.outcome.specs.row_laws.specs.Outcome.{IsAuctionOutcome}
-use Rattle.cca_work.specs.big_auction.specs.auction_rules.specs.Terms.{Terms}
-use Rattle.cca_work.specs.big_auction.specs.auction_rules.specs.declared.Event.{Event}
+use Rattle.cca_work.specs.big_auction.specs.clock_stage.specs.auction_rules.specs.Terms.{Terms}
+use Rattle.cca_work.specs.big_auction.specs.clock_stage.specs.auction_rules.specs.declared.Event.{Event}
 use Rattle.cca_work.specs.big_auction.specs.award_file.specs.Reading as reading
 use Rattle.cca_work.specs.big_auction.specs.log_file.specs.LogReading.{AreLog, log_records}
 use Rattle.cca_work.specs.log_replay.specs.ReplyLines.{end_of}

@@ -8,10 +8,10 @@ use Rattle.cca_work.specs.outcome.specs.auction_model.specs.Lawful.{IsMarket}
 use Rattle.cca_work.specs.cca_inputs.specs.book_form.specs.BookLines.{IsBookWithinLimits}
 use Rattle.cca_work.specs.cca_inputs.specs.bid_book.proofs.Within.{kept}
 use Rattle.cca_work.specs.cca_inputs.specs.bid_book.specs.Kept.{IsBidBook}
-use Rattle.cca_work.specs.big_auction.specs.auction_rules.specs.BookOfLog.{book_of_log, is_complete}
-use Rattle.cca_work.specs.big_auction.specs.auction_rules.specs.Lawful.{HasCategories}
-use Rattle.cca_work.specs.big_auction.specs.auction_rules.specs.Terms.{Terms}
-use Rattle.cca_work.specs.big_auction.specs.auction_rules.specs.declared.Event.{Event}
+use Rattle.cca_work.specs.big_auction.specs.clock_stage.specs.auction_rules.specs.BookOfLog.{book_of_log, is_complete}
+use Rattle.cca_work.specs.big_auction.specs.clock_stage.specs.auction_rules.specs.Lawful.{HasCategories}
+use Rattle.cca_work.specs.big_auction.specs.clock_stage.specs.auction_rules.specs.Terms.{Terms}
+use Rattle.cca_work.specs.big_auction.specs.clock_stage.specs.auction_rules.specs.declared.Event.{Event}
 use Rattle.cca_work.specs.big_auction.specs.award_file.specs.Award.{IsAward}
 use Rattle.cca_work.specs.big_auction.specs.log_file.specs.LogReading.{AreLog}
 use Rattle.cca_work.specs.log_replay.specs.ReplyLines.{book_or_open, end_of, first_refusal, stopped_or}

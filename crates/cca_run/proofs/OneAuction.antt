@@ -4,8 +4,8 @@ use Rattle.std.specs.Prelude.{Result, Ok, Err}
 use Rattle.cca_work.specs.cca_inputs.specs.limits.specs.declared.TheConstants.{AWARD_BYTES, LOG_BYTES}
 use Rattle.cca_work.specs.cca_inputs.specs.line_text.specs.LineText.{stated, Says}
 use Rattle.cca_work.specs.outcome.specs.auction_model.specs.Book.{Book}
-use Rattle.cca_work.specs.big_auction.specs.auction_rules.specs.Terms.{Terms}
-use Rattle.cca_work.specs.big_auction.specs.auction_rules.specs.declared.Event.{Event}
+use Rattle.cca_work.specs.big_auction.specs.clock_stage.specs.auction_rules.specs.Terms.{Terms}
+use Rattle.cca_work.specs.big_auction.specs.clock_stage.specs.auction_rules.specs.declared.Event.{Event}
 use Rattle.cca_work.specs.cca_inputs.specs.book_form.specs.BookForm.{IsBook}
 use Rattle.cca_work.specs.cca_inputs.specs.book_form.specs.BookLines.{lines}
 use Rattle.cca_work.specs.log_replay.specs.declared.results.ReplayStop.{ReplayStop}

@@ -1,7 +1,7 @@
 -- The bytes of an award, and of a log of an award, have one answer.
 use Rattle.std.proofs.Common.{inl, inr, ◌≡◌, ◌∙◌, ℕ, List, sym, ap}
-use Rattle.cca_work.specs.big_auction.specs.auction_rules.specs.Terms.{Terms}
-use Rattle.cca_work.specs.big_auction.specs.auction_rules.specs.declared.Event.{Event}
+use Rattle.cca_work.specs.big_auction.specs.clock_stage.specs.auction_rules.specs.Terms.{Terms}
+use Rattle.cca_work.specs.big_auction.specs.clock_stage.specs.auction_rules.specs.declared.Event.{Event}
 use Rattle.cca_work.specs.big_auction.specs.log_file.specs.LogReading.{AreLog, AreTooMany, IsFirstFault, log_records}
 use Rattle.cca_work.specs.cca_inputs.specs.Answers.{AwardAnswers, LogAnswers, RecordsAnswer}
 use Rattle.cca_work.specs.cca_inputs.specs.Outcome.{Answer, stops, value}

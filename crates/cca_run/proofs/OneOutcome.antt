@@ -25,8 +25,8 @@ use Rattle.std.specs.Prelude.{Result, Ok, Err, reverse}
 use Rattle.cca_work.specs.big_auction.specs.award_file.specs.Award.{IsAward}
 use Rattle.cca_work.specs.big_auction.specs.log_file.specs.LogReading.{AreLog, log_records}
 use Rattle.cca_work.specs.log_replay.specs.ReplyLines.{end_of}
-use Rattle.cca_work.specs.big_auction.specs.auction_rules.specs.Terms.{Terms}
-use Rattle.cca_work.specs.big_auction.specs.auction_rules.specs.declared.Event.{Event}
+use Rattle.cca_work.specs.big_auction.specs.clock_stage.specs.auction_rules.specs.Terms.{Terms}
+use Rattle.cca_work.specs.big_auction.specs.clock_stage.specs.auction_rules.specs.declared.Event.{Event}
 use Rattle.cca_work.specs.log_replay.specs.declared.results.ReplayStop.{ReplayStop}
 use Rattle.cca_work.specs.cca_inputs.specs.weights_file.specs.WeightsForm.{WeightsSay}
 use Rattle.cca_work.specs.cca_inputs.specs.edits_file.specs.EditsForm.{AreNamedEdits, EditsSay, NamedEdit, add, raise, remove, edits_of}

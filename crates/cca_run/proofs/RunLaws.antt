@@ -3,8 +3,8 @@ use Rattle.std.proofs.Common.{◌≡◌, ◌≢◌, ◌⊎◌, ◌∙◌, ℕ, �
 use Rattle.std.proofs.Common.{arith, inl, inr}
 use Rattle.std.proofs.lemmas.List.{append-nil, take_all}
 use Rattle.std.proofs.Math.Seq.{drop-append_seam}
-use Rattle.cca_work.specs.big_auction.specs.auction_rules.specs.Terms.{Terms}
-use Rattle.cca_work.specs.big_auction.specs.auction_rules.specs.declared.Event.{Event}
+use Rattle.cca_work.specs.big_auction.specs.clock_stage.specs.auction_rules.specs.Terms.{Terms}
+use Rattle.cca_work.specs.big_auction.specs.clock_stage.specs.auction_rules.specs.declared.Event.{Event}
 use Rattle.cca_work.specs.cca_inputs.specs.cca_base.specs.Files.{Adds, Agrees, Folder, added}
 use Rattle.cca_work.specs.cca_inputs.specs.cca_base.specs.Sink.{Output, Puts}
 use Rattle.cca_work.specs.cca_inputs.specs.Command.{CommandValue, audit, award, command_of}

@@ -5,10 +5,10 @@ use Rattle.cca_work.specs.outcome.specs.auction_model.specs.Book.{Book, bids_of,
 use Rattle.cca_work.specs.outcome.specs.auction_model.specs.PackageTests.{is_empty}
 use Rattle.cca_work.specs.outcome.specs.auction_model.specs.Greatest.{IsWinning}
 use Rattle.cca_work.specs.outcome.specs.row_laws.specs.Outcome.{IsAuctionOutcome}
-use Rattle.cca_work.specs.big_auction.specs.auction_rules.specs.BookOfLog.{IsGreatestFor, book_of_log, is_complete, pairs_of}
-use Rattle.cca_work.specs.big_auction.specs.auction_rules.specs.Replies.{admitted, has_entry, standing}
-use Rattle.cca_work.specs.big_auction.specs.auction_rules.specs.Terms.{Terms}
-use Rattle.cca_work.specs.big_auction.specs.auction_rules.specs.declared.Event.{Event}
+use Rattle.cca_work.specs.big_auction.specs.clock_stage.specs.auction_rules.specs.BookOfLog.{IsGreatestFor, book_of_log, is_complete, pairs_of}
+use Rattle.cca_work.specs.big_auction.specs.clock_stage.specs.auction_rules.specs.Replies.{admitted, has_entry, standing}
+use Rattle.cca_work.specs.big_auction.specs.clock_stage.specs.auction_rules.specs.Terms.{Terms}
+use Rattle.cca_work.specs.big_auction.specs.clock_stage.specs.auction_rules.specs.declared.Event.{Event}
 use Rattle.cca_work.specs.big_auction.specs.award_file.specs.Reading.{reading, states}
 use Rattle.cca_work.specs.big_auction.specs.log_file.specs.LogReading.{AreLog, log_records}
 use Rattle.cca_work.specs.cca_inputs.specs.cert_form.specs.Certificate.{CertValue}

@@ -1,7 +1,7 @@
 -- What a run keeps: the clauses of the top call, each by its name. What they say stands there.
 use Rattle.std.specs.Prelude.{◌≡◌, ◌⊎◌, ◌≤◌, ◌<◌, ◌∷◌, ℕ, IsTrue, List, [], length, Option, Some, None}
-use Rattle.cca_work.specs.big_auction.specs.auction_rules.specs.Terms.{Terms}
-use Rattle.cca_work.specs.big_auction.specs.auction_rules.specs.declared.Event.{Event}
+use Rattle.cca_work.specs.big_auction.specs.clock_stage.specs.auction_rules.specs.Terms.{Terms}
+use Rattle.cca_work.specs.big_auction.specs.clock_stage.specs.auction_rules.specs.declared.Event.{Event}
 use Rattle.cca_work.specs.cca_inputs.specs.cca_base.specs.Files.{Agrees, Folder, KeepsFiles}
 use Rattle.cca_work.specs.cca_inputs.specs.cca_base.specs.Sink.{Output, Puts}
 use Rattle.cca_work.specs.cca_inputs.specs.Command as command

@@ -1,7 +1,7 @@
 // The top call.
 ghost use Rattle.std.specs.Prelude.{◌≡◌, ◌⊎◌, ◌≤◌, ◌<◌, ◌∷◌, ℕ, List, [], length, map, string_bytes, All, IsTrue, Option, Some, None};
-ghost use Rattle.cca_work.specs.big_auction.specs.auction_rules.specs.Terms.{Terms};
-ghost use Rattle.cca_work.specs.big_auction.specs.auction_rules.specs.declared.Event.{Event};
+ghost use Rattle.cca_work.specs.big_auction.specs.clock_stage.specs.auction_rules.specs.Terms.{Terms};
+ghost use Rattle.cca_work.specs.big_auction.specs.clock_stage.specs.auction_rules.specs.declared.Event.{Event};
 ghost use Rattle.cca_work.specs.cca_inputs.specs.cca_base.specs.Files.{Agrees, KeepsFiles};
 ghost use Rattle.cca_work.specs.cca_inputs.specs.cca_base.specs.Sink.{Puts};
 ghost use Rattle.cca_work.specs.cca_inputs.specs.Command.{audit, award, command_of};

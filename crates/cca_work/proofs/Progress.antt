@@ -16,8 +16,8 @@ use Rattle.cca_inputs.specs.declared.status.FileKind.TheVariants as part
 use Rattle.cca_inputs.specs.declared.status.Status.{Status}
 use Rattle.cca_inputs.specs.declared.status.Status.TheVariants.{Memory, ReadFault}
 use Rattle.outcome.specs.auction_model.specs.Book.{Book}
-use Rattle.big_auction.specs.auction_rules.specs.Terms.{Terms}
-use Rattle.big_auction.specs.auction_rules.specs.declared.Event.{Event}
+use Rattle.big_auction.specs.clock_stage.specs.auction_rules.specs.Terms.{Terms}
+use Rattle.big_auction.specs.clock_stage.specs.auction_rules.specs.declared.Event.{Event}
 use Rattle.log_replay.specs.ReplyLines.{end_of}
 use Rattle.log_replay.specs.declared.results.ReplayStop.{ReplayStop}
 use Rattle.log_replay.specs.declared.results.ReplayStop.TheVariants.{Rounds, Price, Open}

@@ -6,8 +6,8 @@ use Rattle.outcome.specs.auction_model.specs.Greatest.{IsWinning}
 use Rattle.outcome.specs.auction_model.specs.Book.{market_of, Book as BookValue}
 use Rattle.outcome.specs.auction_model.specs.Prices.{Point, weight_of}
 use Rattle.outcome.specs.auction_model.specs.PricingRun.{Turn, IsPricingRun}
-use Rattle.big_auction.specs.auction_rules.specs.Terms.{Terms}
-use Rattle.big_auction.specs.auction_rules.specs.declared.Event.{Event}
+use Rattle.big_auction.specs.clock_stage.specs.auction_rules.specs.Terms.{Terms}
+use Rattle.big_auction.specs.clock_stage.specs.auction_rules.specs.declared.Event.{Event}
 use Rattle.cca_inputs.specs.book_form.specs.BookForm.{IsBook}
 use Rattle.cca_inputs.specs.book_form.specs.BookLines.{lines}
 use Rattle.log_replay.specs.ReplyLines.{end_of, reply_lines}

@@ -3,8 +3,8 @@ use Rattle.std.specs.Prelude.{◌≡◌, ◌⊎◌, ◌≤◌, ℕ, IsSome, Opti
 use Rattle.std.specs.Prelude.{Contains, length, map, reverse, take, unwrap_or}
 use Rattle.std.specs.List.{AllByRecursion}
 use Rattle.outcome.specs.auction_model.specs.Book.{Book}
-use Rattle.big_auction.specs.auction_rules.specs.Terms.{Terms}
-use Rattle.big_auction.specs.auction_rules.specs.declared.Event.{Event}
+use Rattle.big_auction.specs.clock_stage.specs.auction_rules.specs.Terms.{Terms}
+use Rattle.big_auction.specs.clock_stage.specs.auction_rules.specs.declared.Event.{Event}
 use Rattle.log_replay.specs.ReplyLines.{end_of}
 use Rattle.log_replay.specs.declared.results.ReplayStop.{ReplayStop}
 use Rattle.cca_inputs.specs.cca_base.specs.Faults.{Rose}

@@ -1,7 +1,7 @@
 // What the log of an auction gives.
 ghost use Rattle.std.specs.Prelude.{◌≡◌, ◌<◌, ◌^◌, [], ◌∷◌, Ok, Some};
 ghost use Rattle.std.specs.List.{AllByRecursion};
-ghost use Rattle.big_auction.specs.auction_rules.specs.Lawful.{HasCategories};
+ghost use Rattle.big_auction.specs.clock_stage.specs.auction_rules.specs.Lawful.{HasCategories};
 ghost use Rattle.cca_inputs.specs.declared.status.FileKind.{FileKind};
 ghost use Rattle.cca_work.specs.Gives.{AuctionGives, RepliesGive, replay_status};
 ghost use Rattle.cca_work.specs.Works.{HasBook, IsWork};

@@ -11,8 +11,8 @@ use Rattle.cert_laws.specs.auction_model.proofs.PlaceLaws.{states-positive, plac
 use Rattle.cert_laws.specs.auction_model.proofs.PackageLaws.{less-empty}
 use Rattle.cert_laws.specs.auction_model.proofs.DominatedLaws.{lowered-in_order, less-within}
 use Rattle.cert_laws.specs.auction_model.proofs.PartReads.{read-part}
-use Rattle.cert_text.specs.bid_book.specs.Better.{IsBetter}
-use Rattle.cert_text.specs.bid_book.specs.Kept.{IsBidBook}
+use Rattle.cert_text.specs.choices.specs.bid_book.specs.Better.{IsBetter}
+use Rattle.cert_text.specs.choices.specs.bid_book.specs.Kept.{IsBidBook}
 use Rattle.cert_laws.specs.Tests.{states}
 use Rattle.cert_check.specs.Faults.{FirstFault}
 use Rattle.cert_laws.specs.wide_num.specs.Sums.{nth}

@@ -10,7 +10,7 @@ use Rattle.cert_laws.specs.auction_model.specs.Market.{number_of, value_of, uses
 use Rattle.cert_laws.specs.auction_model.specs.Menu.{is_known_after}
 use Rattle.cert_laws.specs.auction_model.specs.Prices.{sum_over, everyone}
 use Rattle.cert_laws.specs.auction_model.proofs.BookMarket.{market-of_book, fits-known}
-use Rattle.cert_text.specs.bid_book.specs.Kept.{IsBidBook}
+use Rattle.cert_text.specs.choices.specs.bid_book.specs.Kept.{IsBidBook}
 use Rattle.cert_laws.specs.row_laws.proofs.Sizes.{worth-nonneg}
 use Rattle.cert_laws.specs.row_laws.proofs.Sums.{over-is, choice-is}
 use Rattle.cert_laws.specs.wide_num.specs.Sums.{total}

@@ -7,7 +7,7 @@ use Rattle.cert_laws.specs.auction_model.specs.Menu.{without}
 use Rattle.cert_laws.specs.auction_model.specs.Book.{net_of, menu_of}
 use Rattle.cert_laws.specs.auction_model.specs.Lowered.{of_bidder}
 use Rattle.cert_laws.specs.auction_model.specs.Prices.{sum_over, everyone}
-use Rattle.cert_text.specs.bid_book.specs.Kept.{IsBidBook}
+use Rattle.cert_text.specs.choices.specs.bid_book.specs.Kept.{IsBidBook}
 use Rattle.cert_laws.specs.cert_form.specs.Certificate.{CertValue}
 use Rattle.cert_laws.specs.cert_form.specs.CertText.{AllInRange}
 use Rattle.cert_laws.specs.Tests.{bidders_of, lowered_net, C9}

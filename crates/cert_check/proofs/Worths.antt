@@ -7,7 +7,7 @@ use Rattle.cert_laws.specs.auction_model.specs.Book.{Book, net_of}
 use Rattle.cert_laws.specs.auction_model.specs.Lowered.{of_bidder}
 use Rattle.cert_laws.specs.auction_model.specs.Menu.{Menu}
 use Rattle.cert_laws.specs.auction_model.proofs.ListLaws.{zeros-at}
-use Rattle.cert_text.specs.bid_book.specs.Kept.{IsBidBook}
+use Rattle.cert_text.specs.choices.specs.bid_book.specs.Kept.{IsBidBook}
 use Rattle.cert_laws.specs.cert_form.specs.Certificate.{CertValue}
 use Rattle.cert_laws.specs.Tests.{ObeysAt, Obeys, bidders_of, lowered_net}
 use Rattle.cert_check.specs.LineTests.{TableAt}

@@ -14,9 +14,7 @@ pub mod Worths
 pub mod LineTests
 pub mod EarlierBids
 pub use Rattle.cert_laws.specs.auction_model
-pub use Rattle.cert_laws.specs.cert_form
 pub use Rattle.cert_laws
 pub use Rattle.cert_text
 pub use Rattle.cert_text.specs.limits
-pub use Rattle.cert_text.specs.line_text
 pub use Rattle.cert_laws.specs.wide_num

@@ -4,7 +4,7 @@ ghost use Rattle.cert_laws.specs.auction_model.specs.Book.{market_of};
 ghost use Rattle.cert_laws.specs.auction_model.specs.Lowered.{of_bidder};
 ghost use Rattle.cert_laws.specs.auction_model.specs.Market.{uses, worth_in};
 ghost use Rattle.cert_laws.specs.auction_model.specs.Prices.{AreWeights, weight_of};
-ghost use Rattle.cert_text.specs.bid_book.specs.Kept.{IsBidBook};
+ghost use Rattle.cert_text.specs.choices.specs.bid_book.specs.Kept.{IsBidBook};
 ghost use Rattle.cert_check.specs.Columns.{AreFirsts, AreFirstSums, AreSeconds, AreSecondSums};
 ghost use Rattle.cert_check.specs.Fields.{AreValuesWithout, IsOf, cert_with};
 ghost use Rattle.cert_check.specs.Places.{IsFirstFailing};

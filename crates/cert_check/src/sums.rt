@@ -5,7 +5,7 @@ ghost use Rattle.cert_laws.specs.auction_model.specs.Lowered.{of_bidder};
 ghost use Rattle.cert_laws.specs.auction_model.specs.Market.{worth_in};
 ghost use Rattle.cert_laws.specs.auction_model.specs.Menu.{is_known_after};
 ghost use Rattle.cert_laws.specs.auction_model.specs.Prices.{sum_over};
-ghost use Rattle.cert_text.specs.bid_book.specs.Kept.{IsBidBook};
+ghost use Rattle.cert_text.specs.choices.specs.bid_book.specs.Kept.{IsBidBook};
 ghost use Rattle.cert_check.specs.Multipliers.{multiplier_of};
 ghost use Rattle.cert_laws.specs.cert_form.specs.CertText.{AllInRange, AreRows};
 ghost use Rattle.cert_laws.specs.cert_form.specs.Certificate.{is_member};

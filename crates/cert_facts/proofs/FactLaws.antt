@@ -2,7 +2,7 @@
 use Rattle.std.proofs.Common.{◌≡◌, ℕ, ◌≤◌, ◌^◌, cond, List, [], ◌∷◌, map, pos, unsigned_abs, refl, sym, ap, subst, ◌∙◌}
 use Rattle.std.specs.List.{AllByRecursion}
 use Rattle.cert_laws.specs.auction_model.specs.Book.{Book}
-use Rattle.cert_text.specs.bid_book.specs.Kept.{IsBidBook}
+use Rattle.cert_text.specs.choices.specs.bid_book.specs.Kept.{IsBidBook}
 use Rattle.cert_laws.specs.cert_form.specs.Certificate.{CertValue, WithoutValue}
 use Rattle.cert_laws.specs.Sound.{cert_prices}
 use Rattle.cert_laws.specs.Tests.{vickrey_of}

@@ -6,7 +6,7 @@ use Rattle.std.proofs.lemmas.Bool.{and_from, and_parts, le-leb}
 use Rattle.cert_laws.specs.auction_model.specs.Book.{Book, bids_of, menu_of, market_of}
 use Rattle.cert_laws.specs.auction_model.specs.Market.{number_of, uses, value_of}
 use Rattle.cert_laws.specs.auction_model.specs.Menu.{Menu, is_known_after}
-use Rattle.cert_text.specs.bid_book.specs.Kept.{IsBidBook}
+use Rattle.cert_text.specs.choices.specs.bid_book.specs.Kept.{IsBidBook}
 use Rattle.cert_laws.specs.cert_form.specs.Certificate.{CertValue, part_of}
 use Rattle.cert_laws.specs.Tests.{bidders_of, won, vickrey_of}
 use Rattle.cert_facts.specs.Facts.{HasFacts}

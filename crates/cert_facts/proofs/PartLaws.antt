@@ -3,7 +3,7 @@ use Rattle.std.proofs.Common.{◌≡◌, ℕ, zero, suc, ◌+◌, ◌<◌, ◌�
 use Rattle.std.proofs.lemmas.List.{get_or-map, length-map, take_all}
 use Rattle.std.specs.List.{AllByRecursion}
 use Rattle.cert_laws.specs.auction_model.specs.Book.{Book}
-use Rattle.cert_text.specs.bid_book.proofs.Within.{each_at}
+use Rattle.cert_text.specs.choices.specs.bid_book.proofs.Within.{each_at}
 use Rattle.cert_laws.specs.cert_form.specs.Certificate.{WithoutValue, part_of}
 use Rattle.cert_laws.specs.cert_form.specs.CertText.{AreWithouts}
 use Rattle.cert_laws.proofs.TextSizes.{part-later}

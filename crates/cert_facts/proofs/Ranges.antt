@@ -6,7 +6,7 @@ use Rattle.cert_laws.specs.auction_model.specs.Book.{Book, bids_of, net_of, menu
 use Rattle.cert_laws.specs.auction_model.specs.Market.{value_of, sum_after}
 use Rattle.cert_laws.specs.auction_model.specs.Menu.{is_known_after}
 use Rattle.cert_laws.specs.auction_model.proofs.ChoiceLaws.{known-length}
-use Rattle.cert_text.specs.bid_book.specs.Kept.{IsBidBook}
+use Rattle.cert_text.specs.choices.specs.bid_book.specs.Kept.{IsBidBook}
 
 module _ (book : Book) (kept : IsBidBook book) where
   sum-between : (k : ℕ) (c : List ℕ) → IsTrue (is_known_after (menu_of book) k c) → (pos 0 ≤ℤ sum_after (net_of book) k c) × (sum_after (net_of book) k c ≤ℤ pos (length c * 2 ^ 42))

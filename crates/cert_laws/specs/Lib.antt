@@ -5,7 +5,6 @@ pub mod Priced
 pub mod BookSizes
 pub use Rattle.row_laws.specs.auction_model
 pub use Rattle.cert_form
-pub use Rattle.row_laws.specs.far_num
 pub use Rattle.row_laws.specs.point_laws
 pub use Rattle.row_laws
 pub use Rattle.cert_form.specs.wide_num

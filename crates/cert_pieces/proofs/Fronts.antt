@@ -2,7 +2,7 @@
 use Rattle.std.proofs.Common.{◌≡◌, ◌≢◌, ℕ, suc, ◌+◌, ◌*◌, ◌%◌, ◌<◌, List, [], ◌∷◌, ◌++◌, length, get_or, refl, sym, ap, subst, ◌∙◌, arith, append_assoc}
 use Rattle.std.specs.Prelude.{ℤ, pos, negsuc}
 use Rattle.cert_text.specs.line_text.specs.Numeral.{numeral, signed_numeral, numbers_text}
-use Rattle.cert_text.specs.wide_num.proofs.Decimal.{AreDigits, IsDigit, IsNumeral}
+use Rattle.cert_text.specs.cert_form.specs.wide_num.proofs.Decimal.{AreDigits, IsDigit, IsNumeral}
 use Rattle.cert_text.specs.line_text.proofs.Numerals.{Ends, numeral_is, numeral-more, one_signed}
 
 -- behind whole numbers and a space stands one number more

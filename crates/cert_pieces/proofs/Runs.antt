@@ -7,7 +7,7 @@ use Rattle.cert_text.specs.line_text.specs.LineText.{IsLine}
 use Rattle.cert_text.specs.line_text.proofs.Lines.{line_append}
 use Rattle.cert_text.specs.line_text.specs.Numeral.{numeral, signed_numeral, numbers_text}
 use Rattle.cert_text.specs.line_text.proofs.Numerals.{numeral-on}
-use Rattle.cert_text.specs.wide_num.proofs.Decimal.{AreDigits, read_on, read_on-ge}
+use Rattle.cert_text.specs.cert_form.specs.wide_num.proofs.Decimal.{AreDigits, read_on, read_on-ge}
 use Rattle.cert_pieces.specs.declared.line.tally.Tally.{Tally}
 use Rattle.cert_pieces.specs.Tallies.{IsTally}
 use Rattle.cert_pieces.specs.Partway.{IsOpen}

@@ -3,7 +3,7 @@ use Rattle.std.proofs.Common.{◌≡◌, ◌≢◌, ℕ, suc, zero, ◌+◌, ◌
 use Rattle.std.proofs.lemmas.List.{take_all, append_cancel_left}
 use Rattle.std.specs.Prelude.{ℤ, pos, negsuc, unsigned_abs}
 use Rattle.cert_text.specs.line_text.specs.Numeral.{numeral, signed_numeral, numbers_text}
-use Rattle.cert_text.specs.wide_num.proofs.Decimal.{IsDigit, IsNumeral}
+use Rattle.cert_text.specs.cert_form.specs.wide_num.proofs.Decimal.{IsDigit, IsNumeral}
 use Rattle.cert_text.specs.line_text.proofs.Numerals.{numeral_is, numeral-one}
 use Rattle.cert_pieces.specs.declared.line.tally.Tally.{Tally}
 use Rattle.cert_pieces.specs.Tallies.{IsTally}

@@ -8,7 +8,7 @@ use Rattle.cert_text.specs.line_text.specs.Numeral.{numeral, numbers_text}
 use Rattle.cert_text.specs.line_text.specs.Range.{is_out}
 use Rattle.cert_text.specs.line_text.proofs.Numerals.{numeral_is, numeral-one}
 use Rattle.cert_text.specs.line_text.proofs.FieldRuns.{numbers-push}
-use Rattle.cert_text.specs.wide_num.proofs.Decimal.{IsDigit}
+use Rattle.cert_text.specs.cert_form.specs.wide_num.proofs.Decimal.{IsDigit}
 use Rattle.cert_text.specs.cert_form.specs.Lines.{signed}
 use Rattle.cert_pieces.specs.declared.line.fields.Field.{Field}
 use Rattle.cert_pieces.specs.declared.line.form.Form.TheVariants.{Signed}

@@ -5,9 +5,7 @@ pub mod Readers
 pub mod PartReads
 pub mod StagePlans
 pub mod Written
-pub use Rattle.choices.specs.bid_book
 pub use Rattle.cert_form
 pub use Rattle.choices
 pub use Rattle.cert_form.specs.limits
 pub use Rattle.cert_form.specs.line_text
-pub use Rattle.cert_form.specs.wide_num

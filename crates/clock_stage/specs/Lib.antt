@@ -7,7 +7,5 @@ pub mod Closing
 pub use Rattle.award_file.specs.auction_model
 pub use Rattle.award_file.specs.auction_rules
 pub use Rattle.award_file
-pub use Rattle.award_file.specs.bid_book
-pub use Rattle.award_file.specs.book_form
-pub use Rattle.award_file.specs.limits
+pub use Rattle.award_file.specs.bid_book.specs.book_form
 pub use Rattle.award_file.specs.lots

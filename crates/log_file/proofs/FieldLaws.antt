@@ -3,9 +3,9 @@ use Rattle.std.proofs.Common.{◌≡◌, ℕ, suc, ◌-◌, ◌≤◌, ◌<◌, 
 use Rattle.std.specs.List.{AllByRecursion}
 use Rattle.std.specs.Fmt.{decimal}
 use Rattle.std.proofs.lemmas.List.{take_all}
-use Rattle.award_file.specs.line_text.specs.Decimals.{decimals_text}
-use Rattle.award_file.specs.line_text.specs.Fields.{FieldEnds}
-use Rattle.award_file.specs.line_text.proofs.DecimalFields.{NoSpace, one_field, decimals_stop, number_own}
+use Rattle.award_file.specs.bid_book.specs.line_text.specs.Decimals.{decimals_text}
+use Rattle.award_file.specs.bid_book.specs.line_text.specs.Fields.{FieldEnds}
+use Rattle.award_file.specs.bid_book.specs.line_text.proofs.DecimalFields.{NoSpace, one_field, decimals_stop, number_own}
 use Rattle.log_file.specs.LogForm.{AreCounts, counts_text}
 
 -- ---- counts

@@ -10,9 +10,9 @@ use Rattle.csv.specs.Writing.{default_writer, fields_text, is_blank, needs_byte,
 use Rattle.csv.specs.declared.parser.State.TheVariants as st
 use Rattle.csv.proofs.RoundTrip.{read-write-many}
 use Rattle.award_file.specs.limits.specs.declared.TheConstants.{MOST_RECORDS, MOST_STATED_COUNT}
-use Rattle.award_file.specs.book_form.specs.BookForm.{IsName, IsNameByte}
-use Rattle.award_file.specs.line_text.specs.Decimals.{decimals_text}
-use Rattle.award_file.specs.wide_num.proofs.Decimal.{AreDigits, numeral_decimal}
+use Rattle.award_file.specs.bid_book.specs.book_form.specs.BookForm.{IsName, IsNameByte}
+use Rattle.award_file.specs.bid_book.specs.line_text.specs.Decimals.{decimals_text}
+use Rattle.award_file.specs.bid_book.specs.wide_num.proofs.Decimal.{AreDigits, numeral_decimal}
 use Rattle.award_file.specs.auction_rules.specs.Terms.{Terms}
 use Rattle.award_file.specs.auction_rules.specs.declared.Event.{Event}
 use Rattle.award_file.specs.auction_rules.specs.declared.Event.TheVariants.{Bid, Draft, Drop, Submit, Close}

@@ -4,8 +4,6 @@ pub mod LogReading
 pub mod Statements
 pub mod ReplyText
 pub mod RecordsLeft
-pub use Rattle.award_file.specs.auction_model
-pub use Rattle.award_file.specs.auction_rules
 pub use Rattle.award_file
 pub use Rattle.award_file.specs.bid_book
 pub use Rattle.award_file.specs.limits

@@ -2,7 +2,7 @@
 ghost use Rattle.std.specs.Prelude.{◌≡◌, ◌≢◌, ℕ, ◌+◌, ◌≤◌, ◌<◌, ◌^◌, ◌++◌, List, true, false, length, take, drop, IfNone, IfSome};
 ghost use Rattle.award_file.specs.limits.specs.declared.TheConstants.{MOST_CATEGORIES, MOST_STATED_AMOUNT};
 ghost use Rattle.std.specs.Fmt.{decimal};
-ghost use Rattle.award_file.specs.book_form.specs.BookForm.{IsName};
+ghost use Rattle.award_file.specs.bid_book.specs.book_form.specs.BookForm.{IsName};
 ghost use Rattle.log_file.specs.LogForm.{AreCounts, IsNameOf, counts_text};
 
 use arrayvec::ArrayVec;

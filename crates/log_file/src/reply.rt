@@ -1,7 +1,7 @@
 // The lines of replies.
 ghost use Rattle.std.specs.Prelude.{◌≡◌, ◌∷◌, ◌++◌, [], codes, IfOk, OnOk};
 ghost use Rattle.std.specs.Fmt.{decimal};
-ghost use Rattle.award_file.specs.line_text.specs.Decimals.{decimals_text};
+ghost use Rattle.award_file.specs.bid_book.specs.line_text.specs.Decimals.{decimals_text};
 ghost use Rattle.log_file.specs.ReplyText.{admitted_text, reply_line, reply_text};
 
 use crate::CloseDone;

@@ -5,18 +5,18 @@ use Rattle.std.specs.Prelude.{Err, Ok}
 use Rattle.std.specs.Option.{option_or}
 use Rattle.std.specs.List.{AllByRecursion}
 use Rattle.std.proofs.lemmas.List.{length-reverse, length-take, reverse-append, take_all, take_more}
-use Rattle.log_file.specs.auction_model.specs.Book.{Book}
-use Rattle.log_file.specs.auction_rules.specs.BookOfLog.{book_of_log, is_complete}
-use Rattle.log_file.specs.auction_rules.specs.Lawful.{HasCategories}
-use Rattle.log_file.specs.auction_rules.specs.Replies.{is_closed, log_prices, log_round, log_stage, reply_to}
-use Rattle.log_file.specs.auction_rules.specs.State.{DeskState, round_in, state_of}
-use Rattle.log_file.specs.auction_rules.specs.Terms.{Terms}
-use Rattle.log_file.specs.auction_rules.specs.declared.Event.{Event}
-use Rattle.log_file.specs.auction_rules.specs.declared.Reply.{Reply}
-use Rattle.log_file.specs.auction_rules.specs.declared.Reply.TheVariants as reply
-use Rattle.log_file.specs.auction_rules.specs.declared.Stage.{Stage}
-use Rattle.log_file.specs.auction_rules.specs.declared.Stage.TheVariants as stage
-use Rattle.log_file.specs.auction_rules.proofs.Telling.{prices-state_of, round-state_of, stage-state_of}
+use Rattle.log_file.specs.award_file.specs.auction_model.specs.Book.{Book}
+use Rattle.log_file.specs.award_file.specs.auction_rules.specs.BookOfLog.{book_of_log, is_complete}
+use Rattle.log_file.specs.award_file.specs.auction_rules.specs.Lawful.{HasCategories}
+use Rattle.log_file.specs.award_file.specs.auction_rules.specs.Replies.{is_closed, log_prices, log_round, log_stage, reply_to}
+use Rattle.log_file.specs.award_file.specs.auction_rules.specs.State.{DeskState, round_in, state_of}
+use Rattle.log_file.specs.award_file.specs.auction_rules.specs.Terms.{Terms}
+use Rattle.log_file.specs.award_file.specs.auction_rules.specs.declared.Event.{Event}
+use Rattle.log_file.specs.award_file.specs.auction_rules.specs.declared.Reply.{Reply}
+use Rattle.log_file.specs.award_file.specs.auction_rules.specs.declared.Reply.TheVariants as reply
+use Rattle.log_file.specs.award_file.specs.auction_rules.specs.declared.Stage.{Stage}
+use Rattle.log_file.specs.award_file.specs.auction_rules.specs.declared.Stage.TheVariants as stage
+use Rattle.log_file.specs.award_file.specs.auction_rules.proofs.Telling.{prices-state_of, round-state_of, stage-state_of}
 use Rattle.log_file.specs.ReplyText.{reply_line}
 use Rattle.bid_desk.specs.Reached.{StandsNext}
 use Rattle.bid_desk.specs.clock_stage.proofs.ClockLaws.{terms-state_of}

@@ -1,10 +1,10 @@
 -- How far a replay is.
 use Rattle.std.specs.Prelude.{◌≡◌, ℕ, suc, List, ◌∷◌, length}
-use Rattle.log_file.specs.auction_rules.specs.Replies.{reply_to}
-use Rattle.log_file.specs.auction_rules.specs.State.{DeskState, round_in, state_of}
-use Rattle.log_file.specs.auction_rules.specs.Terms.{Terms}
-use Rattle.log_file.specs.auction_rules.specs.declared.Event.{Event}
-use Rattle.log_file.specs.auction_rules.specs.declared.Reply.{Reply}
+use Rattle.log_file.specs.award_file.specs.auction_rules.specs.Replies.{reply_to}
+use Rattle.log_file.specs.award_file.specs.auction_rules.specs.State.{DeskState, round_in, state_of}
+use Rattle.log_file.specs.award_file.specs.auction_rules.specs.Terms.{Terms}
+use Rattle.log_file.specs.award_file.specs.auction_rules.specs.declared.Event.{Event}
+use Rattle.log_file.specs.award_file.specs.auction_rules.specs.declared.Reply.{Reply}
 use Rattle.log_file.specs.ReplyText.{reply_line}
 use Rattle.log_replay.specs.ReplyLines.{done_by, first_refusal, reply_lines}
 use Rattle.log_replay.specs.declared.lines.Course.{Course}

@@ -2,16 +2,16 @@
 use Rattle.std.specs.Prelude.{ℕ, suc, Option, Some, None, Result, Ok, Err, List, [], ◌∷◌, ◌++◌, length, if◌then◌else◌}
 use Rattle.std.specs.Option.{option_or}
 use Rattle.log_file.specs.limits.specs.declared.TheConstants.{MOST_ROUNDS}
-use Rattle.log_file.specs.auction_model.specs.Book.{Book}
-use Rattle.log_file.specs.auction_rules.specs.BookOfLog.{book_of_log, is_complete}
-use Rattle.log_file.specs.auction_rules.specs.Replies.{log_prices, log_round, log_stage, reply_to}
-use Rattle.log_file.specs.auction_rules.specs.Terms.{Terms}
-use Rattle.log_file.specs.auction_rules.specs.declared.Event.{Event}
-use Rattle.log_file.specs.auction_rules.specs.declared.Event.TheVariants.{Close}
-use Rattle.log_file.specs.auction_rules.specs.declared.Reply.{Reply}
-use Rattle.log_file.specs.auction_rules.specs.declared.Reply.TheVariants as reply
-use Rattle.log_file.specs.auction_rules.specs.declared.Stage.{Stage}
-use Rattle.log_file.specs.auction_rules.specs.declared.Stage.TheVariants as stage
+use Rattle.log_file.specs.award_file.specs.auction_model.specs.Book.{Book}
+use Rattle.log_file.specs.award_file.specs.auction_rules.specs.BookOfLog.{book_of_log, is_complete}
+use Rattle.log_file.specs.award_file.specs.auction_rules.specs.Replies.{log_prices, log_round, log_stage, reply_to}
+use Rattle.log_file.specs.award_file.specs.auction_rules.specs.Terms.{Terms}
+use Rattle.log_file.specs.award_file.specs.auction_rules.specs.declared.Event.{Event}
+use Rattle.log_file.specs.award_file.specs.auction_rules.specs.declared.Event.TheVariants.{Close}
+use Rattle.log_file.specs.award_file.specs.auction_rules.specs.declared.Reply.{Reply}
+use Rattle.log_file.specs.award_file.specs.auction_rules.specs.declared.Reply.TheVariants as reply
+use Rattle.log_file.specs.award_file.specs.auction_rules.specs.declared.Stage.{Stage}
+use Rattle.log_file.specs.award_file.specs.auction_rules.specs.declared.Stage.TheVariants as stage
 use Rattle.log_file.specs.ReplyText.{reply_line}
 use Rattle.log_file.specs.declared.CloseDone.{CloseDone}
 use Rattle.log_file.specs.declared.CloseDone.TheVariants as done

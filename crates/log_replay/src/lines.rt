@@ -1,8 +1,8 @@
 // One line of a log after the other.
 ghost use Rattle.std.specs.Prelude.{◌≡◌, [], IfOk, OnOk};
 ghost use Rattle.std.specs.Option.{option_or};
-ghost use Rattle.log_file.specs.auction_rules.specs.Lawful.{HasCategories};
-ghost use Rattle.log_file.specs.auction_rules.specs.State.{round_in};
+ghost use Rattle.log_file.specs.award_file.specs.auction_rules.specs.Lawful.{HasCategories};
+ghost use Rattle.log_file.specs.award_file.specs.auction_rules.specs.State.{round_in};
 ghost use Rattle.log_replay.specs.Course.{Answers, IsCourse, TakesLine, line_at};
 ghost use Rattle.log_replay.specs.ReplyLines.{done_at, done_by, refusal_of};
 

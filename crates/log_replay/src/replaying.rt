@@ -1,10 +1,10 @@
 // The whole log, line by line.
 ghost use Rattle.std.specs.Prelude.{◌≡◌, List, IfOk, reverse};
 ghost use Rattle.std.specs.List.{AllByRecursion};
-ghost use Rattle.log_file.specs.auction_rules.specs.Lawful.{HasCategories};
-ghost use Rattle.log_file.specs.auction_rules.specs.State.{state_of};
-ghost use Rattle.log_file.specs.auction_rules.specs.Terms.{Terms};
-ghost use Rattle.log_file.specs.auction_rules.specs.declared.Event.{Event};
+ghost use Rattle.log_file.specs.award_file.specs.auction_rules.specs.Lawful.{HasCategories};
+ghost use Rattle.log_file.specs.award_file.specs.auction_rules.specs.State.{state_of};
+ghost use Rattle.log_file.specs.award_file.specs.auction_rules.specs.Terms.{Terms};
+ghost use Rattle.log_file.specs.award_file.specs.auction_rules.specs.declared.Event.{Event};
 ghost use Rattle.log_replay.specs.Course.{IsCourse};
 ghost use Rattle.log_replay.specs.ReplyLines.{book_or_open, end_of, reply_lines};
 

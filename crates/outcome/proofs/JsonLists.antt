@@ -10,8 +10,8 @@ use Rattle.core_price.specs.auction_model.specs.Book.{Book, BookBid, bidder_of, 
 use Rattle.core_price.specs.auction_model.specs.Market.{value_of}
 use Rattle.core_price.specs.auction_model.specs.Prices.{Point}
 use Rattle.core_price.specs.auction_model.specs.PricingRun.{Turn as BidderTurn}
-use Rattle.cert_facts.specs.choices.specs.declared.chooser.Single.{Single}
-use Rattle.cert_facts.specs.choices.specs.Singles.{winners_after}
+use Rattle.cert_facts.specs.cert_text.specs.choices.specs.declared.chooser.Single.{Single}
+use Rattle.cert_facts.specs.cert_text.specs.choices.specs.Singles.{winners_after}
 use Rattle.core_price.specs.Turns.{turn_of, turns_of}
 use Rattle.core_price.specs.declared.priced.Turn.{Turn}
 use Rattle.print_form.specs.Json.{AreLastMembers, AreRounds, AreWinners, IsOutcome, IsRound, amount_json, count_json, winner_json}

@@ -12,7 +12,7 @@ use Rattle.std.proofs.lemmas.List.Elements.{All-from_recursion}
 use Rattle.std.proofs.lemmas.Str.Ascii.{IsAscii-from_all}
 use Rattle.core_price.specs.auction_model.specs.Prices.{Point}
 use Rattle.core_price.specs.auction_model.specs.PricingRun.{Block, Turn}
-use Rattle.print_form.specs.line_text.specs.Decimals.{decimals_text}
+use Rattle.print_form.specs.book_form.specs.line_text.specs.Decimals.{decimals_text}
 use Rattle.print_form.specs.Fractions.{IsFractionText, parts_text}
 use Rattle.print_form.specs.Turns.{ArePoints, IsTurnEnd, IsTurnLine}
 use Rattle.print_form.specs.row_laws.specs.Winners.{members_of}

@@ -9,8 +9,8 @@ use Rattle.core_price.specs.auction_model.specs.Market.{number_of, sum_after}
 use Rattle.core_price.specs.auction_model.specs.Menu.{is_known_after}
 use Rattle.core_price.specs.auction_model.specs.Prices.{Point}
 use Rattle.cert_facts.proofs.Winners.{Wins}
-use Rattle.cert_facts.specs.choices.specs.declared.chooser.Single.{Single}
-use Rattle.cert_facts.specs.choices.specs.Singles.{winners_after}
+use Rattle.cert_facts.specs.cert_text.specs.choices.specs.declared.chooser.Single.{Single}
+use Rattle.cert_facts.specs.cert_text.specs.choices.specs.Singles.{winners_after}
 use Rattle.print_form.specs.Fractions.{IsFractionText}
 use Rattle.print_form.specs.Prices.{reserve_of, gross_of, priced_line, ArePricedLines}
 use Rattle.outcome.specs.declared.prices.WinnerPrice.{WinnerPrice}

@@ -9,8 +9,8 @@ use Rattle.core_price.specs.auction_model.specs.Menu.{is_known_after}
 use Rattle.core_price.specs.auction_model.specs.Prices.{Point, sum_over, everyone}
 use Rattle.core_price.specs.auction_model.proofs.ChoiceLaws.{known-length}
 use Rattle.print_form.specs.WinText.{net_line}
-use Rattle.cert_facts.specs.choices.specs.declared.chooser.Single.{Single}
-use Rattle.cert_facts.specs.choices.specs.Singles.{winners_after}
+use Rattle.cert_facts.specs.cert_text.specs.choices.specs.declared.chooser.Single.{Single}
+use Rattle.cert_facts.specs.cert_text.specs.choices.specs.Singles.{winners_after}
 use Rattle.print_form.specs.Prices.{reserve_of, revenue_of, IsPriceText}
 use Rattle.print_form.specs.row_laws.proofs.Sums.{over-is, choice-is}
 use Rattle.core_price.specs.wide_num.specs.Sums.{nth, total}

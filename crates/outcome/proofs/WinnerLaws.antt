@@ -11,8 +11,8 @@ use Rattle.core_price.specs.auction_model.proofs.ChoiceLaws.{known-length, known
 use Rattle.cert_facts.specs.bid_book.proofs.Within.{each_at}
 use Rattle.cert_facts.specs.declared.shown.CertFacts.{CertFacts}
 use Rattle.cert_facts.proofs.Winners.{Wins, all-win, each-of_map}
-use Rattle.cert_facts.specs.choices.specs.declared.chooser.Single.{Single}
-use Rattle.cert_facts.specs.choices.specs.Singles.{winners_after}
+use Rattle.cert_facts.specs.cert_text.specs.choices.specs.declared.chooser.Single.{Single}
+use Rattle.cert_facts.specs.cert_text.specs.choices.specs.Singles.{winners_after}
 use Rattle.print_form.specs.limits.specs.declared.TheConstants.{MOST_AMOUNT}
 use Rattle.print_form.specs.Prices.{reserve_of}
 use Rattle.outcome.specs.declared.prices.WinnerPrice.{WinnerPrice}

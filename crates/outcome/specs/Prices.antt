@@ -3,7 +3,7 @@ use Rattle.std.specs.Prelude.{◌≡◌, ℕ, ◌+◌, ◌<◌, ◌≤◌, ◌^�
 use Rattle.core_price.specs.auction_model.specs.Book.{Book, bidder_of, bids_of, bid_of}
 use Rattle.core_price.specs.auction_model.specs.Market.{number_of}
 use Rattle.core_price.specs.auction_model.specs.Prices.{Point}
-use Rattle.cert_facts.specs.choices.specs.declared.chooser.Single.{Single}
+use Rattle.cert_facts.specs.cert_text.specs.choices.specs.declared.chooser.Single.{Single}
 use Rattle.print_form.specs.Prices.{reserve_of, gross_of, priced_line}
 use Rattle.outcome.specs.declared.prices.WinnerPrice.{WinnerPrice}
 use Rattle.outcome.specs.Fractions.{IsFractionOf, fraction_text}

@@ -6,8 +6,8 @@ use Rattle.core_price.specs.auction_model.specs.Market.{value_of, uses}
 use Rattle.core_price.specs.auction_model.specs.Menu.{is_known_after}
 use Rattle.core_price.specs.auction_model.specs.Prices.{Point}
 use Rattle.cert_facts.specs.declared.shown.CertFacts.{CertFacts}
-use Rattle.cert_facts.specs.choices.specs.declared.chooser.Single.{Single}
-use Rattle.cert_facts.specs.choices.specs.Singles.{winners_after}
+use Rattle.cert_facts.specs.cert_text.specs.choices.specs.declared.chooser.Single.{Single}
+use Rattle.cert_facts.specs.cert_text.specs.choices.specs.Singles.{winners_after}
 use Rattle.core_price.specs.wide_num.specs.Range.{InRange}
 use Rattle.core_price.specs.wide_num.specs.Sums.{nth, total}
 

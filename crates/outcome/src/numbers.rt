@@ -1,6 +1,6 @@
 // Numbers in a text.
 ghost use Rattle.std.specs.Prelude.{◌≡◌, ◌++◌, OnOk};
-ghost use Rattle.print_form.specs.line_text.specs.Decimals.{decimals_text};
+ghost use Rattle.print_form.specs.book_form.specs.line_text.specs.Decimals.{decimals_text};
 ghost use Rattle.print_form.specs.WinText.{net_line};
 
 use core_price::wide_num::Text;

@@ -8,7 +8,7 @@ use Rattle.cert_facts.specs.cert_form.specs.Certificate.{CertValue, WithoutValue
 use Rattle.cert_facts.specs.cert_form.specs.CertText.{AreWithouts, IsCertificate}
 use Rattle.cert_facts.specs.cert_laws.specs.Tests.{vickrey_of}
 use Rattle.cert_facts.specs.cert_laws.proofs.TextSizes.{part-later}
-use Rattle.cert_facts.specs.choices.specs.declared.chooser.Single.{Single}
+use Rattle.cert_facts.specs.cert_text.specs.choices.specs.declared.chooser.Single.{Single}
 use Rattle.piece_check.specs.WholeRoom.{single_at}
 
 module _ (book : Book) (c : CertValue) where

@@ -5,7 +5,7 @@ use Rattle.std.proofs.lemmas.Bool.{cases_lt}
 use Rattle.cert_check.specs.auction_model.specs.Book.{Book}
 use Rattle.cert_facts.specs.cert_form.specs.Certificate.{CertValue}
 use Rattle.cert_facts.specs.cert_form.specs.CertText.{AreMembers, AtMost, IsRow, as_numbers}
-use Rattle.cert_check.specs.line_text.proofs.Words.{word_front}
+use Rattle.cert_check.specs.cert_text.specs.line_text.proofs.Words.{word_front}
 use Rattle.cert_facts.specs.cert_laws.specs.Tests.{bidders_of, states}
 use Rattle.cert_pieces.specs.declared.due.Due.{Due}
 use Rattle.cert_pieces.specs.declared.due.Due.TheVariants.{Version, Limits, Den, Value, Choice, Title, Entries, Without, PartChoice, Payments, Rows, Members, Multipliers, RowChoice, End, Nothing}

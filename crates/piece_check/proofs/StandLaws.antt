@@ -2,7 +2,7 @@
 use Rattle.std.proofs.Common.{◌≡◌, ℕ, zero, suc, ◌≤◌, false, List, [], ◌∷◌, ◌++◌, length, take, drop, get_or, append_assoc, inl, inr, refl, sym, ap, subst, ◌∙◌, arith}
 use Rattle.std.proofs.lemmas.List.{append-nil}
 use Rattle.std.specs.Prelude.{ℤ, pos, Option, Some, None, codes}
-use Rattle.cert_check.specs.line_text.specs.LineText.{IsTextOf, stated}
+use Rattle.cert_check.specs.cert_text.specs.line_text.specs.LineText.{IsTextOf, stated}
 use Rattle.cert_check.specs.auction_model.specs.Book.{Book}
 use Rattle.cert_facts.specs.cert_form.specs.Certificate.{CertValue}
 use Rattle.cert_facts.specs.cert_form.specs.CertText.{IsCertificate, as_numbers, cert_lines, line}

@@ -3,7 +3,7 @@ use Rattle.std.proofs.Common.{◌≡◌, ℕ, List, [], refl, subst, arith}
 use Rattle.std.specs.Prelude.{ℤ, Option, Some, None}
 use Rattle.cert_check.specs.auction_model.specs.Book.{Book}
 use Rattle.cert_check.specs.auction_model.specs.Prices.{weight_of}
-use Rattle.cert_check.specs.line_text.specs.LineText.{Said, stated, faulty, beyond}
+use Rattle.cert_check.specs.cert_text.specs.line_text.specs.LineText.{Said, stated, faulty, beyond}
 use Rattle.cert_facts.specs.cert_form.specs.Certificate.{CertValue}
 use Rattle.cert_facts.specs.cert_form.specs.CertText.{IsCertificate}
 use Rattle.cert_facts.specs.cert_form.specs.Lines.{Line}

@@ -8,5 +8,4 @@ pub mod Standing
 pub mod WholeRoom
 pub use Rattle.cert_check
 pub use Rattle.cert_facts
-pub use Rattle.cert_facts.specs.cert_laws
 pub use Rattle.cert_pieces

@@ -8,7 +8,7 @@ use Rattle.cert_facts.specs.cert_form.specs.CertText.{as_numbers}
 use Rattle.cert_facts.specs.cert_laws.specs.Tests.{bidders_of, states, vickrey_of}
 use Rattle.cert_pieces.specs.declared.due.Due.TheVariants.{Den, Value, Choice, PartChoice, Payments}
 use Rattle.cert_pieces.specs.Rooms.{segment}
-use Rattle.cert_facts.specs.choices.specs.declared.chooser.Single.{Single}
+use Rattle.cert_facts.specs.cert_text.specs.choices.specs.declared.chooser.Single.{Single}
 
 -- A certificate of which the facts can be told, and of which the room has what they are told from.
 pub record HasAll (book : Book) (c : CertValue) (room : List ℤ) : Type 0 where

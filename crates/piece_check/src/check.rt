@@ -1,7 +1,7 @@
 // A certificate that is checked from pieces of its text.
 ghost use Rattle.std.specs.Prelude.{◌≡◌, ◌≤◌, ◌<◌, ◌+◌, ◌^◌, ℕ, List, [], ◌∷◌, ◌++◌, length, IfOk, IfErr, ℤ, None};
 ghost use Rattle.cert_check.specs.auction_model.specs.Prices.{AreWeights, weight_of};
-ghost use Rattle.cert_check.specs.line_text.specs.LineText.{stated};
+ghost use Rattle.cert_check.specs.cert_text.specs.line_text.specs.LineText.{stated};
 ghost use Rattle.cert_facts.specs.Facts.{AreFacts};
 ghost use Rattle.cert_facts.specs.cert_form.specs.Certificate.{CertValue};
 ghost use Rattle.cert_facts.specs.cert_form.specs.Lines.{Line};

@@ -9,7 +9,7 @@ use Rattle.cert_text.specs.cert_form.specs.Reading.{ReachedBy}
 use Rattle.cert_text.specs.cert_form.proofs.CertReads.{fine_places}
 use Rattle.cert_text.specs.cert_form.proofs.Reading.{reached-first, reached-end}
 use Rattle.cert_text.specs.line_text.specs.Range.{AllInRange}
-use Rattle.cert_text.specs.wide_num.specs.Range.{InRange}
+use Rattle.cert_text.specs.cert_form.specs.wide_num.specs.Range.{InRange}
 use Rattle.cert_text.specs.declared.stop.CertStop.{CertStop}
 use Rattle.cert_text.specs.declared.stop.CertStop.TheVariants.{Form, Range, Memory}
 use Rattle.cert_text.specs.StagePlans.{opening_plan, opening_lines, closing_plan, closing_lines}

@@ -1,7 +1,7 @@
 -- The lines of a placement certificate, and which certificates have a text. They are those of a certificate with another first line,
 -- an order before each choice, and tables of one line with an entry for each set of bidders.
 use Rattle.std.specs.Prelude.{◌≡◌, ℕ, zero, suc, ◌^◌, ◌≤◌, List, [], ◌∷◌, ◌++◌, length, codes, ℤ, pos}
-use Rattle.cert_text.specs.wide_num.specs.Range.{InRange}
+use Rattle.cert_text.specs.cert_form.specs.wide_num.specs.Range.{InRange}
 use Rattle.cert_text.specs.line_text.specs.Range.{AllInRange}
 use Rattle.cert_text.specs.cert_form.specs.Certificate.{WithoutValue, RowValue}
 use Rattle.cert_text.specs.cert_form.specs.Lines.{Line}

@@ -4,7 +4,7 @@ use Rattle.std.specs.List.{AllByRecursion}
 use Rattle.cert_text.specs.cert_form.specs.CertText.{line, choice_line}
 use Rattle.cert_text.specs.cert_form.specs.Lines.{Line}
 use Rattle.cert_text.specs.Written.{IsTableInRange}
-use Rattle.cert_text.specs.wide_num.specs.Range.{InRange}
+use Rattle.cert_text.specs.cert_form.specs.wide_num.specs.Range.{InRange}
 use Rattle.place_cert.specs.PlaceText.{order_line}
 use Rattle.place_cert.specs.declared.certificate.PlaceCertificate.{PlaceCertificate}
 use Rattle.place_cert.specs.declared.certificate.PlaceRow.{PlaceRow}

@@ -1,7 +1,7 @@
 // From a placement certificate to its text.
 ghost use Rattle.std.specs.Prelude.{◌≡◌, ◌≤◌, ◌∷◌, [], length, codes, IfOk, OnOk};
 ghost use Rattle.std.specs.List.{AllByRecursion};
-ghost use Rattle.cert_text.specs.wide_num.specs.Range.{InRange};
+ghost use Rattle.cert_text.specs.cert_form.specs.wide_num.specs.Range.{InRange};
 ghost use Rattle.cert_text.specs.cert_form.specs.CertText.{choice_line};
 ghost use Rattle.cert_text.specs.line_text.specs.Range.{AllInRange};
 ghost use Rattle.cert_text.specs.Written.{Adds, IsTableInRange};

@@ -2,13 +2,13 @@
 use Rattle.std.specs.Prelude.{◌↔◌, ◌≡◌, ℕ, zero, suc, ◌+◌, ◌<◌, ◌≤◌, ◌==◌, ◌&&◌, Bool, IsTrue, List, [], ◌∷◌, length, map, drop, get_or, refl}
 use Rattle.std.proofs.Common.{sym, ◌∙◌, ap, subst, arith, drop-cons}
 use Rattle.std.proofs.lemmas.Bool.{cond-true, cond-false, eq-eqb, ne_eqb, and_parts, eqb-true}
-use Rattle.cert_check.specs.cert_form.specs.Certificate.{WithoutValue, part_of}
+use Rattle.cert_check.specs.cert_laws.specs.cert_form.specs.Certificate.{WithoutValue, part_of}
 use Rattle.place_cert.specs.Parts.{part_value, part_order, AreParts}
 use Rattle.place_cert.specs.PlaceText.{HasSets, IsPlaceCertificate}
 use Rattle.place_cert.specs.CertValues.{place_cert_value}
 use Rattle.place_cert.specs.declared.certificate.PlaceCertificate.{PlaceCertificate}
 use Rattle.place_cert.specs.declared.certificate.PlaceWithout.{PlaceWithout}
-use Rattle.cert_check.specs.cert_form.specs.PlaceCert.{order_without}
+use Rattle.cert_check.specs.cert_laws.specs.cert_form.specs.PlaceCert.{order_without}
 use Rattle.place_laws.specs.PlaceTests.{IsPlacedPart}
 use Rattle.place_laws.specs.slot_places.specs.Orders.{allows}
 use Rattle.place_laws.specs.slot_places.specs.Slots.{SlotList}

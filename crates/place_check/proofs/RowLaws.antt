@@ -7,8 +7,8 @@ use Rattle.std.proofs.lemmas.List.{get_or-map, get_or-replicate, get_or_past, le
 use Rattle.cert_check.specs.auction_model.specs.Lowered.{of_bidder}
 use Rattle.cert_check.specs.wide_num.specs.Sums.{nth}
 use Rattle.cert_check.proofs.SumLaws.{counted-same, counted-size, holding-next}
-use Rattle.cert_check.specs.cert_form.specs.Certificate.{RowValue, is_member, row_of}
-use Rattle.cert_check.specs.cert_form.specs.CertText.{IsRow}
+use Rattle.cert_check.specs.cert_laws.specs.cert_form.specs.Certificate.{RowValue, is_member, row_of}
+use Rattle.cert_check.specs.cert_laws.specs.cert_form.specs.CertText.{IsRow}
 use Rattle.place_cert.specs.Parts.{row_value, AreRows}
 use Rattle.place_cert.specs.declared.certificate.PlaceRow.{PlaceRow}
 use Rattle.cert_check.specs.cert_laws.specs.MarketTests.{sum_holding}

@@ -2,7 +2,7 @@
 use Rattle.std.specs.Prelude.{◌≡◌, ℕ, ◌^◌, ◌<◌, List, [], ◌∷◌, length, slice_index_or, ℤ, unsigned_abs}
 use Rattle.std.proofs.Common.{arith}
 use Rattle.cert_check.specs.auction_model.specs.Table.{entry_at}
-use Rattle.cert_check.specs.cert_form.specs.CertText.{IsTable}
+use Rattle.cert_check.specs.cert_laws.specs.cert_form.specs.CertText.{IsTable}
 use Rattle.cert_check.proofs.SumLaws.{in-range}
 
 -- the line of a table over n sets has n entries

@@ -12,7 +12,7 @@ use Rattle.place_laws.specs.slot_places.specs.Board.{board_of, market_of}
 use Rattle.place_laws.specs.slot_places.specs.Kept.{AreSlots}
 use Rattle.place_laws.specs.slot_places.specs.Slots.{SlotList, bid_of, amount_of}
 use Rattle.place_laws.specs.slot_places.proofs.WithoutLaws.{one-bid}
-use Rattle.cert_check.specs.cert_form.specs.PlaceCert.{PlaceCertValue}
+use Rattle.cert_check.specs.cert_laws.specs.cert_form.specs.PlaceCert.{PlaceCertValue}
 use Rattle.place_laws.specs.PlaceTests.{lowered_in, P1, P2, P3, P5}
 use Rattle.place_laws.proofs.SetSizes.{worth-most}
 use Rattle.cert_check.proofs.LoweredLaws.{scaled-small}

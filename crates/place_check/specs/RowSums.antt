@@ -1,7 +1,7 @@
 -- The sums of the multipliers of rows, bidder by bidder.
 use Rattle.std.specs.Prelude.{◌≡◌, ℕ, ◌*◌, ◌^◌, ◌<◌, ◌≤◌, List, ℤ, unsigned_abs}
 use Rattle.cert_check.specs.auction_model.specs.Lowered.{of_bidder}
-use Rattle.cert_check.specs.cert_form.specs.Certificate.{RowValue}
+use Rattle.cert_check.specs.cert_laws.specs.cert_form.specs.Certificate.{RowValue}
 use Rattle.cert_check.specs.cert_laws.specs.MarketTests.{sum_holding}
 use Rattle.cert_check.specs.limits.specs.declared.TheConstants.{MOST_PLACED}
 use Rattle.cert_check.specs.wide_num.specs.Sums.{nth}

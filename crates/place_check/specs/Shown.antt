@@ -2,8 +2,8 @@
 use Rattle.std.specs.Prelude.{◌≡◌, ℕ, ◌^◌, ◌<◌, ◌≤◌, IsTrue, IsFalse, List, length, ℤ, pos, ◌-ℤ◌, ◌*ℤ◌, ◌≤ℤ◌, unsigned_abs, if◌then◌else◌}
 use Rattle.cert_check.specs.auction_model.specs.Lowered.{of_bidder}
 use Rattle.cert_check.specs.auction_model.specs.Market.{uses, worth_in}
-use Rattle.cert_check.specs.cert_form.specs.Certificate.{CertValue, RowValue}
-use Rattle.cert_check.specs.cert_form.specs.CertText.{IsRow}
+use Rattle.cert_check.specs.cert_laws.specs.cert_form.specs.Certificate.{CertValue, RowValue}
+use Rattle.cert_check.specs.cert_laws.specs.cert_form.specs.CertText.{IsRow}
 use Rattle.cert_check.specs.cert_laws.specs.MarketTests.{IsTight}
 use Rattle.place_cert.specs.Parts.{row_value}
 use Rattle.place_cert.specs.declared.certificate.PlaceCertificate.{PlaceCertificate}
@@ -12,7 +12,7 @@ use Rattle.place_laws.specs.slot_places.specs.Board.{board_of, market_of}
 use Rattle.place_laws.specs.slot_places.specs.Orders.{allows}
 use Rattle.place_laws.specs.slot_places.specs.SetTable.{holds}
 use Rattle.place_laws.specs.slot_places.specs.Slots.{SlotList, amount_of}
-use Rattle.cert_check.specs.cert_form.specs.PlaceCert.{PlaceCertValue}
+use Rattle.cert_check.specs.cert_laws.specs.cert_form.specs.PlaceCert.{PlaceCertValue}
 use Rattle.place_laws.specs.PlaceTests.{P5}
 
 -- the certificate has as many bidders as the slots

@@ -3,7 +3,7 @@ ghost use Rattle.std.specs.Prelude.{IsTrue, length, map, not, pos, unsigned_abs,
 ghost use Rattle.cert_check.specs.auction_model.specs.Lowered.{of_bidder};
 ghost use Rattle.cert_check.specs.auction_model.specs.Market.{uses, value_of, worth_in};
 ghost use Rattle.cert_check.specs.auction_model.specs.Prices.{sum_over};
-ghost use Rattle.cert_check.specs.cert_form.specs.Certificate.{is_member, part_of};
+ghost use Rattle.cert_check.specs.cert_laws.specs.cert_form.specs.Certificate.{is_member, part_of};
 ghost use Rattle.cert_check.specs.cert_laws.specs.MarketTests.{IsTight, sum_holding, vickrey_in};
 ghost use Rattle.place_cert.specs.CertValues.{place_cert_value};
 ghost use Rattle.place_cert.specs.Parts.{part_value, row_value, row_order, AreRows};

@@ -1,10 +1,10 @@
 // P4: the parts without each winner.
 ghost use Rattle.std.specs.Prelude.{◌≡◌, ◌<◌, ◌≤◌, ◌↔◌, length, map, IsTrue};
-ghost use Rattle.cert_check.specs.cert_form.specs.Certificate.{part_of};
+ghost use Rattle.cert_check.specs.cert_laws.specs.cert_form.specs.Certificate.{part_of};
 ghost use Rattle.place_cert.specs.CertValues.{place_cert_value};
 ghost use Rattle.place_cert.specs.Parts.{part_value, part_order};
 ghost use Rattle.place_cert.specs.PlaceText.{HasSets};
-ghost use Rattle.cert_check.specs.cert_form.specs.PlaceCert.{order_without};
+ghost use Rattle.cert_check.specs.cert_laws.specs.cert_form.specs.PlaceCert.{order_without};
 ghost use Rattle.place_laws.specs.PlaceTests.{IsPlacedPart, ObeysSets, P4};
 ghost use Rattle.place_laws.specs.slot_places.specs.Board.{board_without};
 ghost use Rattle.place_laws.specs.slot_places.specs.Slots.{amount_of};

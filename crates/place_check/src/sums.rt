@@ -2,7 +2,7 @@
 ghost use Rattle.std.specs.Prelude.{length, map, not, pos, ℕ, ◌*◌, ◌<◌, ◌≡◌, ◌≤ℤ◌, ◌≤◌};
 ghost use Rattle.cert_check.specs.auction_model.specs.Market.{worth_in};
 ghost use Rattle.cert_check.specs.auction_model.specs.Prices.{sum_over};
-ghost use Rattle.cert_check.specs.cert_form.specs.Certificate.{is_member};
+ghost use Rattle.cert_check.specs.cert_laws.specs.cert_form.specs.Certificate.{is_member};
 ghost use Rattle.cert_check.specs.limits.specs.declared.TheConstants.{MOST_AMOUNT, MOST_PLACED};
 ghost use Rattle.place_cert.specs.Parts.{row_value, AreRows};
 ghost use Rattle.place_laws.specs.slot_places.specs.Board.{market_of};

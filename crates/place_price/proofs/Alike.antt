@@ -2,13 +2,13 @@
 use Rattle.std.specs.Prelude.{◌≡◌, ℕ, ◌≤◌, ◌<◌, Option, MatchOption, List, [], ◌∷◌, ◌++◌, length, replicate, ℤ, pos, ◌*ℤ◌}
 use Rattle.std.specs.declared.option.Option.TheVariants.{Some, None}
 use Rattle.std.proofs.Common.{◌∙◌, ap}
-use Rattle.book_price.specs.auction_model.specs.Blocks.{IsGreatestExcess}
-use Rattle.book_price.specs.auction_model.specs.Market.{Market}
-use Rattle.book_price.specs.auction_model.specs.Prices.{Point, alike, weight_of}
-use Rattle.book_price.specs.auction_model.specs.PricingRun.{Block, GoOn, IsBlockOf, IsPricingRun, IsTurnPoint, MeetsRows, Row, Turn, single_rows}
-use Rattle.book_price.specs.auction_model.proofs.WeightLaws.{nearest-same}
+use Rattle.book_price.specs.cert_laws.specs.auction_model.specs.Blocks.{IsGreatestExcess}
+use Rattle.book_price.specs.cert_laws.specs.auction_model.specs.Market.{Market}
+use Rattle.book_price.specs.cert_laws.specs.auction_model.specs.Prices.{Point, alike, weight_of}
+use Rattle.book_price.specs.cert_laws.specs.auction_model.specs.PricingRun.{Block, GoOn, IsBlockOf, IsPricingRun, IsTurnPoint, MeetsRows, Row, Turn, single_rows}
+use Rattle.book_price.specs.cert_laws.specs.auction_model.proofs.WeightLaws.{nearest-same}
 use Rattle.book_price.proofs.Ones.{one-at}
-use Rattle.book_price.specs.cert_form.specs.Certificate.{CertValue}
+use Rattle.book_price.specs.cert_laws.specs.cert_form.specs.Certificate.{CertValue}
 use Rattle.book_price.specs.cert_laws.specs.MarketTests.{ShowsNearest, sum_holding}
 
 module _ (m : Market) (w y : ℕ → ℕ) (same : (j : ℕ) → 0 < j → j ≤ m.bidders → w j ≡ y j) (z : List ℕ) (v : ℕ → ℤ) where

@@ -4,12 +4,12 @@ use Rattle.std.proofs.Common.{inl, inr, sym, ◌∙◌, ap, subst, arith}
 use Rattle.std.proofs.lemmas.Bool.{and_parts, cases_lt, false≢true}
 use Rattle.std.proofs.lemmas.Int.{ints}
 use Rattle.std.proofs.lemmas.List.{get_or_past}
-use Rattle.book_price.specs.auction_model.specs.Lawful.{IsMarket}
-use Rattle.book_price.specs.auction_model.specs.Greatest.{IsFirstGreatest}
-use Rattle.book_price.specs.auction_model.specs.Market.{Market, number_of, uses, value_of, worth_in}
-use Rattle.book_price.specs.auction_model.specs.Prices.{IsVickreyPrice, allowed_without}
+use Rattle.book_price.specs.cert_laws.specs.auction_model.specs.Lawful.{IsMarket}
+use Rattle.book_price.specs.cert_laws.specs.auction_model.specs.Greatest.{IsFirstGreatest}
+use Rattle.book_price.specs.cert_laws.specs.auction_model.specs.Market.{Market, number_of, uses, value_of, worth_in}
+use Rattle.book_price.specs.cert_laws.specs.auction_model.specs.Prices.{IsVickreyPrice, allowed_without}
 use Rattle.book_price.proofs.Worths.{sum-most}
-use Rattle.book_price.specs.cert_form.specs.CertText.{AtMost, IsChoice}
+use Rattle.book_price.specs.cert_laws.specs.cert_form.specs.CertText.{AtMost, IsChoice}
 use Rattle.book_price.specs.row_laws.specs.Winners.{winners_in}
 use Rattle.place_check.specs.slot_places.specs.Board.{joined, menu_of, nobody, is_known, can_place, board_of, market_of}
 use Rattle.place_check.specs.slot_places.specs.Kept.{AreSlots}

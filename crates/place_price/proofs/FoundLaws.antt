@@ -1,10 +1,10 @@
 -- What pricing slots by their chooser finds is what it finds of the slots, and why it doesn't stop for too many winners.
 use Rattle.std.specs.Prelude.{◌≡◌, ℕ, List, ℤ, refl}
-use Rattle.book_price.specs.auction_model.specs.Greatest.{IsWinning}
-use Rattle.book_price.specs.auction_model.specs.Lowered.{lowered}
-use Rattle.book_price.specs.auction_model.specs.Market.{value_of}
-use Rattle.book_price.specs.auction_model.specs.Prices.{alike}
-use Rattle.book_price.specs.auction_model.specs.PricingRun.{IsPricingRun}
+use Rattle.book_price.specs.cert_laws.specs.auction_model.specs.Greatest.{IsWinning}
+use Rattle.book_price.specs.cert_laws.specs.auction_model.specs.Lowered.{lowered}
+use Rattle.book_price.specs.cert_laws.specs.auction_model.specs.Market.{value_of}
+use Rattle.book_price.specs.cert_laws.specs.auction_model.specs.Prices.{alike}
+use Rattle.book_price.specs.cert_laws.specs.auction_model.specs.PricingRun.{IsPricingRun}
 use Rattle.book_price.specs.choices.specs.Singles.{AreSingles}
 use Rattle.book_price.specs.choices.specs.declared.chooser.Found.{Found}
 use Rattle.book_price.specs.choices.specs.declared.chooser.Single.{Single}

@@ -4,12 +4,12 @@ use Rattle.std.specs.List.{AllByRecursion}
 use Rattle.std.proofs.Common.{inl, inr, sym, ◌∙◌, ap, subst, arith, length-append}
 use Rattle.std.proofs.lemmas.Bool.{cases_eq, eq-eqb, ne_eqb}
 use Rattle.std.proofs.lemmas.List.{get_or-map, length-map, map-append}
-use Rattle.book_price.specs.auction_model.specs.Market.{uses}
-use Rattle.book_price.specs.auction_model.proofs.ListLaws.{each-push}
+use Rattle.book_price.specs.cert_laws.specs.auction_model.specs.Market.{uses}
+use Rattle.book_price.specs.cert_laws.specs.auction_model.proofs.ListLaws.{each-push}
 use Rattle.book_price.specs.Made.{parts_from}
 use Rattle.book_price.proofs.Places.{part-of_winner, rank}
-use Rattle.book_price.specs.cert_form.specs.Certificate.{WithoutValue, part_of}
-use Rattle.book_price.specs.cert_form.specs.PlaceCert.{order_without}
+use Rattle.book_price.specs.cert_laws.specs.cert_form.specs.Certificate.{WithoutValue, part_of}
+use Rattle.book_price.specs.cert_laws.specs.cert_form.specs.PlaceCert.{order_without}
 use Rattle.book_price.specs.choices.specs.Singles.{AreSingles}
 use Rattle.book_price.specs.choices.specs.declared.chooser.Single.{Single}
 use Rattle.place_check.specs.place_cert.specs.Parts.{part_order, part_value}

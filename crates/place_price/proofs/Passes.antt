@@ -3,15 +3,15 @@ use Rattle.std.specs.Prelude.{◌≡◌, ℕ, ◌<◌, ◌≤◌, IsTrue, List, 
 use Rattle.std.specs.List.{AllByRecursion}
 use Rattle.std.proofs.Common.{◌∙◌, subst, arith}
 use Rattle.std.proofs.lemmas.Int.{ints}
-use Rattle.book_price.specs.auction_model.specs.Market.{uses, value_of}
-use Rattle.book_price.specs.auction_model.specs.Greatest.{IsGreatest}
-use Rattle.book_price.specs.auction_model.specs.Prices.{IsCorePoint, paid}
+use Rattle.book_price.specs.cert_laws.specs.auction_model.specs.Market.{uses, value_of}
+use Rattle.book_price.specs.cert_laws.specs.auction_model.specs.Greatest.{IsGreatest}
+use Rattle.book_price.specs.cert_laws.specs.auction_model.specs.Prices.{IsCorePoint, paid}
 use Rattle.book_price.specs.Made.{cert_made, parts_from, row_from}
 use Rattle.book_price.proofs.Multipliers.{kept_firsts, kept_seconds}
 use Rattle.book_price.proofs.Payments.{kept_payments}
 use Rattle.book_price.proofs.Rows.{kept_rows}
-use Rattle.book_price.specs.cert_form.specs.Certificate.{CertValue, RowValue, part_of, row_of}
-use Rattle.book_price.specs.cert_form.specs.PlaceCert.{PlaceCertValue, order_in_row, order_without}
+use Rattle.book_price.specs.cert_laws.specs.cert_form.specs.Certificate.{CertValue, RowValue, part_of, row_of}
+use Rattle.book_price.specs.cert_laws.specs.cert_form.specs.PlaceCert.{PlaceCertValue, order_in_row, order_without}
 use Rattle.book_price.specs.cert_laws.specs.MarketTests.{PaysWithinBids}
 use Rattle.book_price.specs.cert_laws.specs.Sound.{cert_point}
 use Rattle.book_price.specs.choices.specs.declared.chooser.Found.{Found}

@@ -3,9 +3,9 @@ use Rattle.std.specs.Prelude.{ℕ, zero, suc, ◌-◌, ◌<◌, ◌≤◌, List,
 use Rattle.std.specs.List.{AllByRecursion}
 use Rattle.std.proofs.Common.{arith}
 use Rattle.std.proofs.lemmas.List.{length-map}
-use Rattle.book_price.specs.cert_form.specs.Certificate.{RowValue, row_of}
-use Rattle.book_price.specs.cert_form.specs.CertText.{AreRows}
-use Rattle.book_price.specs.cert_form.specs.PlaceCert.{order_in_row}
+use Rattle.book_price.specs.cert_laws.specs.cert_form.specs.Certificate.{RowValue, row_of}
+use Rattle.book_price.specs.cert_laws.specs.cert_form.specs.CertText.{AreRows}
+use Rattle.book_price.specs.cert_laws.specs.cert_form.specs.PlaceCert.{order_in_row}
 use Rattle.book_price.specs.core_price.specs.Kept.{IsKept}
 use Rattle.book_price.specs.core_price.specs.declared.priced.PricedRow.{PricedRow}
 use Rattle.place_check.specs.place_cert.specs.Parts.{row_order, row_value}

@@ -5,18 +5,18 @@ use Rattle.std.proofs.Common.{inl, inr, sym, ◌∙◌, ap, subst, arith}
 use Rattle.std.proofs.lemmas.Bool.{and_parts, cases_Bool}
 use Rattle.std.proofs.lemmas.Int.{ints}
 use Rattle.std.proofs.Math.IntN.{*ℤ-zero}
-use Rattle.book_price.specs.auction_model.specs.Lawful.{IsMarket}
-use Rattle.book_price.specs.auction_model.specs.Lowered.{of_bidder}
-use Rattle.book_price.specs.auction_model.specs.Market.{Market, uses, value_of, worth_in}
-use Rattle.book_price.specs.auction_model.specs.Prices.{IsCorePoint, Point, paid}
-use Rattle.book_price.specs.auction_model.specs.Table.{entry_at}
+use Rattle.book_price.specs.cert_laws.specs.auction_model.specs.Lawful.{IsMarket}
+use Rattle.book_price.specs.cert_laws.specs.auction_model.specs.Lowered.{of_bidder}
+use Rattle.book_price.specs.cert_laws.specs.auction_model.specs.Market.{Market, uses, value_of, worth_in}
+use Rattle.book_price.specs.cert_laws.specs.auction_model.specs.Prices.{IsCorePoint, Point, paid}
+use Rattle.book_price.specs.cert_laws.specs.auction_model.specs.Table.{entry_at}
 use Rattle.book_price.specs.Made.{parts_from, row_from}
 use Rattle.book_price.proofs.Ones.{winners-few}
 use Rattle.book_price.proofs.Places.{front_of, rest}
 use Rattle.book_price.proofs.Shapes.{choice_shape, numbers_shape, pay_shape, rows_few, rows_shape}
-use Rattle.book_price.specs.cert_form.specs.Certificate.{RowValue, WithoutValue}
+use Rattle.book_price.specs.cert_laws.specs.cert_form.specs.Certificate.{RowValue, WithoutValue}
 use Rattle.book_price.specs.cert_laws.specs.Sound.{cert_point}
-use Rattle.book_price.specs.cert_form.specs.CertText.{AreRows, InRange, IsChoice}
+use Rattle.book_price.specs.cert_laws.specs.cert_form.specs.CertText.{AreRows, InRange, IsChoice}
 use Rattle.book_price.specs.choices.specs.Singles.{winners_after}
 use Rattle.book_price.specs.choices.specs.declared.chooser.Found.{Found}
 use Rattle.book_price.specs.choices.specs.declared.chooser.Single.{Single}
@@ -44,9 +44,9 @@ use Rattle.place_check.specs.slot_places.specs.Board.{board_of, market_of}
 use Rattle.place_check.specs.slot_places.specs.Kept.{AreSlots}
 use Rattle.place_check.specs.slot_places.specs.Orders.{IsPlacement}
 use Rattle.place_check.specs.slot_places.specs.Slots.{SlotList, amount_of}
-use Rattle.book_price.specs.wide_num.specs.Sums.{total}
-use Rattle.book_price.specs.wide_num.proofs.Ints.{*ℤ-one, mul-add}
-use Rattle.book_price.specs.wide_num.proofs.Sums.{total-scale}
+use Rattle.book_price.specs.cert_laws.specs.wide_num.specs.Sums.{total}
+use Rattle.book_price.specs.cert_laws.specs.wide_num.proofs.Ints.{*ℤ-one, mul-add}
+use Rattle.book_price.specs.cert_laws.specs.wide_num.proofs.Sums.{total-scale}
 
 -- at a core point no more is paid than the choice is worth
 paid-most : (m : Market) → IsMarket m → (z : List ℕ) (p : Point) → IsTrue (m.allowed z) → ((j : ℕ) → 0 < j → j ≤ m.bidders → of_bidder p.at j ≤ℤ (p.den *ℤ worth_in m z j)) → paid m p ≤ℤ (p.den *ℤ value_of m z)

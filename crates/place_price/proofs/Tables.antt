@@ -3,11 +3,11 @@ use Rattle.std.specs.Prelude.{ℕ, suc, ◌^◌, ◌<◌, not, List, [], ◌∷�
 use Rattle.std.proofs.Common.{arith}
 use Rattle.std.proofs.lemmas.Bool.{and_parts}
 use Rattle.std.proofs.lemmas.Int.{ints}
-use Rattle.book_price.specs.auction_model.specs.Market.{uses, value_of}
-use Rattle.book_price.specs.auction_model.specs.Table.{entry_at}
+use Rattle.book_price.specs.cert_laws.specs.auction_model.specs.Market.{uses, value_of}
+use Rattle.book_price.specs.cert_laws.specs.auction_model.specs.Table.{entry_at}
 use Rattle.book_price.proofs.Shapes.{not_negative-small}
-use Rattle.book_price.specs.cert_form.specs.Certificate.{WithoutValue}
-use Rattle.book_price.specs.cert_form.specs.CertText.{AllInRange, InRange}
+use Rattle.book_price.specs.cert_laws.specs.cert_form.specs.Certificate.{WithoutValue}
+use Rattle.book_price.specs.cert_laws.specs.cert_form.specs.CertText.{AllInRange, InRange}
 use Rattle.place_check.specs.place_cert.specs.PlaceText.{HasSets}
 use Rattle.place_check.specs.place_laws.specs.PlacePriced.{IsBestPlacedPart}
 use Rattle.place_check.specs.place_laws.specs.PlaceTests.{ObeysSets}

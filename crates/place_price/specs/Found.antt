@@ -1,8 +1,8 @@
 -- What pricing finds of slots: words of private contracts.
 use Rattle.std.specs.Prelude.{◌≡◌, List, ℤ}
-use Rattle.book_price.specs.auction_model.specs.Greatest.{IsWinning}
-use Rattle.book_price.specs.auction_model.specs.Lowered.{lowered}
-use Rattle.book_price.specs.auction_model.specs.Market.{value_of}
+use Rattle.book_price.specs.cert_laws.specs.auction_model.specs.Greatest.{IsWinning}
+use Rattle.book_price.specs.cert_laws.specs.auction_model.specs.Lowered.{lowered}
+use Rattle.book_price.specs.cert_laws.specs.auction_model.specs.Market.{value_of}
 use Rattle.book_price.specs.choices.specs.Singles.{AreSingles}
 use Rattle.book_price.specs.choices.specs.declared.chooser.Found.{Found}
 use Rattle.book_price.specs.choices.specs.declared.chooser.Single.{Single}

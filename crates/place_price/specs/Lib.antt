@@ -2,7 +2,7 @@ pub mod PlacedParts
 pub mod PlacedRows
 pub mod Ones
 pub mod Found
-pub use Rattle.book_price.specs.auction_model
+pub use Rattle.book_price.specs.cert_laws.specs.auction_model
 pub use Rattle.book_price
 pub use Rattle.book_price.specs.cert_laws
 pub use Rattle.book_price.specs.core_price

@@ -1,6 +1,6 @@
 // The winners, each alone.
 ghost use Rattle.std.specs.Prelude.{◌≡◌, ◌≤◌, ◌<◌, IfOk, IsTrue, length};
-ghost use Rattle.book_price.specs.auction_model.specs.Market.{uses, value_of};
+ghost use Rattle.book_price.specs.cert_laws.specs.auction_model.specs.Market.{uses, value_of};
 ghost use Rattle.book_price.specs.choices.specs.Singles.{AreSingles, IsSingle};
 ghost use Rattle.place_price.specs.PlacedParts.{ArePartsOf, IsPartOf};
 ghost use Rattle.place_check.specs.slot_places.specs.Board.{market_of};

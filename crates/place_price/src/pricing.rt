@@ -1,10 +1,10 @@
 // From slots to their prices with their certificate.
 ghost use Rattle.std.specs.Prelude.{◌≡◌, IfOk, List, length, ℕ};
 ghost use Rattle.std.specs.List.{AllByRecursion};
-ghost use Rattle.book_price.specs.auction_model.specs.Greatest.{IsWinning};
-ghost use Rattle.book_price.specs.auction_model.specs.Lowered.{lowered};
-ghost use Rattle.book_price.specs.auction_model.specs.Prices.{alike};
-ghost use Rattle.book_price.specs.auction_model.specs.PricingRun.{IsPricingRun};
+ghost use Rattle.book_price.specs.cert_laws.specs.auction_model.specs.Greatest.{IsWinning};
+ghost use Rattle.book_price.specs.cert_laws.specs.auction_model.specs.Lowered.{lowered};
+ghost use Rattle.book_price.specs.cert_laws.specs.auction_model.specs.Prices.{alike};
+ghost use Rattle.book_price.specs.cert_laws.specs.auction_model.specs.PricingRun.{IsPricingRun};
 ghost use Rattle.book_price.specs.cert_laws.specs.Sound.{cert_point};
 ghost use Rattle.book_price.specs.choices.specs.Singles.{AreSingles};
 ghost use Rattle.book_price.specs.core_price.specs.Priced.{IsPriced};

@@ -11,7 +11,7 @@ use Rattle.row_laws.specs.auction_model.specs.PricingRun.{Block, IsBlockOf}
 use Rattle.row_laws.specs.auction_model.proofs.OrderLaws.{earlier-cases}
 use Rattle.row_laws.specs.point_laws.proofs.Order.{mul_nonneg, mul_positive}
 use Rattle.row_laws.proofs.Rows.{excess-bound, over-same}
-use Rattle.book_form.specs.wide_num.proofs.Ints.{lin, mul-sub, mul_cancel, swap_mul}
+use Rattle.book_form.specs.line_text.specs.wide_num.proofs.Ints.{lin, mul-sub, mul_cancel, swap_mul}
 use Rattle.print_form.proofs.AlikePoints.{IsAlike}
 use Rattle.print_form.proofs.Sums.{sums}
 

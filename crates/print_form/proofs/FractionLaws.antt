@@ -6,7 +6,7 @@ use Rattle.std.proofs.lemmas.Nat.Gcd.{mod-eq-zero_of_dvd, dvd_antisymm}
 use Rattle.std.proofs.Math.Nat.{div-add-mod, dvd-mul_right}
 use Rattle.std.proofs.Math.IntN.{*ℤ_comm}
 use Rattle.std.specs.Int.{◌∣◌}
-use Rattle.book_form.specs.wide_num.proofs.Ints.{lin, mul-add, swap_mul, mul_cancel, mul-zero_cases, Combined, combined, *ℤ-one}
+use Rattle.book_form.specs.line_text.specs.wide_num.proofs.Ints.{lin, mul-add, swap_mul, mul_cancel, mul-zero_cases, Combined, combined, *ℤ-one}
 use Rattle.row_laws.specs.point_laws.proofs.Ring.{swap_middle}
 use Rattle.print_form.specs.Fractions.{IsFraction, IsFractionText, parts_text}
 

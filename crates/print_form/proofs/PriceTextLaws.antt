@@ -6,7 +6,7 @@ use Rattle.row_laws.specs.auction_model.specs.Lowered.{of_bidder}
 use Rattle.row_laws.specs.auction_model.specs.Market.{value_of}
 use Rattle.row_laws.specs.auction_model.specs.Prices.{Point, SamePoint, everyone}
 use Rattle.print_form.specs.WinText.{net_line}
-use Rattle.book_form.specs.wide_num.proofs.Ints.{lin, mul-add, swap_mul}
+use Rattle.book_form.specs.line_text.specs.wide_num.proofs.Ints.{lin, mul-add, swap_mul}
 use Rattle.print_form.specs.Prices.{reserve_of, gross_of, priced_line, ArePricedLines, IsPriceText}
 use Rattle.print_form.proofs.FractionLaws.{one-text}
 use Rattle.print_form.proofs.Sums.{sums}

@@ -2,7 +2,7 @@
 use Rattle.std.proofs.Common.{◌≡◌, ℕ, zero, suc, ◌<◌, ◌≤◌, Bool, true, false, cond, ℤ, pos, ◌+ℤ◌, ◌*ℤ◌, sym, ◌∙◌, arith}
 use Rattle.std.proofs.Math.IntN.{*ℤ_comm, *ℤ-zero}
 use Rattle.row_laws.specs.auction_model.specs.Prices.{sum_over}
-use Rattle.book_form.specs.wide_num.proofs.Ints.{lin, mul-add}
+use Rattle.book_form.specs.line_text.specs.wide_num.proofs.Ints.{lin, mul-add}
 
 zero-times : (a : ℤ) → pos 0 *ℤ a ≡ pos 0
 zero-times a = *ℤ_comm (pos 0) a ∙ *ℤ-zero a

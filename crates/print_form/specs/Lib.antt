@@ -3,6 +3,6 @@ pub mod Json
 pub mod Prices
 pub mod Turns
 pub mod WinText
+pub use Rattle.book_form
 pub use Rattle.book_form.specs.limits
 pub use Rattle.row_laws
-pub use Rattle.book_form.specs.line_text

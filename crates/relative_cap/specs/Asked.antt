@@ -1,7 +1,7 @@
 -- What a cap is asked of.
 use Rattle.std.specs.Prelude.{◌≡◌, ℕ, ◌≤◌, List, length}
 use Rattle.std.specs.List.{All}
-use Rattle.clock_stage.specs.limits.specs.declared.TheConstants.{MOST_AMOUNT, MOST_POINTS}
+use Rattle.clock_stage.specs.award_file.specs.limits.specs.declared.TheConstants.{MOST_AMOUNT, MOST_POINTS}
 use Rattle.clock_stage.specs.auction_rules.specs.State.{Round}
 use Rattle.clock_stage.specs.lots.specs.declared.«package».Bid.{Bid}
 use Rattle.clock_stage.specs.auction_model.specs.Package.{cost_of}

@@ -1,7 +1,7 @@
 -- What the closed rounds say of caps: for each round the greatest eligibility from it on, and the greatest clock bid for what was
 -- held in it. Places are counted from 0.
 use Rattle.std.specs.Prelude.{◌≡◌, ◌⊎◌, ℕ, ◌+◌, ◌-◌, ◌≤◌, ◌<◌, max, List, [], ◌∷◌, length, drop, slice_index}
-use Rattle.clock_stage.specs.limits.specs.declared.TheConstants.{MOST_AMOUNT}
+use Rattle.clock_stage.specs.award_file.specs.limits.specs.declared.TheConstants.{MOST_AMOUNT}
 use Rattle.clock_stage.specs.auction_model.specs.Book.{BookBid}
 use Rattle.clock_stage.specs.auction_rules.specs.Rounds.{OwnRound}
 use Rattle.clock_stage.specs.auction_rules.specs.State.{Round}

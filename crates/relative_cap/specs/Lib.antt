@@ -7,9 +7,8 @@ pub mod RoundsOfPackage
 pub mod Tested
 pub use Rattle.clock_stage.specs.auction_model
 pub use Rattle.clock_stage.specs.auction_rules
-pub use Rattle.clock_stage.specs.award_file
-pub use Rattle.clock_stage.specs.bid_book
+pub use Rattle.clock_stage.specs.award_file.specs.bid_book
 pub use Rattle.clock_stage.specs.book_form
 pub use Rattle.clock_stage
-pub use Rattle.clock_stage.specs.limits
+pub use Rattle.clock_stage.specs.award_file.specs.limits
 pub use Rattle.clock_stage.specs.lots

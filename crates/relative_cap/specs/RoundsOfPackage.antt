@@ -1,6 +1,6 @@
 -- What the closed rounds say of the cap of one package, whatever the list is. Places are counted from 0.
 use Rattle.std.specs.Prelude.{◌≡◌, ℕ, suc, ◌≤◌, List, [], ◌∷◌, length, if◌then◌else◌}
-use Rattle.clock_stage.specs.limits.specs.declared.TheConstants.{MOST_AMOUNT}
+use Rattle.clock_stage.specs.award_file.specs.limits.specs.declared.TheConstants.{MOST_AMOUNT}
 use Rattle.clock_stage.specs.auction_model.specs.Package.{cost_of}
 use Rattle.clock_stage.specs.auction_model.specs.PackageTests.{is_empty, is_same}
 use Rattle.clock_stage.specs.auction_rules.specs.Rounds.{OwnRound}

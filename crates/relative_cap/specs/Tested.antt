@@ -1,7 +1,7 @@
 -- The entries of a list that is tested, the highest amounts over them, and the caps that these say.
 use Rattle.std.specs.Prelude.{◌≡◌, ℕ, suc, ◌+◌, ◌-◌, ◌≤◌, ◌<◌, max, min, Bool, List, [], ◌∷◌, ◌++◌, Option, Some, None, length, map, nat_lt, slice_index, slice_set, take, if◌then◌else◌}
 use Rattle.std.specs.List.{All}
-use Rattle.clock_stage.specs.limits.specs.declared.TheConstants.{MOST_AMOUNT}
+use Rattle.clock_stage.specs.award_file.specs.limits.specs.declared.TheConstants.{MOST_AMOUNT}
 use Rattle.clock_stage.specs.auction_model.specs.Book.{BookBid}
 use Rattle.clock_stage.specs.auction_rules.specs.Rounds.{OwnRound}
 use Rattle.clock_stage.specs.auction_rules.specs.State.{Round}

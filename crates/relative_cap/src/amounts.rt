@@ -1,6 +1,6 @@
 // Greatest amounts.
 ghost use Rattle.std.specs.Prelude.{◌≡◌, ◌≤◌, All, length, map};
-ghost use Rattle.clock_stage.specs.limits.specs.declared.TheConstants.{MOST_AMOUNT};
+ghost use Rattle.clock_stage.specs.award_file.specs.limits.specs.declared.TheConstants.{MOST_AMOUNT};
 ghost use Rattle.clock_stage.specs.auction_rules.specs.Caps.{clock_bid, greatest, highest};
 ghost use Rattle.clock_stage.specs.auction_model.specs.PackageTests.{InOrder};
 ghost use Rattle.clock_stage.specs.Kept.{IsHeld, categories_in};

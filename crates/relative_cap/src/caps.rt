@@ -1,6 +1,6 @@
 // Caps, and the first entry above its cap.
 ghost use Rattle.std.specs.Prelude.{◌≡◌, ◌-◌, ◌≤◌, ◌<◌, ◌^◌, [], All, length, map, option_map, slice_index};
-ghost use Rattle.clock_stage.specs.limits.specs.declared.TheConstants.{MOST_AMOUNT};
+ghost use Rattle.clock_stage.specs.award_file.specs.limits.specs.declared.TheConstants.{MOST_AMOUNT};
 ghost use Rattle.clock_stage.specs.auction_model.specs.Package.{cost_of};
 ghost use Rattle.clock_stage.specs.auction_rules.specs.Caps.{cap_by, cap_of, excess_cap, list_fault};
 ghost use Rattle.clock_stage.specs.auction_model.specs.PackageTests.{InOrder};

@@ -1,6 +1,6 @@
 // The size of a number, digit by digit.
 ghost use Rattle.std.specs.Prelude.{◌≡◌, ◌↔◌, ℕ, ◌+◌, ◌*◌, ◌<◌, ◌≤◌, length, IsTrue};
-ghost use Rattle.cert_text.specs.wide_num.proofs.Decimal.{AreDigits, read_on};
+ghost use Rattle.cert_text.specs.cert_form.specs.wide_num.proofs.Decimal.{AreDigits, read_on};
 ghost use Rattle.cert_pieces.specs.Tallies.{IsTally};
 ghost use Rattle.cert_pieces.specs.Pieces.{between};
 

@@ -2,8 +2,8 @@ use Rattle.std.proofs.Common.{Bool, true, false, not, ◌==◌, refl, ◌≡◌,
 use Rattle.std.proofs.lemmas.Int.{ints}
 use Rattle.std.proofs.lemmas.Nat.{mul-le}
 use Rattle.std.proofs.lemmas.Bool.{eqb-true}
-use Rattle.weights_file.specs.auction_model.specs.Market.{value_of}
-use Rattle.weights_file.specs.auction_model.specs.Lowered.{of_bidder, sum_to}
+use Rattle.weights_file.specs.bid_book.specs.auction_model.specs.Market.{value_of}
+use Rattle.weights_file.specs.bid_book.specs.auction_model.specs.Lowered.{of_bidder, sum_to}
 use Rattle.slot_places.specs.Board.{market_of}
 use Rattle.slot_places.proofs.PlainSearch.{sum-most, value-small}
 use Rattle.book_tests.proofs.slots.are_surpluses.Goals as goal

@@ -3,9 +3,9 @@ use Rattle.std.proofs.lemmas.Int.{ints, to_z-of_z}
 use Rattle.std.specs.Int.Signed.{lt_z, lt_z_no}
 use Rattle.std.proofs.lemmas.Nat.{mul-le}
 use Rattle.std.proofs.lemmas.Bool.{eqb-true, not_from_false}
-use Rattle.weights_file.specs.auction_model.specs.Book.{market_of}
-use Rattle.weights_file.specs.auction_model.specs.Market.{value_of}
-use Rattle.weights_file.specs.auction_model.specs.Lowered.{of_bidder, sum_to}
+use Rattle.weights_file.specs.bid_book.specs.auction_model.specs.Book.{market_of}
+use Rattle.weights_file.specs.bid_book.specs.auction_model.specs.Market.{value_of}
+use Rattle.weights_file.specs.bid_book.specs.auction_model.specs.Lowered.{of_bidder, sum_to}
 use lib.Dec.{T}
 use mir.Val.{SFits}
 use mir.Syntax.{w128}

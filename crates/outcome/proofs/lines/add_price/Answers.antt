@@ -3,7 +3,7 @@ use Rattle.std.specs.Int.{w128}
 use Rattle.std.proofs.lemmas.Int.{to_z-of_z}
 use Rattle.std.specs.Fmt.{decimal, signed_decimal}
 use Rattle.core_price.specs.auction_model.specs.Book.{bidder_of, bid_of}
-use Rattle.print_form.specs.line_text.specs.Decimals.{decimals_text}
+use Rattle.print_form.specs.book_form.specs.line_text.specs.Decimals.{decimals_text}
 use Rattle.outcome.specs.Fractions.{fraction_text}
 use Rattle.outcome.proofs.LineLaws.{regroup}
 use Rattle.outcome.proofs.lines.add_price.Goals as goal

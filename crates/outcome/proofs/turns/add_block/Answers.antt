@@ -1,7 +1,7 @@
 use Rattle.std.proofs.Common.{rules, ◌≡◌, ◌∙◌, ap, subst, refl, ◌++◌, List, ℕ, ℤ, codes, length, FitsSigned, to_z, of_z}
 use Rattle.std.specs.Int.{w128}
 use Rattle.std.proofs.lemmas.Int.{to_z-of_z}
-use Rattle.print_form.specs.line_text.specs.Decimals.{decimals_text}
+use Rattle.print_form.specs.book_form.specs.line_text.specs.Decimals.{decimals_text}
 use Rattle.print_form.specs.row_laws.specs.Winners.{members_of}
 use Rattle.print_form.specs.row_laws.specs.Winners.{row_of}
 use Rattle.outcome.specs.Fractions.{IsFractionOf, fraction_text}

@@ -11,7 +11,7 @@ use Rattle.cert_check.proofs.PartLaws.{wins-some}
 use Rattle.cert_facts.specs.cert_form.specs.CertText.{InRange}
 use Rattle.cert_facts.specs.cert_form.specs.Certificate.{part_of}
 use Rattle.cert_facts.specs.cert_laws.specs.Tests.{bidders_of, states}
-use Rattle.cert_facts.specs.choices.specs.declared.chooser.Single.{Single}
+use Rattle.cert_facts.specs.cert_text.specs.choices.specs.declared.chooser.Single.{Single}
 use Rattle.piece_check.proofs.NextLaws.{part-choice}
 use Rattle.piece_check.proofs.facts.single_in.Goals as goal
 

@@ -2,7 +2,7 @@ use Rattle.std.proofs.Common.{◌∙◌, ◌-◌, get_or, pos, sym, arith, rules
 use Rattle.std.proofs.lemmas.Int.{to_z-of_z}
 use mir.Val.{SFits}
 use mir.Syntax.{w128}
-use Rattle.cert_check.specs.cert_form.specs.Certificate.{RowValue}
+use Rattle.cert_check.specs.cert_laws.specs.cert_form.specs.Certificate.{RowValue}
 use Rattle.cert_check.proofs.PartLaws.{wins-some}
 use Rattle.place_check.proofs.RowLaws.{holding-same}
 use Rattle.place_check.proofs.claims.is_least.Goals as goal

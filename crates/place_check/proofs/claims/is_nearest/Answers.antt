@@ -2,8 +2,8 @@ use Rattle.std.proofs.Common.{◌∙◌, ◌-◌, ◌*◌, ◌^◌, ◌≤◌, �
 use Rattle.std.proofs.lemmas.Int.{to_z-of_z}
 use mir.Val.{SFits}
 use mir.Syntax.{w128}
-use Rattle.cert_check.specs.cert_form.specs.Certificate.{RowValue}
-use Rattle.cert_check.specs.cert_form.specs.CertText.{AllInRange}
+use Rattle.cert_check.specs.cert_laws.specs.cert_form.specs.Certificate.{RowValue}
+use Rattle.cert_check.specs.cert_laws.specs.cert_form.specs.CertText.{AllInRange}
 use Rattle.cert_check.proofs.PartLaws.{wins-some}
 use Rattle.cert_check.proofs.SumLaws.{in-range}
 use Rattle.cert_check.proofs.TimesLaws.{times-same}

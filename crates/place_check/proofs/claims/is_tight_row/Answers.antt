@@ -2,8 +2,8 @@ use Rattle.std.proofs.Common.{◌≡◌, ◌∙◌, sym, ap, subst, length, List
 use Rattle.std.specs.Prelude.{IsTrue}
 use Rattle.std.proofs.lemmas.Bool.{false≢true}
 use Rattle.cert_check.specs.auction_model.specs.Market.{number_of, uses}
-use Rattle.cert_check.specs.cert_form.specs.CertText.{AreMembers}
-use Rattle.cert_check.specs.cert_form.specs.Certificate.{is_member}
+use Rattle.cert_check.specs.cert_laws.specs.cert_form.specs.CertText.{AreMembers}
+use Rattle.cert_check.specs.cert_laws.specs.cert_form.specs.Certificate.{is_member}
 use Rattle.place_laws.specs.slot_places.specs.Orders.{allows}
 use Rattle.place_cert.specs.CertValues.{place_cert_value}
 use Rattle.place_cert.specs.Parts.{row_value, row_order}

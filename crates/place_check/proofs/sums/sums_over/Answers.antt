@@ -2,7 +2,7 @@ use Rattle.std.proofs.Common.{◌≡◌, ◌∙◌, ◌^◌, ◌≤◌, ℤ, len
 use Rattle.std.proofs.lemmas.Int.{to_z-of_z}
 use mir.Val.{SFits}
 use mir.Syntax.{w128}
-use Rattle.cert_check.specs.cert_form.specs.Certificate.{RowValue}
+use Rattle.cert_check.specs.cert_laws.specs.cert_form.specs.Certificate.{RowValue}
 use Rattle.place_check.proofs.RowLaws.{multipliers-size, sums-more, sums-none}
 use Rattle.place_check.proofs.sums.sums_over.Goals as goal
 

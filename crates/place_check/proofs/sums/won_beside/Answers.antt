@@ -4,7 +4,7 @@ use mir.Val.{SFits}
 use mir.Syntax.{w128}
 use Rattle.place_laws.specs.slot_places.specs.Board.{market_of}
 use Rattle.cert_check.specs.auction_model.specs.Market.{worth_in}
-use Rattle.cert_check.specs.cert_form.specs.Certificate.{is_member}
+use Rattle.cert_check.specs.cert_laws.specs.cert_form.specs.Certificate.{is_member}
 use Rattle.cert_check.proofs.SumLaws.{over-next, counted-same}
 use Rattle.place_check.proofs.SumSteps.{counted-least, counted-most}
 use Rattle.place_check.proofs.sums.won_beside.Goals as goal

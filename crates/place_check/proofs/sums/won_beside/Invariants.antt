@@ -2,7 +2,7 @@ use Rattle.std.proofs.Common.{◌≡◌, ◌≤◌, ◌*◌, ◌^◌, ◌≤ℤ�
 use Rattle.place_laws.specs.slot_places.specs.Board.{market_of}
 use Rattle.cert_check.specs.auction_model.specs.Market.{worth_in}
 use Rattle.cert_check.specs.auction_model.specs.Prices.{sum_over}
-use Rattle.cert_check.specs.cert_form.specs.Certificate.{is_member}
+use Rattle.cert_check.specs.cert_laws.specs.cert_form.specs.Certificate.{is_member}
 use Rattle.place_check.proofs.sums.won_beside.Given as goal
 
 abbrev pub invariant-loop-k : goal.invariant-loop-k

@@ -1,6 +1,6 @@
 use Rattle.std.proofs.Common.{◌≡◌, ◌≢◌, ◌∙◌, ◌<◌, ◌≤◌, ◌+◌, ◌-◌, sym, ap, arith, get_or, length, take, map, [], ◌∷◌, ◌++◌}
 use Rattle.std.proofs.lemmas.List.{map-append, take_all}
-use Rattle.book_price.specs.auction_model.proofs.ListLaws.{each-push}
+use Rattle.book_price.specs.cert_laws.specs.auction_model.proofs.ListLaws.{each-push}
 use Rattle.book_price.specs.choices.specs.declared.chooser.Single.{Single}
 use Rattle.book_price.specs.choices.specs.Singles.{winners_after, IsSingle}
 use Rattle.place_price.proofs.Allowed.{lawful}

@@ -1,8 +1,8 @@
 use Rattle.std.proofs.Common.{◌≤◌, ◌*◌, ◌^◌, refl, sym, subst, rules, not, ℤ, ◌-ℤ◌, unsigned_abs}
 use Rattle.std.proofs.lemmas.Bool.{and_parts}
 use Rattle.std.proofs.lemmas.Int.{to_z-of_z, fits_signed_from_abs}
-use Rattle.book_price.specs.auction_model.specs.Market.{uses}
-use Rattle.book_price.specs.auction_model.specs.Prices.{IsVickreyPrice}
+use Rattle.book_price.specs.cert_laws.specs.auction_model.specs.Market.{uses}
+use Rattle.book_price.specs.cert_laws.specs.auction_model.specs.Prices.{IsVickreyPrice}
 use Rattle.place_price.proofs.Allowed.{left-small, own-small, price-is, price-small}
 use Rattle.place_check.specs.slot_places.specs.Board.{market_of}
 use Rattle.place_check.specs.slot_places.proofs.PlainSearch.{value-small}

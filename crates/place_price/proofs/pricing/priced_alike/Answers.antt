@@ -1,5 +1,5 @@
 use Rattle.std.proofs.Common.{◌≡◌, ◌∙◌, ap, arith, subst, sym, List, ℕ, length, replicate}
-use Rattle.book_price.specs.auction_model.specs.Prices.{AreWeights}
+use Rattle.book_price.specs.cert_laws.specs.auction_model.specs.Prices.{AreWeights}
 use Rattle.book_price.proofs.Ones.{none-many, ones-weigh}
 use Rattle.book_price.specs.row_laws.specs.Weights.{ManyWin}
 use Rattle.place_price.proofs.Allowed.{lawful, value-most}

@@ -1,6 +1,6 @@
 use Rattle.std.proofs.Common.{◌≡◌, ℕ, ◌+◌, ◌-◌, ◌*◌, ◌++◌, ◌∷◌, [], get_or, subst, sym, ap, ◌∙◌, arith}
 use Rattle.std.proofs.lemmas.Bool.Decides.{nat_tests}
-use Rattle.cert_text.specs.wide_num.proofs.Decimal.{IsDigit, AreDigits, read_on, digits_push, read_on-append}
+use Rattle.cert_text.specs.cert_form.specs.wide_num.proofs.Decimal.{IsDigit, AreDigits, read_on, digits_push, read_on-append}
 use Rattle.cert_pieces.specs.Tallies.{IsTally}
 use Rattle.cert_pieces.specs.Pieces.{between}
 use Rattle.cert_pieces.proofs.Runs.{between_more, between_join, digits_join}

@@ -1,5 +1,5 @@
 use Rattle.std.proofs.Common.{ℕ}
-use Rattle.cert_text.specs.wide_num.proofs.Decimal.{read_on, AreDigits}
+use Rattle.cert_text.specs.cert_form.specs.wide_num.proofs.Decimal.{read_on, AreDigits}
 use Rattle.cert_pieces.specs.Tallies.{IsTally}
 use Rattle.cert_pieces.specs.Pieces.{between}
 use Rattle.cert_pieces.proofs.line.digits.read_wide.Given as goal

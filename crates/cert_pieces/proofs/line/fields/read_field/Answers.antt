@@ -1,6 +1,6 @@
 use Rattle.std.proofs.Common.{◌<◌, ◌^◌, get_or, arith}
 use Rattle.std.proofs.lemmas.Bool.Decides.{nat_tests}
-use Rattle.cert_text.specs.wide_num.proofs.Decimal.{IsDigit}
+use Rattle.cert_text.specs.cert_form.specs.wide_num.proofs.Decimal.{IsDigit}
 use Rattle.cert_pieces.proofs.WholeFields.{field_first, field_more}
 use Rattle.cert_pieces.proofs.line.fields.read_field.Goals as goal
 

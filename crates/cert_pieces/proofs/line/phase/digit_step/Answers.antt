@@ -1,7 +1,7 @@
 use Rattle.std.proofs.Common.{◌≡◌, ◌≢◌, arith}
 use Rattle.std.specs.Prelude.{unsigned_abs}
 use Rattle.std.proofs.lemmas.Bool.Decides.{nat_tests}
-use Rattle.cert_text.specs.wide_num.proofs.Decimal.{IsDigit}
+use Rattle.cert_text.specs.cert_form.specs.wide_num.proofs.Decimal.{IsDigit}
 use Rattle.cert_pieces.proofs.Steps.{digit_refused, digit_more}
 use Rattle.cert_pieces.proofs.line.phase.digit_step.Goals as goal
 use Rattle.cert_pieces.proofs.line.phase.digit_step.Goals.{then-not-is_ascii_digit-via-then-not-is_ascii_digit, then-not-is_ascii_digit-via-else-not-is_ascii_digit+then-is_zero}

@@ -1,5 +1,5 @@
 use Rattle.std.proofs.Common.{◌<◌, ◌≤◌, arith}
-use Rattle.cert_text.specs.wide_num.proofs.Decimal.{IsDigit}
+use Rattle.cert_text.specs.cert_form.specs.wide_num.proofs.Decimal.{IsDigit}
 use Rattle.cert_pieces.proofs.Steps.{minus_refused, minus_digit}
 use Rattle.cert_pieces.proofs.line.phase.minus_step.Goals as goal
 

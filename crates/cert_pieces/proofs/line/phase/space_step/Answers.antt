@@ -1,6 +1,6 @@
 use Rattle.std.proofs.Common.{◌≢◌, arith}
 use Rattle.std.proofs.lemmas.Bool.Decides.{nat_tests}
-use Rattle.cert_text.specs.wide_num.proofs.Decimal.{IsDigit}
+use Rattle.cert_text.specs.cert_form.specs.wide_num.proofs.Decimal.{IsDigit}
 use Rattle.cert_pieces.proofs.Steps.{space_refused, space_digit}
 use Rattle.cert_pieces.proofs.line.phase.space_step.Goals as goal
 
