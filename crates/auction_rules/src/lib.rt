@@ -28,7 +28,6 @@ ghost use Rattle.auction_rules.specs.BookOfLog.{IsGreatestFor, bid_lots, bids_in
 
 pub use lots;
 use lots::Package;
-pub use lots::limits;
 
 /// One line of a log. Bidders are numbered from 1, and a number that no bidder has, 0 too, is a stranger's.
 #[derive(Drop)]

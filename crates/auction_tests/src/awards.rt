@@ -1,5 +1,5 @@
-use big_auction::award_file::{AwardStop, CapFault, LimitKind, read_award};
-use big_auction::lots::Package;
+use big_auction::clock_stage::award_file::auction_rules::lots::Package;
+use big_auction::clock_stage::award_file::{AwardStop, CapFault, LimitKind, read_award};
 use std::alloc::{AllocError, Global};
 use std::test::Fail;
 

@@ -1,9 +1,9 @@
 ghost use Rattle.std.specs.Prelude.{◌<◌, ◌≤◌};
 ghost use Rattle.big_auction.specs.clock_stage.specs.Kept.{IsFor, bidders_in};
 
-use big_auction::award_file::{Award, StepTable, read_award};
+use big_auction::clock_stage::award_file::auction_rules::lots::{LotStop, Package};
+use big_auction::clock_stage::award_file::{Award, StepTable, read_award};
 use big_auction::clock_stage::{Clock, Closed, History, Reply, step};
-use big_auction::lots::{LotStop, Package};
 use std::alloc::{AllocError, Global};
 use std::process::Abort;
 use std::test::Fail;

@@ -3,8 +3,8 @@ ghost use Rattle.std.specs.Prelude.{◌≡◌, IsTrue, length};
 ghost use Rattle.big_auction.specs.clock_stage.specs.auction_rules.specs.Lawful.{HasCategories};
 ghost use Rattle.big_auction.specs.clock_stage.specs.auction_rules.specs.Terms.{Terms};
 
-use big_auction::award_file::read_award;
-use big_auction::bid_book::write_book;
+use big_auction::clock_stage::award_file::bid_book::write_book;
+use big_auction::clock_stage::award_file::read_award;
 use big_auction::log_file::read_log;
 use log_replay::bid_desk::{Desk, DeskStop, Event, Reply};
 use std::alloc::Global;

@@ -1,4 +1,4 @@
-use big_auction::award_file::{Award, read_award};
+use big_auction::clock_stage::award_file::{Award, read_award};
 use big_auction::log_file::{CloseDone, Event, LimitKind, LogStop, Reply, read_log, reply_line};
 use std::alloc::{AllocError, Global};
 use std::process::Abort;

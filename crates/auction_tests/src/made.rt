@@ -1,4 +1,4 @@
-use big_auction::award_file::read_award;
+use big_auction::clock_stage::award_file::read_award;
 use big_auction::log_file::read_log;
 use big_auction::make;
 use std::process::Abort;

@@ -10,8 +10,8 @@ mod replies;
 mod terms;
 mod texts;
 
-use big_auction::award_file::{Award, read_award};
-use big_auction::bid_book::write_book;
+use big_auction::clock_stage::award_file::bid_book::write_book;
+use big_auction::clock_stage::award_file::{Award, read_award};
 use big_auction::log_file::{packages_of_log, read_log};
 use draw::{Draw, packages_within};
 use log_replay::{Events, Replay, ReplayStop, replay};

@@ -10,11 +10,9 @@ mod read;
 mod steps;
 
 pub use auction_rules;
-pub use auction_rules::limits::LimitKind;
-pub use auction_rules::{limits, lots};
+pub use auction_rules::lots::limits::LimitKind;
 pub use award::Award;
 pub use bid_book;
-pub use bid_book::{line_text, wide_num};
 pub use caps::CapFault;
 pub use laws::{book_of_award, stated_award};
 pub use read::{AwardStop, read_award};

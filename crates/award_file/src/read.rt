@@ -18,7 +18,7 @@ mod spectrum_caps;
 use crate::caps::SpectrumCap;
 use crate::entrants::Entrants;
 use crate::{Award, StepTable};
-use auction_rules::limits::{LimitKind, MOST_BIDDERS, MOST_PRICE};
+use auction_rules::lots::limits::{LimitKind, MOST_BIDDERS, MOST_PRICE};
 use auction_rules::lots::{LotStop, Supply};
 use bidders::read_bidders;
 use categories::{Category, read_categories};

@@ -8,8 +8,8 @@ ghost use Rattle.bid_book.specs.Lists.{bid_of};
 ghost use Rattle.bid_book.specs.Written.{bid_text, bidder_text, bidders_text};
 
 use crate::BidBook;
+use book_form::line_text::wide_num::Text;
 use book_form::line_text::{add_amounts, add_number, add_numbers};
-use book_form::wide_num::Text;
 use lots::Bid;
 use std::alloc::{AllocError, Global};
 

@@ -14,10 +14,12 @@ ghost use Rattle.bid_desk.specs.Lists.{IsKept};
 use crate::lists::BidderLists;
 use crate::slots::{copied_entries, put_entry};
 use relative_cap::amount_listed;
-use relative_cap::award_file::Award;
-use relative_cap::bid_book::{BidBook, BidList, BidderBids, Bidders, Name, Reserves};
 use relative_cap::clock_stage::History;
-use relative_cap::lots::{Bid, Package, Supply};
+use relative_cap::clock_stage::award_file::Award;
+use relative_cap::clock_stage::award_file::auction_rules::lots::{Bid, Package, Supply};
+use relative_cap::clock_stage::award_file::bid_book::{
+    BidBook, BidList, BidderBids, Bidders, Name, Reserves,
+};
 use std::alloc::{AllocError, Global};
 
 /// Sets the amount for the package in a list, or leaves the list's own where that is greater.

@@ -9,4 +9,4 @@ mod slots;
 mod testers;
 
 pub use desk::{Desk, DeskStop};
-pub use relative_cap::auction_rules::{Event, Reply, Stage};
+pub use relative_cap::clock_stage::award_file::auction_rules::{Event, Reply, Stage};

@@ -9,7 +9,7 @@ ghost use Rattle.relative_cap.specs.OwnRounds.{bid_value, entry_lots, rounds_of}
 ghost use Rattle.bid_desk.specs.Testers.{AreFor, IsTesterOrNew};
 
 use relative_cap::clock_stage::History;
-use relative_cap::lots::Bid;
+use relative_cap::clock_stage::award_file::auction_rules::lots::Bid;
 use relative_cap::{ListTester, OverCap};
 use std::alloc::{AllocError, Global};
 

@@ -8,6 +8,5 @@ mod row;
 mod surplus;
 
 pub use choices;
-pub use choices::limits;
 pub use look::{Block, Looked, find_block};
 pub use row_laws::far_num;

@@ -4,7 +4,6 @@
 pub use limits;
 use limits::LimitKind;
 pub use line_text;
-pub use line_text::wide_num;
 
 /// What a line exceeds: the quantity that has the limit, and its count.
 pub type Excess = (LimitKind, u64);

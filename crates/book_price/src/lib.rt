@@ -12,11 +12,8 @@ mod parts;
 mod pricing;
 
 pub use cert_laws;
-pub use cert_laws::wide_num;
 pub use cert_text;
-pub use cert_text::{bid_book, choices, limits};
 pub use core_price;
-pub use core_price::blocking;
 pub use laws::books_can_be_priced;
 pub use pricing::{PricedBook, price_book};
 pub use vickrey::value_table;

@@ -18,8 +18,8 @@ ghost use Rattle.book_price.specs.Stops.{IsBookStop};
 
 use crate::certificate::certificate;
 use cert_text::Certificate;
-use cert_text::bid_book::BidBook;
 use cert_text::choices::Choice;
+use cert_text::choices::bid_book::BidBook;
 use core_price::{PriceStop, TurnList, count_winners, many_win, price};
 use std::alloc::{AllocError, Global};
 use vickrey::value_table::{BookChooser, ValueTable, plain_table};

@@ -4,11 +4,11 @@ ghost use Rattle.weights_file.specs.bid_book.specs.Lists.{bid_of};
 
 use std::alloc::{AllocError, Global};
 use std::test::Fail;
+use weights_file::bid_book::lots::{Bid, LotStop, Package, Supply};
 use weights_file::bid_book::{
     BidBook, BidList, BidderBids, Bidders, BookStop, LimitKind, Name, Reserves, read_book,
     write_book,
 };
-use weights_file::lots::{Bid, LotStop, Package, Supply};
 
 /// The first three lines of a book of two lots, and its first bidder: 42 bytes.
 const FRONT: &str = "book 1\nsupply 1 1\nreserve 0 0\nbidder east\n";

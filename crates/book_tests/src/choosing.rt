@@ -1,7 +1,7 @@
 use slot_places::choices::{Choice, Grid, Numbers, first_by_listing};
 use std::alloc::AllocError;
+use weights_file::bid_book::line_text::wide_num::NumList;
 use weights_file::bid_book::read_book;
-use weights_file::wide_num::NumList;
 
 #[test]
 fn choices_tell_their_numbers(rt: HostRuntime) -> Result<(), AllocError> {

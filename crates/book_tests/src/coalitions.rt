@@ -3,7 +3,7 @@ ghost use Rattle.weights_file.specs.bid_book.specs.auction_model.specs.Greatest.
 ghost use Rattle.weights_file.specs.bid_book.specs.auction_model.specs.Lawful.{IsMarket};
 ghost use Rattle.book_tests.specs.OneOfTwo.{one_of_two, first_wins};
 
-use outcome::blocking::{Looked, find_block};
+use outcome::core_price::blocking::{Looked, find_block};
 use slot_places::choices::{Choice, Chooser, Found, Numbers};
 use std::alloc::{AllocError, Global};
 

@@ -4,9 +4,9 @@ use edits_file::review::Edit;
 use edits_file::{EditStop, Edits, read_edits};
 use std::alloc::{AllocError, Global};
 use std::test::Fail;
+use weights_file::bid_book::line_text::wide_num::Text;
+use weights_file::bid_book::lots::limits::LimitKind;
 use weights_file::bid_book::read_book;
-use weights_file::limits::LimitKind;
-use weights_file::wide_num::Text;
 
 // The edits that a text states for a book of one category without bidders, or why it states none.
 fn read_small(alloc: Global, text: &[u8]) -> Result<Result<Edits, EditStop>, AllocError> {

@@ -4,8 +4,8 @@ use edits_file::read_edits;
 use outcome::review_text;
 use std::alloc::{AllocError, Global};
 use std::test::Fail;
+use weights_file::bid_book::line_text::wide_num::Text;
 use weights_file::bid_book::read_book;
-use weights_file::wide_num::Text;
 
 // The text for a book and its edits.
 fn printed(alloc: Global, book: &str, edits: &str) -> Result<Text, AllocError> {

@@ -7,8 +7,8 @@ use edits_file::review::{Edit, EditReply, Review};
 use slot_places::choices::value;
 use std::alloc::{AllocError, Global};
 use vickrey::value_table::win;
+use weights_file::bid_book::lots::{LotStop, Package};
 use weights_file::bid_book::read_book;
-use weights_file::lots::{LotStop, Package};
 
 // How many categories the package of an edit has.
 fn categories_of(edit: &Edit) -> usize

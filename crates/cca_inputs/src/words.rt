@@ -7,7 +7,7 @@ ghost use Rattle.cca_inputs.specs.Words.{AreAmong, command_value};
 use crate::price_form::asked_form;
 use crate::shape::{OnePriced, Shape, ThreeFiles, TwoFiles, TwoPriced, shape_of};
 use crate::{FileKind, PriceForm};
-use log_file::wide_num::read_natural;
+use log_file::award_file::bid_book::line_text::wide_num::read_natural;
 
 // The greatest number from which an auction is made.
 const MOST_NUMBER: u128 = u32::MAX as u128;

@@ -11,14 +11,14 @@ ghost use Rattle.cca_work.specs.Checked.{IsFed, IsJudged, ShowsFacts, StopsCheck
 ghost use Rattle.cca_inputs.specs.Reading.{InputStops, IsRead, OnlyLoads};
 ghost use Rattle.cca_inputs.specs.declared.status.FileKind.TheVariants.{Cert};
 
-use cca_inputs::bid_book::BidBook;
 use cca_inputs::cca_base::{Files, ReadStop};
-use cca_inputs::cert_facts::CertFacts;
-use cca_inputs::cert_form::one_cert;
-use cca_inputs::limits::CERT_BYTES;
 use cca_inputs::piece_check::StreamCheck;
 use cca_inputs::piece_check::cert_check::Verdict;
+use cca_inputs::piece_check::cert_facts::CertFacts;
 use cca_inputs::piece_check::cert_pieces::TextStop;
+use cca_inputs::place_cert::cert_text::cert_form::limits::CERT_BYTES;
+use cca_inputs::place_cert::cert_text::cert_form::one_cert;
+use cca_inputs::weights_file::bid_book::BidBook;
 use cca_inputs::{CertKind, FileKind, Status, status_of_read};
 use std::alloc::{AllocError, Global};
 

@@ -18,8 +18,8 @@ use crate::verdict::accepted;
 use crate::win::win_of;
 use crate::work::{Stop, Work};
 use big_auction::log_file::packages_of_log;
-use cca_inputs::bid_book::BidBook;
 use cca_inputs::cca_base::Files;
+use cca_inputs::weights_file::bid_book::BidBook;
 use cca_inputs::{
     AwardInput, BookInput, Command, EditsInput, LogInput, OnePriced, PlaceCertInput, PriceForm,
     SlotsInput, ThreeFiles, TwoFiles, TwoPriced, WeightsInput, read_input,

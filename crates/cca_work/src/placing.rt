@@ -19,7 +19,7 @@ use cca_inputs::{CertKind, Status};
 use outcome::core_price::Turn;
 use outcome::place_check::{Verdict, check_places};
 use outcome::place_text;
-use outcome::wide_num::Text;
+use outcome::print_form::line_text::wide_num::Text;
 use place_price::priced_places;
 use std::alloc::{AllocError, Global};
 

@@ -9,12 +9,12 @@ ghost use Rattle.outcome.specs.Turns.{CanPrintTurn};
 ghost use Rattle.cca_work.specs.Gives.{ArePriceLines, ArePrinted, AreRounds, IsPriceJson};
 
 use cca_inputs::PriceForm;
-use cca_inputs::bid_book::BidBook;
-use cca_inputs::cert_facts::facts;
-use cca_inputs::cert_text::Certificate;
-use cca_inputs::choices::Choice;
+use cca_inputs::piece_check::cert_facts::facts;
+use cca_inputs::place_cert::cert_text::Certificate;
+use cca_inputs::slot_places::choices::Choice;
+use cca_inputs::weights_file::bid_book::BidBook;
 use outcome::core_price::Turn;
-use outcome::wide_num::Text;
+use outcome::print_form::line_text::wide_num::Text;
 use outcome::{outcome_json, outcome_text, rounds_text};
 use std::alloc::{AllocError, Global};
 

@@ -12,12 +12,12 @@ ghost use Rattle.cca_work.specs.Works.{IsWork};
 
 use crate::price_text::price_text;
 use crate::work::{Stop, Work};
-use cca_inputs::bid_book::BidBook;
-use cca_inputs::cert_text::write_cert;
-use cca_inputs::limits::LimitKind;
+use cca_inputs::place_cert::cert_text::cert_form::limits::LimitKind;
+use cca_inputs::place_cert::cert_text::write_cert;
+use cca_inputs::weights_file::bid_book::BidBook;
 use cca_inputs::{FileKind, FileText, PriceForm};
 use outcome::core_price::PriceStop;
-use outcome::wide_num::Text;
+use outcome::print_form::line_text::wide_num::Text;
 use place_price::book_price::price_book;
 use std::alloc::{AllocError, Global};
 

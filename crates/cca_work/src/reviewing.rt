@@ -6,7 +6,7 @@ ghost use Rattle.cca_work.specs.Gives.{ReviewGives};
 ghost use Rattle.cca_work.specs.Works.{IsWork};
 
 use crate::work::{Stop, Work};
-use cca_inputs::bid_book::BidBook;
+use cca_inputs::weights_file::bid_book::BidBook;
 use outcome::review::Edit;
 use outcome::review_text;
 use std::alloc::Global;

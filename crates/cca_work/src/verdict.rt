@@ -9,10 +9,10 @@ ghost use Rattle.cca_work.specs.Gives.{IsYesText, VerdictGives};
 ghost use Rattle.cca_work.specs.Works.{IsWork};
 
 use crate::work::{Stop, Work};
-use cca_inputs::bid_book::BidBook;
-use cca_inputs::cert_facts::CertFacts;
+use cca_inputs::piece_check::cert_facts::CertFacts;
+use cca_inputs::weights_file::bid_book::BidBook;
 use outcome::outcome_text;
-use outcome::wide_num::Text;
+use outcome::print_form::line_text::wide_num::Text;
 use std::alloc::{AllocError, Global};
 
 fn yes_text(alloc: Global, book: &BidBook, facts: &CertFacts) -> Result<Text, AllocError>

@@ -4,9 +4,9 @@ ghost use Rattle.outcome.specs.auction_model.specs.Greatest.{IsWinning};
 ghost use Rattle.outcome.specs.auction_model.specs.Book.{market_of};
 ghost use Rattle.outcome.specs.print_form.specs.WinText;
 
-use cca_inputs::bid_book::BidBook;
-use outcome::value_table::win;
-use outcome::wide_num::Text;
+use cca_inputs::weights_file::bid_book::BidBook;
+use outcome::print_form::line_text::wide_num::Text;
+use outcome::review::value_table::win;
 use outcome::win_text;
 use std::alloc::{AllocError, Global};
 

@@ -3,10 +3,10 @@ ghost use Rattle.std.specs.Prelude.{◌≡◌};
 ghost use Rattle.cca_work.specs.Works.{bare, price_status};
 ghost use Rattle.cca_inputs.specs.declared.status.Status.TheVariants.{Memory};
 
-use cca_inputs::limits::LimitKind;
+use cca_inputs::place_cert::cert_text::cert_form::limits::LimitKind;
 use cca_inputs::{FileText, Status};
 use outcome::core_price::PriceStop;
-use outcome::wide_num::Text;
+use outcome::print_form::line_text::wide_num::Text;
 use std::alloc::{AllocError, AllocFailed};
 
 /// What a command prints, and the texts that it appends to its files, in order.

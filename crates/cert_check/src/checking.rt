@@ -22,7 +22,7 @@ use crate::sums::Multiplier;
 use crate::tables::{BIDDER_ROOM, lowered_test, value_test};
 use cert_laws::sound_yes;
 use cert_text::Certificate;
-use cert_text::bid_book::BidBook;
+use cert_text::choices::bid_book::BidBook;
 
 /// Tests a certificate of a book.
 ///

@@ -7,7 +7,7 @@ ghost use Rattle.cert_laws.specs.cert_form.specs.Certificate.{CertValue};
 ghost use Rattle.cert_laws.specs.Tests.{C2, bidders_of};
 
 use crate::judging::number;
-use cert_text::bid_book::BidBook;
+use cert_text::choices::bid_book::BidBook;
 use cert_text::choices::{are_within, value_among};
 
 /// The first place at which C2 fails of a certificate with this choice and this value.

@@ -4,7 +4,7 @@ ghost use Rattle.cert_laws.specs.auction_model.specs.Market.{number_of};
 ghost use Rattle.cert_check.specs.Head.{IsHead};
 
 use crate::judging::number;
-use cert_text::bid_book::BidBook;
+use cert_text::choices::bid_book::BidBook;
 
 /// The denominator, the value and the choice of a certificate of a book whose first three tests hold.
 #[derive(Drop)]

@@ -4,7 +4,7 @@ ghost use Rattle.cert_laws.specs.auction_model.specs.Market.{number_of};
 ghost use Rattle.cert_laws.specs.auction_model.specs.Book.{market_of};
 ghost use Rattle.cert_laws.specs.Tests.{bidders_of};
 
-use cert_text::bid_book::BidBook;
+use cert_text::choices::bid_book::BidBook;
 use cert_text::choices::{are_known, are_within};
 
 /// The number that a choice gives to bidder `j`.

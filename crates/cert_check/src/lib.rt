@@ -31,9 +31,7 @@ pub mod sums;
 mod tables;
 mod verdict;
 
-pub use cert_laws::wide_num;
 pub use cert_text;
-pub use cert_text::choices;
 pub use checking::check;
 pub use choice::choice_test;
 pub use claim::Claim;

@@ -15,7 +15,7 @@ use crate::tables::BIDDER_ROOM;
 use crate::tables::grids::table_test;
 use crate::tables::offers::Offers;
 use cert_text::WithoutPart;
-use cert_text::bid_book::BidBook;
+use cert_text::choices::bid_book::BidBook;
 use cert_text::choices::{Grid, value_among};
 
 /// Whether a part shows the best choice without bidder `j`. The lines that the table of all bids has too aren't tested again.

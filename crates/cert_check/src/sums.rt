@@ -19,7 +19,7 @@ pub mod members;
 use crate::sums::amounts::{counted, won};
 use crate::sums::members::is_among;
 use cert_text::CertRow;
-use cert_text::bid_book::BidBook;
+use cert_text::choices::bid_book::BidBook;
 
 /// One of the two multipliers of a row.
 #[derive(Clone, Copy)]

@@ -26,9 +26,9 @@ use crate::tables::earlier::earlier_fault;
 use crate::tables::gains::put_gains;
 use crate::tables::grids::table_test;
 use crate::tables::offers::Offers;
-use cert_text::bid_book::BidBook;
+use cert_text::cert_form::limits::MOST_BIDDERS;
 use cert_text::choices::Grid;
-use cert_text::limits::MOST_BIDDERS;
+use cert_text::choices::bid_book::BidBook;
 
 /// Room for a number of each bidder.
 pub const BIDDER_ROOM: usize = MOST_BIDDERS as usize;

@@ -5,7 +5,7 @@ mod shown;
 mod singles;
 
 pub use cert_laws;
-pub use cert_laws::cert_form;
-pub use cert_text::{bid_book, choices, lots};
+pub use cert_text::choices;
+pub use cert_text::choices::bid_book;
 pub use shown::{CertFacts, facts};
 pub use singles::Singles;

@@ -12,7 +12,6 @@ ghost use Rattle.cert_form.specs.Says.{cert_text, CertSays};
 
 pub use limits;
 pub use line_text;
-pub use line_text::wide_num;
 
 /// Bytes say at most one thing of a certificate: a certificate, where the first faulty line begins, or where the first line begins
 /// that is of right form and has a number out of range.

@@ -3,8 +3,8 @@ ghost use Rattle.piece_check.specs.cert_pieces.specs.Rooms.{room_size};
 
 use crate::samples::{DAY_CRAMTON_CERT, DAY_CRAMTON_SHAPE};
 use piece_check::cert_pieces::{Reader, TextStop, room_len};
-use place_price::cert_text::{CertStop, Shape, read_cert};
-use place_price::limits::CERT_BYTES;
+use place_price::book_price::cert_laws::cert_form::limits::CERT_BYTES;
+use place_price::book_price::cert_text::{CertStop, Shape, read_cert};
 use std::alloc::{AllocError, Global};
 use std::process::Abort;
 

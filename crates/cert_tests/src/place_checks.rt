@@ -1,7 +1,7 @@
 use crate::samples::{PLACE_CERT, SLOTS, edited};
-use place_price::place_cert::read_places;
+use place_price::place_check::place_cert::read_places;
+use place_price::place_check::place_laws::slot_places::read_slots;
 use place_price::place_check::{Verdict, check_places};
-use place_price::slot_places::read_slots;
 use std::alloc::{AllocError, Global};
 use std::process::Abort;
 use std::test::Fail;

@@ -1,5 +1,5 @@
 use crate::samples::SLOTS;
-use place_price::slot_places::read_slots;
+use place_price::place_check::place_laws::slot_places::read_slots;
 use place_price::{PlaceCertificate, Verdict, check_places, place_rounds, price_places};
 use std::alloc::{AllocError, Global};
 use std::process::Abort;

@@ -1,5 +1,5 @@
 use crate::samples::{PLACE_CERT, edited};
-use place_price::place_cert::{
+use place_price::place_check::place_cert::{
     CertStop, PlaceCertificate, PlaceRow, PlaceWithout, read_places, write_places,
 };
 use std::alloc::{AllocError, Global};

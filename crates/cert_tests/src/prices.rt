@@ -1,11 +1,11 @@
 ghost use Rattle.std.specs.Prelude.{IsTrue, length, pos, slice_index_or, ℕ, ◌<◌, ◌≤◌, ◌≤ℤ◌};
 
 use crate::samples::DAY_CRAMTON;
-use place_price::bid_book::{BidBook, read_book};
-use place_price::blocking::{Looked, find_block};
+use place_price::book_price::cert_text::choices::bid_book::{BidBook, read_book};
+use place_price::book_price::core_price::blocking::{Looked, find_block};
+use place_price::book_price::core_price::{PriceStop, count_winners, for_bidders};
+use place_price::book_price::value_table::{BookChooser, TurnTable, win};
 use place_price::book_price::{PricedBook, price_book};
-use place_price::core_price::{PriceStop, count_winners, for_bidders};
-use place_price::value_table::{BookChooser, TurnTable, win};
 use std::alloc::{AllocError, Global};
 use std::process::Abort;
 

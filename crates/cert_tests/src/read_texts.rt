@@ -1,5 +1,7 @@
 use crate::samples::{DAY_CRAMTON_CERT, DAY_CRAMTON_SHAPE};
-use place_price::cert_text::{CertRow, CertStop, Certificate, Shape, read_cert, write_cert};
+use place_price::book_price::cert_text::{
+    CertRow, CertStop, Certificate, Shape, read_cert, write_cert,
+};
 use std::alloc::{AllocError, Global};
 use std::process::Abort;
 use std::test::Fail;

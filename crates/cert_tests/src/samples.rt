@@ -1,5 +1,5 @@
 // What several tests share: a book, slots, certificates of both, and texts with other lines.
-use place_price::cert_text::Shape;
+use place_price::book_price::cert_text::Shape;
 use std::alloc::{AllocError, Global};
 
 /// The example of Day and Cramton (2012): one lot of each of two categories, and five bidders; b1 and b2 win.

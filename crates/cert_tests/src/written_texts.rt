@@ -1,11 +1,11 @@
 // The texts of three small certificates.
 ghost use Rattle.std.specs.Prelude.{◌≡◌, ◌∷◌, [], negsuc, pos, IfOk};
 
-use place_price::cert_text::{
+use place_price::book_price::cert_laws::cert_form::line_text::wide_num::NumList;
+use place_price::book_price::cert_text::choices::{Choice, Grid, Numbers};
+use place_price::book_price::cert_text::{
     CertRow, CertRows, Certificate, WithoutList, WithoutPart, write_cert,
 };
-use place_price::choices::{Choice, Grid, Numbers};
-use place_price::wide_num::NumList;
 use std::alloc::{AllocError, Global};
 use std::test::Fail;
 

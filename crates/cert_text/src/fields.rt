@@ -6,7 +6,7 @@ ghost use Rattle.cert_form.specs.line_text.specs.Numeral.{numbers_text};
 ghost use Rattle.cert_form.specs.line_text.specs.Range.{AllInRange};
 
 use cert_form::line_text::add_signed_numbers;
-use cert_form::wide_num::Text;
+use cert_form::line_text::wide_num::Text;
 use itoa::write_digits;
 use std::alloc::AllocError;
 

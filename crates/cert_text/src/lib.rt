@@ -15,10 +15,8 @@ mod version;
 mod write;
 
 pub use cert_form;
-pub use cert_form::{limits, line_text, wide_num};
 pub use certificate::{CertRow, Certificate, Shape, WithoutPart};
 pub use choices;
-pub use choices::{bid_book, lots};
 pub use lists::{CertRows, PartList, WithoutList};
 pub use read::read_cert;
 pub use stop::CertStop;

@@ -7,7 +7,7 @@ ghost use Rattle.cert_text.specs.Written.{line_bytes, lines_of_part, lines_of_pa
 
 use crate::WithoutPart;
 use crate::write::{add_choice, add_number_line, add_signed_line, line_room};
-use cert_form::wide_num::Text;
+use cert_form::line_text::wide_num::Text;
 use choices::Grid;
 use std::alloc::{AllocError, Global};
 

@@ -16,7 +16,7 @@ use crate::version::has_first_version;
 use crate::{CertRow, Certificate};
 use cert_form::limits::{MOST_BIDDERS, MOST_STATES};
 use cert_form::line_text::add_numbers;
-use cert_form::wide_num::Text;
+use cert_form::line_text::wide_num::Text;
 use choices::{Choice, Grid};
 use std::alloc::{AllocError, Global};
 

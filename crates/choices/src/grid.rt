@@ -4,7 +4,7 @@ ghost use Rattle.std.specs.Rc.{rc_slice_items};
 ghost use Rattle.bid_book.specs.auction_model.specs.Table.{entry_at};
 ghost use Rattle.choices.specs.Lines.{width_of};
 
-use bid_book::wide_num::NumList;
+use bid_book::line_text::wide_num::NumList;
 use std::alloc::{AllocError, Global};
 use std::marker::Model;
 use std::rc::RcSlice;

@@ -9,7 +9,6 @@ mod listing;
 mod numbers;
 
 pub use bid_book;
-pub use bid_book::{auction_model, limits, line_text, lots, wide_num};
 pub use choice::Choice;
 pub use chooser::{Chooser, Found, Single};
 pub use grid::Grid;

@@ -10,7 +10,6 @@ mod steps;
 
 pub use award_file;
 pub use award_file::auction_rules::{Event, Reply, Stage};
-pub use award_file::{auction_rules, bid_book, limits, line_text, lots};
 pub use bids::reply_to_package;
 pub use clock::Clock;
 pub use closes::Closed;

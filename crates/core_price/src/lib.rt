@@ -28,7 +28,6 @@ pub use bidders::{count_winners, for_bidders, members_of};
 pub use blocking;
 use kept::kept_rows;
 pub use lists::{RowList, TurnList};
-pub use nearest_point::wide_num;
 pub use priced::{PriceStop, Priced, PricedRow, Turn};
 use start::{first_rows, prices_of};
 use turns::{Ended, take_turns};

@@ -6,7 +6,7 @@ use crate::{RowList, TurnList};
 use blocking::Block;
 use blocking::choices::{Choice, Found};
 use blocking::far_num::Row;
-use nearest_point::wide_num::NumList;
+use nearest_point::lin_solve::far_num::wide_num::NumList;
 use std::alloc::AllocError;
 
 /// A row with the choice that gives it, and its multipliers at the last point.

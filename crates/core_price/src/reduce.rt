@@ -5,8 +5,8 @@ ghost use Rattle.std.specs.Prelude.{IfOk, length, pos, ℕ, ℤ, ◌<ℤ◌, ◌
 ghost use Rattle.nearest_point.specs.wide_num.specs.Range.{Divides, InRange};
 
 use nearest_point::Nearest;
+use nearest_point::lin_solve::far_num::wide_num::{div_exact, gcd};
 use nearest_point::lin_solve::quotients;
-use nearest_point::wide_num::{div_exact, gcd};
 use std::alloc::{AllocError, Global};
 
 /// The same point and multipliers over the least denominator.

@@ -19,7 +19,7 @@ use crate::{Turn, TurnList};
 use blocking::choices::{Chooser, Found};
 use blocking::far_num::Row;
 use blocking::{Looked, find_block};
-use nearest_point::wide_num::NumList;
+use nearest_point::lin_solve::far_num::wide_num::NumList;
 use nearest_point::{Nearest, nearest};
 use std::alloc::{AllocError, Global};
 

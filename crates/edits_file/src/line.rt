@@ -6,8 +6,8 @@ ghost use Rattle.edits_file.specs.Stages.{States};
 use crate::LimitKind;
 use crate::fields::{read_bid, read_package};
 use review::Edit;
-use review::bid_book::{BidBook, Excess};
-use review::line_text::LineStop;
+use review::value_table::choices::bid_book::line_text::LineStop;
+use review::value_table::choices::bid_book::{BidBook, Excess};
 use std::alloc::Global;
 
 /// The edit of the book that a line states.

@@ -10,9 +10,11 @@ ghost use Rattle.edits_file.specs.declared.read.Stage.TheVariants.{Ended};
 
 use crate::line::read_edit;
 use crate::{EditStop, Edits};
-use review::bid_book::{BidBook, Excess};
-use review::limits::{LimitKind, MOST_EDITS};
-use review::line_text::{LineReader, LineStop, TextStop, read_lines};
+use review::value_table::choices::bid_book::line_text::{
+    LineReader, LineStop, TextStop, read_lines,
+};
+use review::value_table::choices::bid_book::lots::limits::{LimitKind, MOST_EDITS};
+use review::value_table::choices::bid_book::{BidBook, Excess};
 use std::alloc::Global;
 
 /// What the lines so far say.

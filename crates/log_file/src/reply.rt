@@ -6,8 +6,8 @@ ghost use Rattle.log_file.specs.ReplyText.{admitted_text, reply_line, reply_text
 
 use crate::CloseDone;
 use award_file::auction_rules::Reply;
-use award_file::line_text::{add_decimal, add_number};
-use award_file::wide_num::Text;
+use award_file::bid_book::line_text::wide_num::Text;
+use award_file::bid_book::line_text::{add_decimal, add_number};
 use std::alloc::{AllocError, Global};
 
 /// The line of the reply to the record of this number, counted from 1.

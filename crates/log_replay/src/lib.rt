@@ -7,6 +7,6 @@ mod results;
 
 pub use bid_desk;
 pub use log_file::Events;
-pub use log_file::auction_rules::Event;
+pub use log_file::award_file::auction_rules::Event;
 pub use replaying::replay;
 pub use results::{Replay, ReplayStop};

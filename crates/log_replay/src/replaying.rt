@@ -13,7 +13,7 @@ use crate::{Replay, ReplayStop};
 use bid_desk::{Desk, Stage};
 use log_file::Events;
 use log_file::award_file::Award;
-use log_file::bid_book::BidBook;
+use log_file::award_file::bid_book::BidBook;
 use std::alloc::{AllocError, Global};
 
 /// Replays a log of this award, whose packages have the award's number of categories.

@@ -1,6 +1,6 @@
 // What a replay leads to.
-use log_file::bid_book::BidBook;
-use log_file::wide_num::Text;
+use log_file::award_file::bid_book::BidBook;
+use log_file::award_file::bid_book::line_text::wide_num::Text;
 
 /// Why a log has no book.
 #[derive(Clone, Copy, Debug, PartialEq, Eq)]

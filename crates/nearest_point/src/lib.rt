@@ -37,7 +37,6 @@ mod tests;
 pub use found::Nearest;
 use guess::guess;
 pub use lin_solve;
-pub use point_laws::wide_num;
 use search::search_from;
 use settle::Held;
 use spread::spread_out;

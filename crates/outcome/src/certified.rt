@@ -14,7 +14,7 @@ use crate::prices::{WinnerPrice, winner_prices};
 use crate::{Fraction, add_net};
 use cert_facts::CertFacts;
 use cert_facts::bid_book::BidBook;
-use core_price::wide_num::Text;
+use core_price::blocking::far_num::wide_num::Text;
 use std::alloc::{AllocError, Global};
 
 /// The text of the outcome that a certificate of a book shows, from its facts: a line for each winner in order, with its bid, its

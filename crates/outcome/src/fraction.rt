@@ -3,7 +3,7 @@ ghost use Rattle.std.specs.Prelude.{◌≡◌, ℤ, ◌+◌, ◌<◌, ◌^◌, �
 ghost use Rattle.core_price.specs.wide_num.specs.Range.{InRange};
 ghost use Rattle.outcome.specs.Fractions.{IsFractionOf, fraction_text};
 
-use core_price::wide_num::{Text, gcd};
+use core_price::blocking::far_num::wide_num::{Text, gcd};
 use print_form::line_text::add_decimal;
 use std::alloc::AllocError;
 

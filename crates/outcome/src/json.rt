@@ -20,7 +20,7 @@ use cert_facts::CertFacts;
 use cert_facts::bid_book::BidBook;
 use cert_facts::choices::Choice;
 use core_price::Turn;
-use core_price::wide_num::Text;
+use core_price::blocking::far_num::wide_num::Text;
 use serde_json::{Value, json};
 use std::alloc::{AllocError, Global};
 

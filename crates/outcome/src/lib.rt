@@ -18,17 +18,13 @@ mod win;
 
 pub use certified::outcome_text;
 pub use core_price;
-pub use core_price::{blocking, wide_num};
 pub use fraction::{Fraction, add_fraction};
 pub use json::outcome_json;
 pub use numbers::{add_net, add_numbers};
 pub use place_check;
-pub use place_check::place_laws;
 pub use placing::{one_place_text, place_text};
 pub use print_form;
-pub use print_form::{line_text, row_laws};
 pub use review;
-pub use review::value_table;
 pub use reviewing::{one_review_text, review_text};
 pub use turns::rounds_text;
 pub use win::win_text;

@@ -9,8 +9,8 @@ use cert_facts::choices::{Choice, Numbers, Single, known, value};
 use cert_facts::{CertFacts, Singles};
 use core_price::Turn;
 use core_price::blocking::Block;
-use core_price::wide_num::{NumList, Text};
-use print_form::far_num::Row;
+use core_price::blocking::far_num::wide_num::{NumList, Text};
+use print_form::row_laws::far_num::Row;
 use std::alloc::{AllocError, Global};
 use std::test::Fail;
 

@@ -12,7 +12,7 @@ ghost use Rattle.outcome.specs.Turns.{AreFractions, CanPrintTurn, Grows};
 use crate::{Fraction, add_fraction, add_numbers};
 use cert_facts::choices::Choice;
 use core_price::blocking::Block;
-use core_price::wide_num::Text;
+use core_price::blocking::far_num::wide_num::Text;
 use core_price::{Turn, members_of};
 use print_form::line_text::add_number;
 use std::alloc::{AllocError, Global};

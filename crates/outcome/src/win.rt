@@ -7,9 +7,9 @@ ghost use Rattle.print_form.specs.WinText.{winner_line, winner_lines};
 
 use crate::{add_net, add_numbers};
 use cert_facts::bid_book::BidBook;
+use cert_facts::bid_book::lots::Bid;
 use cert_facts::choices::{Choice, value};
-use cert_facts::lots::Bid;
-use core_price::wide_num::Text;
+use core_price::blocking::far_num::wide_num::Text;
 use print_form::line_text::add_number;
 use std::alloc::{AllocError, Global};
 

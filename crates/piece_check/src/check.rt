@@ -22,7 +22,7 @@ use cert_check::cert_text::Shape;
 use cert_check::{Failure, Verdict, verdict_of};
 use cert_facts::CertFacts;
 use cert_facts::bid_book::BidBook;
-use cert_facts::cert_form::one_cert;
+use cert_facts::cert_laws::cert_form::one_cert;
 use cert_facts::cert_laws::{one_verdict, sound_yes};
 use cert_pieces::{Due, Progress, Reader, TextStop, room_len};
 use std::alloc::{AllocError, Global};

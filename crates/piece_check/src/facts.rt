@@ -13,7 +13,7 @@ ghost use Rattle.piece_check.specs.WholeRoom.{HasAll, single_at};
 
 use crate::room::{number_in, numbers_in, put_choice};
 use cert_check::BIDDER_ROOM;
-use cert_check::wide_num::NumList;
+use cert_check::cert_text::cert_form::line_text::wide_num::NumList;
 use cert_facts::bid_book::BidBook;
 use cert_facts::choices::{Choice, Single, value_among, worth};
 use cert_facts::{CertFacts, Singles};

@@ -12,7 +12,7 @@ mod read;
 mod write;
 
 pub use cert_text;
-pub use cert_text::{CertStop, cert_form, line_text};
+pub use cert_text::CertStop;
 pub use certificate::{PlaceCertificate, PlaceRow, PlaceRows, PlaceWithout, PlaceWithouts};
 pub use laws::{one_place_cert, short_place_text, text_of_place_cert};
 pub use read::read_places;

@@ -28,4 +28,3 @@ pub use checking::check_places;
 pub use claims::vickrey;
 pub use place_cert;
 pub use place_laws;
-pub use place_laws::slot_places;

@@ -10,7 +10,7 @@ ghost use Rattle.place_check.specs.RowSums.{AreRowSums};
 
 use crate::amounts::amount;
 use cert_check::add_row;
-use cert_check::choices::Choice;
+use cert_check::cert_text::choices::Choice;
 use cert_check::sums::amounts::counted;
 use cert_check::sums::members::is_among;
 use place_cert::PlaceRow;

@@ -6,10 +6,10 @@ ghost use Rattle.place_check.specs.place_cert.specs.Parts.{row_value};
 ghost use Rattle.place_price.specs.PlacedRows.{HasAllowedChoice, IsPlacedRow};
 
 use crate::placing::placement;
-use book_price::choices::Choice;
+use book_price::cert_text::choices::Choice;
 use book_price::core_price::{PricedRow, members_of};
 use place_check::place_cert::{PlaceRow, PlaceRows};
-use place_check::slot_places::Slots;
+use place_check::place_laws::slot_places::Slots;
 use std::alloc::{AllocError, Global};
 
 /// The rows with their members, multipliers, choices and placements, in order.

@@ -10,11 +10,11 @@ ghost use Rattle.place_price.specs.Found.{AreFound};
 use crate::bidder_rows::all_rows;
 use crate::placing::placement;
 use crate::pricing::PricedPlaces;
-use book_price::choices::{Found, Grid};
+use book_price::cert_laws::cert_form::line_text::wide_num::NumList;
+use book_price::cert_text::choices::{Found, Grid};
 use book_price::core_price::{Priced, for_bidders};
-use book_price::wide_num::NumList;
 use place_check::place_cert::{PlaceCertificate, PlaceWithouts};
-use place_check::slot_places::Slots;
+use place_check::place_laws::slot_places::Slots;
 use std::alloc::{AllocError, Global};
 
 /// The certificate of what was found, with the turns of pricing.

@@ -11,13 +11,10 @@ mod placing;
 mod pricing;
 
 pub use book_price;
-pub use book_price::{
-    bid_book, blocking, cert_laws, cert_text, choices, core_price, limits, value_table, wide_num,
-};
 pub use place_check;
 pub use place_check::place_cert::{
     CertStop, PlaceCertificate, PlaceRow, PlaceRows, PlaceWithout, PlaceWithouts, read_places,
     write_places,
 };
-pub use place_check::{Verdict, check_places, place_cert, slot_places};
+pub use place_check::{Verdict, check_places};
 pub use pricing::{PricedPlaces, place_rounds, price_places, priced_places};

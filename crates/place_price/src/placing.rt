@@ -3,8 +3,8 @@ ghost use Rattle.std.specs.Prelude.{IfOk, IsTrue};
 ghost use Rattle.place_check.specs.slot_places.specs.Board.{market_of};
 ghost use Rattle.place_check.specs.slot_places.specs.Orders.{IsPlacement};
 
-use book_price::choices::{Choice, Numbers};
-use place_check::slot_places::Slots;
+use book_price::cert_text::choices::{Choice, Numbers};
+use place_check::place_laws::slot_places::Slots;
 use std::alloc::{AllocError, Global};
 
 /// The placement of an allowed choice: the first order that allows it. The only error is want of memory.

@@ -22,10 +22,10 @@ ghost use Rattle.place_check.specs.slot_places.specs.Slots.{amount_of};
 
 use crate::alone::each_winner;
 use crate::certificate::certificate;
-use book_price::choices::{Grid, Single};
+use book_price::cert_text::choices::{Grid, Single};
 use book_price::core_price::{PriceStop, Priced, TurnList, price};
 use place_check::place_cert::PlaceCertificate;
-use place_check::slot_places::{SlotChooser, Slots, place_best};
+use place_check::place_laws::slot_places::{SlotChooser, Slots, place_best};
 use std::alloc::{AllocError, Global};
 
 /// The prices of slots: the certificate that shows them, and the turns that led to them.

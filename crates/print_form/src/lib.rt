@@ -19,7 +19,6 @@ ghost use Rattle.row_laws.specs.Turns.{IsLastPoint};
 pub use book_form::line_text;
 pub use row_laws;
 use row_laws::auction_model::vickrey_prices;
-pub use row_laws::far_num;
 
 /// A fraction has one text, whatever the denominator over which it is kept.
 pub fn one_fraction()

@@ -19,7 +19,6 @@ pub use amounts::{amount_listed, highest, place_of};
 pub use answer::{Cap, OverCap};
 pub use caps::{cap, list_fault};
 pub use clock_stage;
-pub use clock_stage::{auction_rules, award_file, bid_book, limits, lots};
 pub use packages::is_same;
 pub use rounds::constraining_round;
 pub use tester::ListTester;

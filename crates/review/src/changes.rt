@@ -13,9 +13,9 @@ use crate::lines::SideLines;
 use crate::replies::bid_for;
 use crate::tracing::retrace;
 use std::alloc::{AllocError, Global};
-use value_table::bid_book::{BidBook, rules_with_bid};
 use value_table::choices::Choice;
-use value_table::lots::{Bid, Package};
+use value_table::choices::bid_book::lots::{Bid, Package};
+use value_table::choices::bid_book::{BidBook, rules_with_bid};
 
 /// Changes a book by an edit that it can have, and its winning choice. For want of memory both stay as they are.
 pub fn change(

@@ -1,5 +1,5 @@
 // Edits of a book, and what they are answered.
-use value_table::lots::Package;
+use value_table::choices::bid_book::lots::Package;
 
 /// A change of one bid of a book. Bidder 0 is one that the book doesn't have.
 #[derive(Drop)]

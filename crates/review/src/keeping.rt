@@ -10,9 +10,9 @@ ghost use Rattle.review.specs.Reviewed.{AreBelow, AreSideLines, IsBeaten, IsBelo
 
 use crate::lines::SideLines;
 use std::alloc::Global;
-use value_table::bid_book::BidBook;
+use value_table::choices::bid_book::BidBook;
+use value_table::choices::bid_book::lots::{Package, Supply};
 use value_table::choices::{Choice, value};
-use value_table::lots::{Package, Supply};
 
 /// Whether each choice with such a bid of bidder `j` is worth less than the winning choice of the book.
 pub fn is_beaten(

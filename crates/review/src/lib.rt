@@ -14,4 +14,3 @@ pub use edit::{Edit, EditReply};
 pub use laws::edited_amounts;
 pub use review::Review;
 pub use value_table;
-pub use value_table::{auction_model, bid_book, limits, line_text, lots, wide_num};

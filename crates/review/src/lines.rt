@@ -7,7 +7,7 @@ ghost use Rattle.review.specs.Reviewed.{AreRooms, AreSideLines};
 
 use std::alloc::{AllocError, Global};
 use std::mem;
-use value_table::bid_book::BidBook;
+use value_table::choices::bid_book::BidBook;
 use value_table::{narrow_left_line, narrow_right_line};
 
 /// The lines of both sides of a book. An edit makes some of them stale, and these are worked out again only where they are needed.

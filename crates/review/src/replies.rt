@@ -5,9 +5,9 @@ ghost use Rattle.value_table.specs.bid_book.specs.Changes.{IsBidFor};
 ghost use Rattle.review.specs.Edits.{amount_for, edit_lots, edit_reply, unfit};
 
 use crate::edit::{Edit, EditReply};
-use value_table::bid_book::BidBook;
-use value_table::limits::{MOST_AMOUNT, MOST_BIDS};
-use value_table::lots::Package;
+use value_table::choices::bid_book::BidBook;
+use value_table::choices::bid_book::lots::Package;
+use value_table::choices::bid_book::lots::limits::{MOST_AMOUNT, MOST_BIDS};
 
 /// What an edit is answered, where there is memory: `Ok` where the book can have it.
 pub fn reply_to(book: &BidBook, edit: &Edit) -> EditReply

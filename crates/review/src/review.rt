@@ -13,7 +13,7 @@ use crate::replies::reply_to;
 use crate::tracing::retrace;
 use std::alloc::{AllocError, Global};
 use std::marker::Model;
-use value_table::bid_book::BidBook;
+use value_table::choices::bid_book::BidBook;
 use value_table::choices::{Choice, Numbers, value};
 
 /// A book with its winning choice, which are kept through edits of single bids. An edit that can't change the winners works out no line

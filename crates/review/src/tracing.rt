@@ -9,7 +9,7 @@ ghost use Rattle.review.specs.Reviewed.{AreSideLines, IsReviewed};
 
 use crate::lines::SideLines;
 use std::alloc::Global;
-use value_table::bid_book::BidBook;
+use value_table::choices::bid_book::BidBook;
 use value_table::choices::{Choice, place_after};
 use value_table::right_number;
 

@@ -26,7 +26,6 @@ ghost use Rattle.row_laws.specs.Rows.{HasWinners, IsGivenBy, Meets};
 
 pub use auction_model;
 pub use far_num;
-pub use far_num::wide_num;
 pub use plain::{plain_outcome, plain_turns};
 
 /// The first choice of greatest lowered sum is the block that a turn takes, with the winners that it doesn't use and that

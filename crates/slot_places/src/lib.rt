@@ -13,7 +13,7 @@ mod slot_chooser;
 mod slots;
 
 pub use choices;
-pub use choices::limits::{LimitKind, MOST_PLACED};
+pub use choices::bid_book::lots::limits::{LimitKind, MOST_PLACED};
 pub use laws::{one_slots, slot_market, slot_orders, some_slots};
 pub use read::read_slots;
 pub use slot_chooser::{SlotChooser, place_best, place_win};

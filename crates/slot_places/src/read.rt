@@ -13,8 +13,8 @@ use crate::read::entries::take_entry;
 use crate::read::fields::read_within;
 use crate::{SlotStop, Slots};
 use choices::bid_book::Excess;
-use choices::limits::{LimitKind, MOST_COUNT, MOST_LOTS};
-use choices::line_text::{LineReader, LineStop, TextStop, read_lines};
+use choices::bid_book::line_text::{LineReader, LineStop, TextStop, read_lines};
+use choices::bid_book::lots::limits::{LimitKind, MOST_COUNT, MOST_LOTS};
 use std::alloc::Global;
 
 /// What the lines so far say.

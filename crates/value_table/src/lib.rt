@@ -16,7 +16,6 @@ mod turn_table;
 
 pub use book_chooser::BookChooser;
 pub use choices;
-pub use choices::{auction_model, bid_book, limits, line_text, lots, wide_num};
 pub use side_lines::{left_line, narrow_left_line, narrow_right_line, right_line, right_number};
 pub use sides::Sides;
 pub use table::{ValueTable, plain_table, win};

@@ -11,7 +11,7 @@ use crate::narrow::{narrow_into, narrowed, widen_into, widened};
 use crate::runs::add_bid;
 use crate::tracing::line_at;
 use choices::Grid;
-use choices::wide_num::NumList;
+use choices::bid_book::line_text::wide_num::NumList;
 use std::alloc::{AllocError, Global};
 
 /// Adds what bidder `j` counts where it isn't used to each number of line `j`.

@@ -4,7 +4,7 @@ ghost use Rattle.std.specs.Int.{int_max};
 ghost use Rattle.value_table.specs.Turned.{IsOrderInRange};
 
 use choices::bid_book::BidBook;
-use choices::lots::Bid;
+use choices::bid_book::lots::Bid;
 
 /// The greatest denominator with which a table is narrow.
 const NARROW_DEN: u128 = 1 << 13;

@@ -9,7 +9,7 @@ ghost use Rattle.choices.specs.limits.specs.declared.TheConstants.{MOST_STATES};
 ghost use Rattle.value_table.specs.Growing.{Grows, HasCorners};
 
 use crate::amount::Amount;
-use choices::lots::{Package, Supply, used_categories};
+use choices::bid_book::lots::{Package, Supply, used_categories};
 
 /// Counts one more bid that wants lots of the first of some categories alone: in the places with enough of it, which are one run.
 fn raise_one<A: Amount>(

@@ -12,7 +12,7 @@ use crate::lines::{put_line, put_narrow_line};
 use crate::lowering::Lowering;
 use crate::tracing::first_number;
 use choices::bid_book::BidBook;
-use choices::limits::MOST_BIDDERS;
+use choices::bid_book::lots::limits::MOST_BIDDERS;
 
 /// Makes `line` the line of the bidders after `k - 1` from that of the bidders after `k`: line `k - 1` of the exact table of the net
 /// amounts from line `k`. Each has one number for each place of the supply. It takes no memory.

@@ -11,7 +11,7 @@ ghost use Rattle.vickrey.specs.VickreyValue.{IsTableWithout, AreTablesWithout};
 use crate::Vickrey;
 use crate::source::Source;
 use std::alloc::{AllocError, Global};
-use value_table::bid_book::BidBook;
+use value_table::choices::bid_book::BidBook;
 use value_table::choices::{Choice, Single};
 use value_table::{Sides, ValueTable};
 

@@ -7,7 +7,7 @@ ghost use Rattle.value_table.specs.auction_model.specs.Prices.{allowed_without};
 ghost use Rattle.value_table.specs.TableValue.{IsTableOf, IsPlain, IsPlainWithout};
 ghost use Rattle.vickrey.specs.Sources.{IsSourceOf};
 
-use value_table::bid_book::BidBook;
+use value_table::choices::bid_book::BidBook;
 use value_table::{Sides, ValueTable};
 
 /// What is worked out of a book already: its sides, or its table of all bids alone.

@@ -10,7 +10,6 @@ mod read;
 mod weights;
 
 pub use bid_book;
-pub use bid_book::{limits, lots, wide_num};
 pub use laws::{one_text, one_weighing, some_weighing};
 pub use read::read_weights;
 use std::alloc::{AllocError, AllocFailed};

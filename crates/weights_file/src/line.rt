@@ -4,8 +4,8 @@ ghost use Rattle.std.specs.Fmt.{decimal};
 ghost use Rattle.bid_book.specs.limits.specs.declared.TheConstants.{MOST_WEIGHT};
 ghost use Rattle.weights_file.specs.WeightsForm.{IsWeight, weight_line};
 
-use bid_book::limits::MOST_WEIGHT;
-use bid_book::wide_num::read_natural;
+use bid_book::line_text::wide_num::read_natural;
+use bid_book::lots::limits::MOST_WEIGHT;
 
 /// The weight that the line gives the bidder of this name.
 pub fn line_weight(line: &[u8], name: &str) -> Option<u32>

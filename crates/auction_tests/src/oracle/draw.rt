@@ -1,7 +1,7 @@
 // Awards and logs by a draw.
 use super::past::{Past, past_of};
 use super::terms::{Entrant, Line, Pair, SpectrumCap, Step, Terms};
-use big_auction::auction_rules::{Reply, Stage};
+use big_auction::clock_stage::award_file::auction_rules::{Reply, Stage};
 use std::alloc::{AllocError, Global};
 
 /// A linear congruential generator.

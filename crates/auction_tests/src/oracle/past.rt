@@ -1,6 +1,6 @@
 // What the admitted lines of a log say, each time worked out from all of them.
 use super::terms::{Line, Pair, Terms};
-use big_auction::auction_rules::Stage;
+use big_auction::clock_stage::award_file::auction_rules::Stage;
 
 /// The admitted lines of a log so far.
 #[derive(Clone, Copy)]

@@ -1,7 +1,7 @@
 // The reply to a line behind the admitted lines before it.
 use super::past::Past;
 use super::terms::{Line, Pair};
-use big_auction::auction_rules::{Reply, Stage};
+use big_auction::clock_stage::award_file::auction_rules::{Reply, Stage};
 
 /// The greatest number of rounds, and of drafts of a bidder.
 const MOST: u64 = 300;

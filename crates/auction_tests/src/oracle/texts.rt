@@ -1,7 +1,7 @@
 // The texts of an award, of its log, and of what the log leads to.
 use super::past::{Past, past_of};
 use super::terms::{Entrant, Line, Pair, SpectrumCap, Step, Terms};
-use big_auction::auction_rules::{Reply, Stage};
+use big_auction::clock_stage::award_file::auction_rules::{Reply, Stage};
 use log_replay::ReplayStop;
 use std::alloc::{AllocError, Global};
 

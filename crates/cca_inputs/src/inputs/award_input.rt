@@ -1,7 +1,7 @@
 // Awards as inputs.
 use crate::{FileKind, Input, Status};
+use log_file::award_file::auction_rules::lots::limits::AWARD_BYTES;
 use log_file::award_file::{Award, read_award};
-use log_file::limits::AWARD_BYTES;
 use std::alloc::Global;
 
 /// The settings of an auction.

@@ -1,7 +1,7 @@
 // Books as inputs.
 use crate::{FileKind, Input, Status};
-use log_file::bid_book::{BidBook, read_book};
-use log_file::limits::BOOK_BYTES;
+use log_file::award_file::auction_rules::lots::limits::BOOK_BYTES;
+use log_file::award_file::bid_book::{BidBook, read_book};
 use std::alloc::Global;
 
 /// A book of bids.

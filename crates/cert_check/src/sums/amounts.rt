@@ -7,7 +7,7 @@ ghost use Rattle.cert_text.specs.choices.specs.bid_book.specs.Kept.{IsBidBook};
 ghost use Rattle.cert_laws.specs.Tests.{bidders_of};
 ghost use Rattle.cert_text.specs.limits.specs.declared.TheConstants.{MOST_AMOUNT};
 
-use cert_text::bid_book::BidBook;
+use cert_text::choices::bid_book::BidBook;
 use cert_text::choices::worth;
 
 /// The net amount of the bid that the choice gives to bidder `j`, and 0 for a loser.

@@ -12,7 +12,7 @@ ghost use Rattle.cert_check.specs.Places.{IsFirstFailing};
 ghost use Rattle.cert_check.specs.EarlierBids.{StaysBelow, AllStayBelow, NoneEarlier, IsLeft};
 
 use crate::judging::number;
-use cert_text::bid_book::BidBook;
+use cert_text::choices::bid_book::BidBook;
 use cert_text::choices::{Grid, place_after, worth};
 
 /// Whether bid `i` of bidder `j`, where it fits what the place `rest` leaves, stays below `bound` with the line's entry for what

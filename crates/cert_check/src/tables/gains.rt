@@ -7,7 +7,7 @@ ghost use Rattle.cert_check.specs.Worths.{CanLower, HasSmallWorths, gain_of};
 
 use crate::claim::Claim;
 use crate::tables::offers::scaled_less;
-use cert_text::bid_book::BidBook;
+use cert_text::choices::bid_book::BidBook;
 
 /// What bidder `j` gains at the payments, times the denominator: what its bid in the choice is worth less what it pays, and
 /// nothing where it loses.

@@ -17,8 +17,8 @@ use crate::tables::growth::{is_growing, is_growing_narrow};
 use crate::tables::offers::Offers;
 use crate::tables::rule::{LinePair, LineRule, NarrowRule};
 use crate::tables::walk::{block_fault, run_fault};
-use cert_text::limits::MOST_STATES;
-use cert_text::lots::{Package, Supply, used_categories};
+use cert_text::cert_form::limits::MOST_STATES;
+use cert_text::choices::bid_book::lots::{Package, Supply, used_categories};
 
 /// The greatest number with which the rules are tested in 64 bits.
 const MOST_NARROW: i128 = 1 << 60;

@@ -4,7 +4,7 @@ ghost use Rattle.cert_laws.specs.auction_model.specs.Book.{bids_of};
 ghost use Rattle.cert_laws.specs.Tests.{bidders_of};
 ghost use Rattle.cert_check.specs.Worths.{HasSmallWorths};
 
-use cert_text::bid_book::BidBook;
+use cert_text::choices::bid_book::BidBook;
 
 /// The bids that a table is tested for. Bidder `skip` has none, and 0 skips nobody. A bid is worth the denominator times its net
 /// amount, less what its bidder gains: its net amount where the denominator is 1 and nobody gains.

@@ -3,7 +3,7 @@ use crate::samples::{DAY_CRAMTON, DAY_CRAMTON_CERT, edited};
 use crate::streams::verdict_of;
 use piece_check::cert_check::Verdict;
 use piece_check::cert_pieces::TextStop;
-use place_price::bid_book::read_book;
+use place_price::book_price::cert_text::choices::bid_book::read_book;
 use std::alloc::{AllocError, Global};
 use std::process::Abort;
 use std::test::Fail;

@@ -5,7 +5,7 @@ ghost use Rattle.place_check.specs.slot_places.specs.Board.{market_of};
 ghost use Rattle.place_check.specs.slot_places.specs.Slots.{SlotList};
 ghost use Rattle.outcome.specs.PlaceText.{IsPlaceText};
 
-use crate::print_form::one_fraction;
+use print_form::one_fraction;
 
 /// The text of a placement depends on the order, the choice, the points and the Vickrey prices alone. The choice has a number for each
 /// bidder.

@@ -11,12 +11,12 @@ ghost use Rattle.place_check.specs.slot_places.specs.Board.{market_of};
 ghost use Rattle.outcome.specs.PlaceText.{ArePricedLines, placed_line, placed_lines};
 ghost use Rattle.outcome.specs.PlacePrintable.{CanPrint, IsBidder, IsLineOf, IsRestOf};
 
-use crate::line_text::{add_decimal, add_number, add_signed};
-use crate::wide_num::Text;
 use crate::{Fraction, add_fraction};
 use place_check::place_cert::PlaceCertificate;
-use place_check::slot_places::Slots;
+use place_check::place_laws::slot_places::Slots;
 use place_check::vickrey;
+use print_form::line_text::wide_num::Text;
+use print_form::line_text::{add_decimal, add_number, add_signed};
 use std::alloc::AllocError;
 
 /// Adds the lines of bidders that are laid side by side in this order, the first from this slot on.

@@ -3,8 +3,10 @@ ghost use Rattle.std.specs.Prelude.{◌≡◌, ◌∷◌, ◌++◌, List, ℕ, O
 ghost use Rattle.std.specs.Fmt.{decimal};
 ghost use Rattle.outcome.specs.ReviewText.{IsStateLine, refusal_text, worded};
 
-use review::line_text::{add_decimal, add_number, add_numbers, add_signed};
-use review::wide_num::Text;
+use review::value_table::choices::bid_book::line_text::wide_num::Text;
+use review::value_table::choices::bid_book::line_text::{
+    add_decimal, add_number, add_numbers, add_signed,
+};
 use review::{EditReply, Review};
 use std::alloc::AllocError;
 

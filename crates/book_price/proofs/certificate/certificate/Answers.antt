@@ -24,7 +24,7 @@ invariant_of-result c =
       rules = made_shape c.args.book.now z c.args.whole.now c.args.alone.now c.requires.0 c.args.priced.now kept c.requires.1 _ _ c.in_ok-table.table c.in_ok-withouts.withouts c.from_vec-pay.result c.in_ok-rows.rows c.in_ok-lowered.lowered
           d (v ∙ value_found c.args.book.now z c.args.whole.now c.args.alone.now c.requires.0 c.args.priced.now kept c.requires.1 c.most-value.result c.most-value.ensures.most) (c.in_ok-table.ensures ∙ c.grid.ensures) c.in_ok-withouts.ensures
           (c.from_vec-pay.ensures ∙ c.in_ok-for_bidders.ensures ∙ ap (for_bidders z) c.items-at.ensures)
-              (c.in_ok-rows.ensures ∙ ap (λ (rows : List PricedRow). map (row_from z) rows) c.items-kept.ensures) c.in_ok-lowered.ensures;
+          (c.in_ok-rows.ensures ∙ ap (λ (rows : List PricedRow). map (row_from z) rows) c.items-kept.ensures) c.in_ok-lowered.ensures;
     }
 
 pub returns-clause-value : goal.returns-clause-value
@@ -36,7 +36,7 @@ returns-clause-value c =
     made_is c.args.book.now z c.args.whole.now c.args.alone.now c.requires.0 c.args.priced.now kept c.requires.1 _ _ c.in_ok-table.table c.in_ok-withouts.withouts c.from_vec-pay.result c.in_ok-rows.rows c.in_ok-lowered.lowered
     d (v ∙ value_found c.args.book.now z c.args.whole.now c.args.alone.now c.requires.0 c.args.priced.now kept c.requires.1 c.most-value.result c.most-value.ensures.most) (c.in_ok-table.ensures ∙ c.grid.ensures) c.in_ok-withouts.ensures
     (c.from_vec-pay.ensures ∙ c.in_ok-for_bidders.ensures ∙ ap (for_bidders z) c.items-at.ensures)
-        (c.in_ok-rows.ensures ∙ ap (λ (rows : List PricedRow). map (row_from z) rows) c.items-kept.ensures) c.in_ok-lowered.ensures
+    (c.in_ok-rows.ensures ∙ ap (λ (rows : List PricedRow). map (row_from z) rows) c.items-kept.ensures) c.in_ok-lowered.ensures
 
 pub returns-clause-priced : goal.returns-clause-priced
 returns-clause-priced c = λ weights found.
