@@ -9,7 +9,7 @@ use Rattle.lots.specs.auction_model.specs.Package.{is_within, cost_of, ComesBefo
 use Rattle.lots.specs.limits.specs.declared.TheConstants.{MOST_AMOUNT, MOST_COUNT, MOST_NAME_BYTES, MOST_PRICE}
 use Rattle.book_form.specs.BookForm.{AreReserves, IsBid, IsLetter, IsName, IsNameByte, IsOffer}
 use Rattle.book_form.specs.line_text.specs.Decimals.{decimals_text}
-use Rattle.book_form.specs.line_text.proofs.Decided.{Decided, after_word, decided_all, decided_as, decided_both, decided_either, decided_le, decided_lt, decided_not, decided_same, decided_three, decided_true, some_fields}
+use Rattle.book_form.specs.line_text.proofs.Decided.{Decided, StepsDecided, after_word, decided_all, decided_as, decided_both, decided_either, decided_le, decided_lt, decided_not, decided_same, decided_three, decided_true, some_fields}
 use Rattle.bid_book.specs.declared.read.Stage.{Stage}
 use Rattle.bid_book.specs.declared.read.Stage.TheVariants.{Start, Headed, Supplied, Listing, Ended}
 use Rattle.bid_book.specs.Stages.{AddsBid, AddsBidder, Step, lots_before, opened, with_bid}
@@ -127,7 +127,7 @@ bid_known book offer line =
     (λ found. let adds = found.1 in (adds.bid.lots ++ adds.bid.amount ∷ [], adds.spelled, (adds.bid, refl, adds.some, adds.valid)))
 
 -- whether a line leads on from a stage
-pub leads : (s : Stage) (l : List ℕ) → IsSound s → Decided ((t : Stage) × Step s l t)
+pub leads : StepsDecided IsSound Step
 leads Start l sound = decided_as (decided_same l (codes "book 1")) (λ is. (Headed, (is, refl))) (λ found. found.1.0)
 leads Headed l sound =
     decided_as (some_fields (2 ^ 120) (codes "supply") IsOffer decided_offer (λ ns is. at_most ns (small_supply ns is.each)) l)

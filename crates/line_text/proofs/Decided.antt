@@ -9,6 +9,11 @@ use Rattle.line_text.specs.Decimals.{decimals_text}
 abbrev pub Decided : Type 0 → Type 0
 Decided A = A ⊎ (A → ⊥)
 
+module _ {S : Type 0} (Sound : S → Type 0) (Step : S → List ℕ → S → Type 0) where
+  -- whether a line leads on from a sound stage is known
+  abbrev pub StepsDecided : Type 0
+  StepsDecided = (s : S) (l : List ℕ) → Sound s → Decided ((t : S) × Step s l t)
+
 -- what holds exactly where a thing holds that is decided
 pub decided_as : {A B : Type 0} → Decided A → (A → B) → (B → A) → Decided B
 decided_as (inl a) on back = inl (on a)

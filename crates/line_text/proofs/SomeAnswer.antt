@@ -3,7 +3,7 @@ use Rattle.std.proofs.Common.{inl, inr, ◌⊎◌, ◌≡◌, ℕ, zero, suc, �
 use Rattle.std.proofs.lemmas.Bool.{cases_eq}
 use Rattle.line_text.specs.LineText.{IsLine, Said, stated, faulty, beyond, Says}
 use Rattle.line_text.specs.Reading.{SoFar}
-use Rattle.line_text.proofs.Decided.{Decided}
+use Rattle.line_text.proofs.Decided.{Decided, StepsDecided}
 use Rattle.line_text.proofs.Runs.{Reads, all_read, line_exceeds, line_missing, line_refused, line_taken, nothing_yet}
 
 -- the first line feed stands at a place
@@ -25,7 +25,7 @@ first_feed (c ∷ bytes) = by (cases_eq c 10) (first_feed bytes)
 
 module _ {S V O : Type 0} (Sound : S → Type 0) (Step : S → List ℕ → S → Type 0) (excess : S → Option O) (begin : S) (finish : V → S) (IsValid : V → Type 0) (lines : V → List (List ℕ × Option O))
     (reads : Reads Sound Step excess begin finish IsValid lines)
-    (leads : (s : S) (l : List ℕ) → Sound s → Decided ((t : S) × Step s l t)) (ends : (s : S) → Decided ((v : V) × (s ≡ finish v))) (bytes : List ℕ) where
+    (leads : StepsDecided Sound Step) (ends : (s : S) → Decided ((v : V) × (s ≡ finish v))) (bytes : List ℕ) where
   abbrev SaysSome : Type 0
   SaysSome = (said : Said V O) × Says IsValid lines bytes said
 

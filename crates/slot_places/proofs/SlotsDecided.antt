@@ -6,7 +6,7 @@ use Rattle.std.specs.List.{AllByRecursion}
 use Rattle.std.proofs.lemmas.List.{append_cancel_left, take_at}
 use Rattle.choices.specs.bid_book.proofs.BookDecided.{decided_name}
 use Rattle.choices.specs.limits.specs.declared.TheConstants.{MOST_AMOUNT, MOST_COUNT}
-use Rattle.choices.specs.line_text.proofs.Decided.{Decided, after_word, decided_all, decided_as, decided_both, decided_le, decided_lt, decided_not, decided_same, decided_three, some_below}
+use Rattle.choices.specs.line_text.proofs.Decided.{Decided, StepsDecided, after_word, decided_all, decided_as, decided_both, decided_le, decided_lt, decided_not, decided_same, decided_three, some_below}
 use Rattle.slot_places.specs.SlotForm.{IsSlotBid, band_line, place_line, width_together}
 use Rattle.slot_places.specs.Slots.{SlotBid, SlotList}
 use Rattle.slot_places.specs.Stages.{AddsBidder, AddsPlace, IsEntrant, IsNextPlace, Step, bidder_with, last_width, opened, start_before, with_bid, with_bidders}
@@ -83,7 +83,7 @@ place_known slots line =
     ))
 
 -- whether a line leads on from a stage
-pub leads : (s : Stage) (l : List ℕ) → IsSound s → Decided ((t : Stage) × Step s l t)
+pub leads : StepsDecided IsSound Step
 leads Start l sound = decided_as (decided_same l (codes "slots 1")) (λ is. (Headed, (is, refl))) (λ found. found.1.0)
 leads Headed l sound =
     decided_as (some_below MOST_COUNT (λ band. (1 ≤ band) × (l ≡ (band_line band).0)) (λ band. decided_both (decided_le 1 band) (decided_same l (band_line band).0)))
